@@ -1,0 +1,63 @@
+use mathlib.Core.Bool.{_||_}
+use mir.Facts.{toZ-ofZ}
+use mathlib.Core.Path.{_≡_, _∙_}
+use Rattle.book.specs.Test.{bookOut, bookOf}
+use borrow.Author.Needs.{needs}
+use Rattle.book.proofs.Book.new.Statement.{statement}
+use Rattle.book.proofs.Book.new.Tie as tie
+use Rattle.book.proofs.Book.new.Reads as reads
+use Rattle.book.proofs.Book.new.Lts as lts
+use Rattle.signed.proofs.magnitude.Reads as magnitude-reads
+use Rattle.signed.proofs.outside.Reads as outside-reads
+use Rattle.signed.proofs.outside_count.Reads as outside-count-reads
+
+outside-requires : tie.Need-outside-requires
+outside-requires c κs = search needs
+
+outside-requires-2 : tie.Need-outside-requires-2
+outside-requires-2 c κs = search needs
+
+outside-count-requires : tie.Need-outside-count-requires
+outside-count-requires c κs = search needs
+
+outside-count-requires-2 : tie.Need-outside-count-requires-2
+outside-count-requires-2 c κs = search needs
+
+-- the flag that the code has is the definition's test
+flag : (c : tie.After-outside-count2) → (let c₃ = c .before in let c₂ = c₃ .before in let c₁ = c₂ .before in let a = c₁ .before .args in
+    c₁ .outside .result || c₂ .outside2 .result || c₃ .outside-count .result || c .outside-count2 .result ≡ bookOut (a .b) (a .t) (a .h) (a .n))
+unfolding bookOut
+flag c =
+    let c₃ = c .before in
+    let c₂ = c₃ .before in
+    let c₁ = c₂ .before in
+    rw (c₁ .outside .ensures, c₂ .outside2 .ensures, c₃ .outside-count .ensures, c .outside-count2 .ensures) (search needs)
+
+returns : tie.Need-returns
+unfolding bookOf
+returns c = rw (← (flag (c .before)), c .if1 .taken)
+
+magnitude-requires : tie.Need-magnitude-requires
+magnitude-requires c κs = search needs
+
+magnitude-requires-2 : tie.Need-magnitude-requires-2
+magnitude-requires-2 c κs = search needs
+
+returns-2 : tie.Need-returns-2
+unfolding bookOf
+returns-2 c =
+    let c₆ = c .before .before .before in
+    rw (c .magnitude2 .ensures, c .before .magnitude .ensures, ← (flag c₆), c .before .before .if1 .left) (search needs)
+
+pub new-spec : {M : Type 1} → statement M
+new-spec =
+    tie.close
+    (tie.spec
+    outside-requires
+    outside-requires-2
+    outside-count-requires
+    outside-count-requires-2
+    returns
+    magnitude-requires
+    magnitude-requires-2
+    returns-2)

@@ -1,0 +1,148 @@
+-- A book that passes the test is inside every limit; and the test has one answer.
+-- Assumes nothing.
+use mathlib.Core.Path.{_≡_, refl, sym, _∙_, ap, subst}
+use mathlib.Core.Bool.{Bool, true, false, not, cond, _||_, true≢false}
+use mathlib.Core.List.{List}
+use Prim.Native.Nat.{ℕ, zero, suc, _+_, _*_, _/_, _%_, _≤_, _<_}
+use native.Mathlib.Nat.{div-add-mod'}
+use native.Mathlib.Omega.{arith}
+use lib.Dec.{eqb, ltb}
+use lib.ListN.{length}
+use lib.IntN.{ℤ, pos, negℤ, natAbs}
+use borrow.Author.Tests.{eqb-true, ltb-false}
+use Rattle.laws.specs.Tests.{outZ, outN, eqZ}
+use Rattle.laws.proofs.Tests.{or-left, or-right, inN-low, inN-high, eqZ-apart}
+use Rattle.laws.proofs.Scans.{cond-zero, none-bad, none-below}
+use Rattle.laws.proofs.Size.{Between, between, size-within}
+use Rattle.book.specs.Limits.{mostMarks, mostLines, mostHeld, mostTolerance, mostDifference, leastLength, mostLength, mostHeldHeight}
+use Rattle.book.specs.Height.{heldHeightOut}
+use Rattle.book.specs.Held.{heldWords, markAt, heightAt, heldCount, heldOut, heldBefore, heldBad, firstBadHeld}
+use Rattle.book.specs.Line.{lineWords, fromAt, toAt, differenceAt, lengthAt, standingAt, lineCount, differenceOut, lineFault, lineBad, firstBadLine}
+use Rattle.book.specs.Test.{bookOut, counts, refused, torn, testOf}
+use Rattle.book.specs.Good.{GoodLine, GoodHeld, GoodBook}
+use Rattle.book.specs.declared.Book.{Book}
+use Rattle.book.specs.declared.Refusal.{Refusal}
+use Rattle.book.specs.declared.Tested.{Tested}
+use Rattle.book.specs.declared.Tested.the-variants.{Good, Refused}
+
+-- five numbers without a fault are a line
+pub good-line : (b : ℕ) (lines : List ℤ) (i : ℕ) → lineBad (pos b) lines i ≡ false → GoodLine b lines i
+unfolding lineBad lineFault differenceOut
+good-line b lines i e =
+    let f = fromAt lines i in
+    let t = toAt lines i in
+    let d = differenceAt lines i in
+    let l = lengthAt lines i in
+    let s = standingAt lines i in
+    let none : lineFault (pos b) f t d l s ≡ 0 = (let z = ltb-false 0 (lineFault (pos b) f t d l s) e in omega arith) in
+    let ends = cond-zero (outZ (pos 1) (pos b) f || outZ (pos 1) (pos b) t) 0 _ none in
+    let same = cond-zero (eqZ f t) 1 _ (ends .1) in
+    let difference = cond-zero (differenceOut d) 2 _ (same .1) in
+    let long = cond-zero (outZ (pos leastLength) (pos mostLength) l) 3 _ (difference .1) in
+    let standing = cond-zero (outZ (pos 0) (pos 1) s) 4 0 (long .1) in
+    record {
+      from = between 1 b f (or-left (outZ (pos 1) (pos b) f) (outZ (pos 1) (pos b) t) (ends .0));
+      to = between 1 b t (or-right (outZ (pos 1) (pos b) f) (outZ (pos 1) (pos b) t) (ends .0));
+      apart = eqZ-apart f t (same .0);
+      difference = size-within 99999999 d (difference .0);
+      long = between leastLength mostLength l (long .0);
+      standing = between 0 1 s (standing .0);
+    }
+
+-- a held entry that is not bad
+pub good-held : (b : ℕ) (held : List ℤ) (i : ℕ) → heldBad (pos b) held i ≡ false → GoodHeld b held i
+unfolding heldBad heldOut heldHeightOut heldBefore
+good-held b held i e =
+    let m = markAt held i in
+    let h = heightAt held i in
+    let out = or-left (heldOut (pos b) m h) (heldBefore held m i) e in
+    let fresh = or-right (heldOut (pos b) m h) (heldBefore held m i) e in
+    record {
+      mark = between 1 b m (or-left (outZ (pos 1) (pos b) m) (heldHeightOut h) out);
+      height = size-within 9999999999 h (or-right (outZ (pos 1) (pos b) m) (heldHeightOut h) out);
+      once = λ j l. eqZ-apart (markAt held j) m (none-below (λ j. eqZ (markAt held j) m) i fresh j l);
+    }
+
+-- an answer of the test that is no refusal got past each refusal
+past : (t : Bool) (number place : ℕ) (rest : Tested) (k : Book) → cond t (refused number place) rest ≡ Good k → (t ≡ false) × (rest ≡ Good k)
+past true number place rest k e = let z : _≡_ {A = ℕ} 0 1 = cc in absurd (omega arith)
+past false number place rest k e = (refl, e)
+
+-- a slice of whole entries
+whole : (w : ℕ) (slice : List ℤ) → torn w slice ≡ false → length slice ≡ length slice / w * w
+unfolding torn
+whole w slice e = let d = div-add-mod' (length slice) w in let z = eqb-true (length slice % w) 0 (not-not (eqb (length slice % w) 0) e) in omega arith
+  where
+    not-not : (t : Bool) → not t ≡ false → t ≡ true
+    not-not true e = refl
+    not-not false e = absurd (true≢false e)
+
+none-first : (n : ℕ) → ltb 0 n ≡ false → n ≡ 0
+none-first n e = let z = ltb-false 0 n e in omega arith
+
+module _ (b t : ℤ) (held lines : List ℤ) (k : Book) where
+  -- the counts of a book that passes are those that were lent
+  pub tested-counts : testOf b t held lines ≡ Good k → k ≡ counts b t (heldCount held) (lineCount lines)
+  unfolding testOf
+  tested-counts e =
+      let p₁ = past (torn heldWords held) 4 0 _ k e in
+      let p₂ = past (torn lineWords lines) 4 0 _ k (p₁ .1) in
+      let p₃ = past (bookOut b t (heldCount held) (lineCount lines)) 4 0 _ k (p₂ .1) in
+      let p₄ = past (ltb 0 (firstBadHeld b held)) 6 (firstBadHeld b held) _ k (p₃ .1) in
+      let p₅ = past (ltb 0 (firstBadLine b lines)) 7 (firstBadLine b lines) _ k (p₄ .1) in
+      cc
+
+  -- "An answer of 0": the book is inside every limit
+  pub tested-good : testOf b t held lines ≡ Good k → GoodBook k b t held lines
+  unfolding testOf bookOut firstBadHeld firstBadLine
+  tested-good e =
+      let h = heldCount held in
+      let n = lineCount lines in
+      let p₁ = past (torn heldWords held) 4 0 _ k e in
+      let p₂ = past (torn lineWords lines) 4 0 _ k (p₁ .1) in
+      let p₃ = past (bookOut b t h n) 4 0 _ k (p₂ .1) in
+      let p₄ = past (ltb 0 (firstBadHeld b held)) 6 (firstBadHeld b held) _ k (p₃ .1) in
+      let p₅ = past (ltb 0 (firstBadLine b lines)) 7 (firstBadLine b lines) _ k (p₄ .1) in
+      let q = tested-counts e in
+      let out₁ = outZ (pos 1) (pos mostMarks) b in
+      let out₂ = outZ (pos 1) (pos mostTolerance) t in
+      let out₃ = outN 0 mostHeld h in
+      let out₄ = outN 0 mostLines n in
+      let o₃ = or-left (out₁ || out₂ || out₃) out₄ (p₃ .0) in
+      let o₂ = or-left (out₁ || out₂) out₃ o₃ in
+      let marks = between 1 mostMarks b (or-left out₁ out₂ o₂) in
+      let tolerance = between 1 mostTolerance t (or-right out₁ out₂ o₂) in
+      subst (λ (k : Book). GoodBook k b t held lines) (sym q) (record {
+        marks = marks .is;
+        a-mark = marks .low;
+        few-marks = marks .high;
+        tolerance = tolerance .is;
+        a-tolerance = tolerance .low;
+        small-tolerance = tolerance .high;
+        whole-held = whole heldWords held (p₁ .0);
+        few-held = inN-high 0 mostHeld h (or-right (out₁ || out₂) out₃ o₃);
+        whole-lines = whole lineWords lines (p₂ .0);
+        few-lines = inN-high 0 mostLines n (or-right (out₁ || out₂ || out₃) out₄ (p₃ .0));
+        each-held = λ i l. good-held (natAbs b) held i (subst (λ (z : ℤ). heldBad z held i ≡ false) (marks .is) (none-bad (heldBad b held) h (none-first (firstBadHeld b held) (p₄ .0)) i l));
+        each-line = λ i l. good-line (natAbs b) lines i (subst (λ (z : ℤ). lineBad z lines i ≡ false) (marks .is) (none-bad (lineBad b lines) n (none-first (firstBadLine b lines) (p₅ .0)) i l));
+      })
+
+-- a refusal has a number of the table
+Numbered : Tested → Type 0
+Numbered (Good k) = Unit {0}
+Numbered (Refused r) = 0 < r .number
+
+numbered : (t : Bool) (number place : ℕ) (rest : Tested) → 0 < number → Numbered rest → Numbered (cond t (refused number place) rest)
+unfolding Numbered
+numbered true number place rest h n = h
+numbered false number place rest h n = n
+
+pub tested-refused : (b t : ℤ) (held lines : List ℤ) (r : Refusal) → testOf b t held lines ≡ Refused r → 0 < r .number
+unfolding testOf Numbered
+tested-refused b t held lines r e =
+    subst Numbered e
+    (numbered (torn heldWords held) 4 0 _ (omega arith)
+    (numbered (torn lineWords lines) 4 0 _ (omega arith)
+    (numbered (bookOut b t (heldCount held) (lineCount lines)) 4 0 _ (omega arith)
+    (numbered (ltb 0 (firstBadHeld b held)) 6 (firstBadHeld b held) _ (omega arith)
+    (numbered (ltb 0 (firstBadLine b lines)) 7 (firstBadLine b lines) _ (omega arith) tt)))))

@@ -1,0 +1,26 @@
+use mathlib.Core.Path.{_≡_, _∙_}
+use Rattle.book.specs.Height.{heldHeightOut, heldHeightOf}
+use borrow.Author.Needs.{needs}
+use Rattle.book.proofs.height.Height.held.Statement.{statement}
+use Rattle.book.proofs.height.Height.held.Tie as tie
+use Rattle.book.proofs.height.Height.held.Reads as reads
+use Rattle.book.proofs.height.Height.held.Lts as lts
+use Rattle.book.proofs.height.Height.outside_held.Reads as outside-held-reads
+
+outside-held-requires : tie.Need-outside-held-requires
+outside-held-requires c κs = search needs
+
+-- the flag that the code has is the definition's test
+flag : (c : tie.After-outside-held) → c .outside-held .result ≡ heldHeightOut (c .before .args .x)
+flag c = c .outside-held .ensures ∙ search needs
+
+returns : tie.Need-returns
+unfolding heldHeightOf
+returns c = rw (← (flag (c .before)), c .if1 .taken)
+
+returns-2 : tie.Need-returns-2
+unfolding heldHeightOf
+returns-2 c = rw (← (flag (c .before)), c .if1 .left) (search needs)
+
+pub held-spec : {M : Type 1} → statement M
+held-spec = tie.close (tie.spec outside-held-requires returns returns-2)

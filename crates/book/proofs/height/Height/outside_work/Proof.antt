@@ -1,0 +1,18 @@
+use mathlib.Core.Path.{_∙_}
+use Rattle.book.specs.Height.{workHeightOut}
+use borrow.Author.Needs.{needs}
+use Rattle.book.proofs.height.Height.outside_work.Statement.{statement}
+use Rattle.book.proofs.height.Height.outside_work.Tie as tie
+use Rattle.book.proofs.height.Height.outside_work.Reads as reads
+use Rattle.book.proofs.height.Height.outside_work.Lts as lts
+use Rattle.signed.proofs.outside.Reads as outside-reads
+
+outside-requires : tie.Need-outside-requires
+outside-requires c κs = search needs
+
+returns : tie.Need-returns
+unfolding workHeightOut
+returns c = c .outside .ensures ∙ search needs
+
+pub outside-work-spec : {M : Type 1} → statement M
+outside-work-spec = tie.close (tie.spec outside-requires returns)

@@ -1,0 +1,75 @@
+use Rattle.book.specs.Line.{lineFault}
+use borrow.Author.Needs.{needs}
+use Rattle.book.proofs.line.Line.fault.Statement.{statement}
+use Rattle.book.proofs.line.Line.fault.Tie as tie
+use Rattle.book.proofs.line.Line.fault.Reads as reads
+use Rattle.book.proofs.line.Line.fault.Lts as lts
+use Rattle.book.proofs.line.Line.outside_difference.Reads as outside-difference-reads
+use Rattle.book.proofs.line.first.Reads as first-reads
+use Rattle.signed.proofs.outside.Reads as outside-reads
+use Rattle.signed.proofs.same.Reads as same-reads
+
+outside-requires : tie.Need-outside-requires
+outside-requires c κs = search needs
+
+first-requires : tie.Need-first-requires
+first-requires c κs = search needs
+
+outside-requires-2 : tie.Need-outside-requires-2
+outside-requires-2 c κs = search needs
+
+first-requires-2 : tie.Need-first-requires-2
+first-requires-2 c κs = search needs
+
+outside-difference-requires : tie.Need-outside-difference-requires
+outside-difference-requires c κs = search needs
+
+first-requires-3 : tie.Need-first-requires-3
+first-requires-3 c κs = search needs
+
+same-requires : tie.Need-same-requires
+same-requires c κs = search needs
+
+first-requires-4 : tie.Need-first-requires-4
+first-requires-4 c κs = search needs
+
+outside-requires-3 : tie.Need-outside-requires-3
+outside-requires-3 c κs = search needs
+
+outside-requires-4 : tie.Need-outside-requires-4
+outside-requires-4 c κs = search needs
+
+first-requires-5 : tie.Need-first-requires-5
+first-requires-5 c κs = search needs
+
+returns : tie.Need-returns
+unfolding lineFault
+returns c =
+    let c₁₀ = c .before in
+    let c₉ = c₁₀ .before in
+    let c₈ = c₉ .before in
+    let c₇ = c₈ .before in
+    let c₆ = c₇ .before in
+    let c₅ = c₆ .before in
+    let c₄ = c₅ .before in
+    let c₃ = c₄ .before in
+    let c₂ = c₃ .before in
+    let c₁ = c₂ .before in
+    rw (c .first5 .ensures, c₁₀ .outside4 .ensures, c₉ .outside3 .ensures, c₈ .first4 .ensures, c₇ .same .ensures, c₆ .first3 .ensures, c₅ .outside-difference .ensures, c₄ .first2 .ensures, c₃ .outside2 .ensures, c₂ .first .ensures, c₁ .outside .ensures) (search needs)
+
+pub fault-spec : {M : Type 1} → statement M
+fault-spec =
+    tie.close
+    (tie.spec
+    outside-requires
+    first-requires
+    outside-requires-2
+    first-requires-2
+    outside-difference-requires
+    first-requires-3
+    same-requires
+    first-requires-4
+    outside-requires-3
+    outside-requires-4
+    first-requires-5
+    returns)

@@ -1,0 +1,18 @@
+use mathlib.Core.Path.{_∙_}
+use Rattle.book.specs.Line.{differenceOut}
+use borrow.Author.Needs.{needs}
+use Rattle.book.proofs.line.Line.outside_difference.Statement.{statement}
+use Rattle.book.proofs.line.Line.outside_difference.Tie as tie
+use Rattle.book.proofs.line.Line.outside_difference.Reads as reads
+use Rattle.book.proofs.line.Line.outside_difference.Lts as lts
+use Rattle.signed.proofs.outside.Reads as outside-reads
+
+outside-requires : tie.Need-outside-requires
+outside-requires c κs = search needs
+
+returns : tie.Need-returns
+unfolding differenceOut
+returns c = c .outside .ensures ∙ search needs
+
+pub outside-difference-spec : {M : Type 1} → statement M
+outside-difference-spec = tie.close (tie.spec outside-requires returns)

@@ -1,0 +1,103 @@
+use borrow.Author.Needs.{needs}
+use mathlib.Core.Path.{_≡_, sym, _∙_, ap}
+use Prim.Native.Nat.{_-_}
+use native.Mathlib.Nat.{add-sub-cancel-left}
+use native.Mathlib.Omega.{arith}
+use lib.ListN.{length-take, length-drop}
+use mir.Syntax.{w64}
+use mir.Val.{toZ}
+use Rattle.laws.proofs.Scans.{Scanned, scan-start, scan-next, scan-stop, scan-end}
+use Rattle.book.specs.Line.{lineBad, firstBadLine}
+use Rattle.book.proofs.Lines.{good-entry, faulty-entry}
+use Rattle.book.proofs.line.first_bad_line.Statement.{statement}
+use Rattle.book.proofs.line.first_bad_line.Tie as tie
+use Rattle.book.proofs.line.first_bad_line.Reads as reads
+use Rattle.book.proofs.line.first_bad_line.Lts as lts
+use Rattle.book.proofs.line.line_of.Reads as line-of-reads
+
+abbrev Inv-loop : tie.InvT-loop
+Inv-loop lines b n i₀ i = Scanned (lineBad (toZ w64 b) lines) n i
+
+abbrev μ-loop : tie.MeasureT-loop
+μ-loop lines b n i₀ i = n - i
+
+loop-holds : tie.Need-loop-holds Inv-loop μ-loop
+loop-holds c = scan-start _ _
+
+mul-at : tie.Need-mul-at Inv-loop μ-loop
+mul-at c = omega arith
+
+add-line-of : tie.Need-add-line-of Inv-loop μ-loop
+add-line-of c = omega arith
+
+mul-line-of : tie.Need-mul-line-of Inv-loop μ-loop
+mul-line-of c = omega arith
+
+sub-line-of : tie.Need-sub-line-of Inv-loop μ-loop
+sub-line-of c = omega arith
+
+part-line-of-start : tie.Need-part-line-of-start Inv-loop μ-loop
+part-line-of-start c = omega arith
+
+part-line-of-end : tie.Need-part-line-of-end Inv-loop μ-loop
+part-line-of-end c = omega arith
+
+line-of-requires : tie.Need-line-of-requires Inv-loop μ-loop
+line-of-requires c κs = simp (length-take, length-drop) (omega arith)
+
+enum-told : tie.Need-enum-told Inv-loop μ-loop
+enum-told c = omega arith
+
+add-result : tie.Need-add-result Inv-loop μ-loop
+add-result c = omega arith
+
+returns : tie.Need-returns Inv-loop μ-loop
+unfolding firstBadLine
+returns c =
+    let in-loop = c .before .before .before .before in
+    let i = in-loop .before .loop .i in
+    let e = simp add-sub-cancel-left at (c .before .before .line-of .ensures) in
+    scan-stop _ _ i (in-loop .loop-test .taken) (faulty-entry _ _ i _ e _ (c .enum-told .given .1)) (in-loop .before .loop .inv) ∙ search needs
+
+enum-told-2 : tie.Need-enum-told-2 Inv-loop μ-loop
+enum-told-2 c = omega arith
+
+add-i : tie.Need-add-i Inv-loop μ-loop
+add-i c = omega arith
+
+loop-less : tie.Need-loop-less Inv-loop μ-loop
+loop-less c = omega arith
+
+loop-again : tie.Need-loop-again Inv-loop μ-loop
+loop-again c =
+    let in-loop = c .before .before .before .before in
+    let i = in-loop .before .loop .i in
+    let e = simp add-sub-cancel-left at (c .before .before .line-of .ensures) in
+    scan-next _ _ i (in-loop .loop-test .taken) (good-entry _ _ i _ e _ (c .enum-told2 .given .1)) (in-loop .before .loop .inv)
+
+returns-2 : tie.Need-returns-2 Inv-loop μ-loop
+unfolding firstBadLine
+returns-2 c = scan-end _ _ (c .before .loop .i) (c .loop-test .left) (c .before .loop .inv) ∙ search needs
+
+pub first-bad-line-spec : {M : Type 1} → statement M
+first-bad-line-spec =
+    tie.close
+    (tie.spec
+    Inv-loop
+    μ-loop
+    loop-holds
+    mul-at
+    add-line-of
+    mul-line-of
+    sub-line-of
+    part-line-of-start
+    part-line-of-end
+    line-of-requires
+    enum-told
+    add-result
+    returns
+    enum-told-2
+    add-i
+    loop-less
+    loop-again
+    returns-2)

@@ -1,0 +1,147 @@
+use mathlib.Core.Path.{_≡_, sym, _∙_}
+use borrow.Author.Tests.{eq-eqb, ne-eqb, lt-ltb, le-ltb}
+use Rattle.book.specs.Held.{heldCount, firstBadHeld}
+use Rattle.book.specs.Line.{lineCount, firstBadLine}
+use Rattle.book.specs.Test.{bookOf, bookOut, torn, testOf}
+use Rattle.book.proofs.Counts.{no-book, book-made}
+use borrow.Author.Needs.{needs}
+use Rattle.book.proofs.test.Statement.{statement}
+use Rattle.book.proofs.test.Tie as tie
+use Rattle.book.proofs.test.Reads as reads
+use Rattle.book.proofs.test.Lts as lts
+use Rattle.book.proofs.Book.new.Reads as new-reads
+use Rattle.book.proofs.held.first_bad_held.Reads as first-bad-held-reads
+use Rattle.book.proofs.line.first_bad_line.Reads as first-bad-line-reads
+use Rattle.book.proofs.refuse.Reads as refuse-reads
+
+refuse-requires : tie.Need-refuse-requires
+refuse-requires c κs = search needs
+
+-- what the calls answered, at the numbers that were lent
+made : (c : tie.After-new) → (let a = c .before .before .before .args in
+    c .new .result ≡ bookOf (a .b) (a .t) (heldCount (a .held .now)) (lineCount (a .lines .now)))
+made c = c .new .ensures ∙ search needs
+
+bad-held : (c : tie.After-first-bad-held) → (let a = c .before .before .before .before .before .before .before .args in
+    c .first-bad-held .result ≡ firstBadHeld (a .b) (a .held .now))
+bad-held c = c .first-bad-held .ensures ∙ search needs
+
+bad-line : (c : tie.After-first-bad-line) → (let a = c .before .before .before .before .before .before .before .before .before .args in
+    c .first-bad-line .result ≡ firstBadLine (a .b) (a .lines .now))
+bad-line c = c .first-bad-line .ensures ∙ search needs
+
+returns : tie.Need-returns
+unfolding testOf torn
+returns c = rw (ne-eqb _ _ (c .before .if1 .taken)) (c .refuse .ensures)
+
+refuse-requires-2 : tie.Need-refuse-requires-2
+refuse-requires-2 c κs = search needs
+
+returns-2 : tie.Need-returns-2
+unfolding testOf torn
+returns-2 c = rw (eq-eqb _ _ (c .before .before .if1 .left), ne-eqb _ _ (c .before .if2 .taken)) (c .refuse2 .ensures)
+
+new-requires : tie.Need-new-requires
+new-requires c κs = search needs
+
+enum-known-made : tie.Need-enum-known-made
+enum-known-made c = search needs
+
+enum-told : tie.Need-enum-told
+enum-told c = search needs
+
+refuse-requires-3 : tie.Need-refuse-requires-3
+refuse-requires-3 c κs = search needs
+
+returns-3 : tie.Need-returns-3
+unfolding testOf torn
+returns-3 c =
+    let c₃ = c .before .before .before in
+    let c₂ = c₃ .before in
+    rw (eq-eqb _ _ (c₂ .before .if1 .left), eq-eqb _ _ (c₂ .if2 .left), no-book _ _ _ _ _ (made c₃) (c .before .enum-told .given .1)) (c .refuse3 .ensures)
+
+first-bad-held-requires : tie.Need-first-bad-held-requires
+first-bad-held-requires c κs = search needs
+
+refuse-requires-4 : tie.Need-refuse-requires-4
+refuse-requires-4 c κs = search needs
+
+returns-4 : tie.Need-returns-4
+unfolding testOf torn
+returns-4 c =
+    let c₅ = c .before .before in
+    let known = c₅ .before .before in
+    let c₃ = known .before .before in
+    let c₂ = c₃ .before in
+    rw (
+      eq-eqb _ _ (c₂ .before .if1 .left),
+      eq-eqb _ _ (c₂ .if2 .left),
+      book-made _ _ _ _ _ (made c₃) _ (known .made .given .1) .0,
+      ← (bad-held c₅),
+      lt-ltb _ _ (c .before .if3 .taken),
+    ) (c .refuse4 .ensures)
+
+first-bad-line-requires : tie.Need-first-bad-line-requires
+first-bad-line-requires c κs = search needs
+
+refuse-requires-5 : tie.Need-refuse-requires-5
+refuse-requires-5 c κs = search needs
+
+returns-5 : tie.Need-returns-5
+unfolding testOf torn
+returns-5 c =
+    let c₇ = c .before .before in
+    let c₅ = c₇ .before .before in
+    let known = c₅ .before .before in
+    let c₃ = known .before .before in
+    let c₂ = c₃ .before in
+    rw (
+      eq-eqb _ _ (c₂ .before .if1 .left),
+      eq-eqb _ _ (c₂ .if2 .left),
+      book-made _ _ _ _ _ (made c₃) _ (known .made .given .1) .0,
+      ← (bad-held c₅),
+      le-ltb _ _ (c₇ .before .if3 .left),
+      ← (bad-line c₇),
+      lt-ltb _ _ (c .before .if4 .taken),
+    ) (c .refuse5 .ensures)
+
+returns-6 : tie.Need-returns-6
+unfolding testOf torn
+returns-6 c =
+    let c₇ = c .before in
+    let c₅ = c₇ .before .before in
+    let known = c₅ .before .before in
+    let c₃ = known .before .before in
+    let c₂ = c₃ .before in
+    let k = book-made _ _ _ _ _ (made c₃) _ (known .made .given .1) in
+    rw (
+      eq-eqb _ _ (c₂ .before .if1 .left),
+      eq-eqb _ _ (c₂ .if2 .left),
+      k .0,
+      ← (bad-held c₅),
+      le-ltb _ _ (c₇ .before .if3 .left),
+      ← (bad-line c₇),
+      le-ltb _ _ (c .if4 .left),
+      ← (k .1),
+    )
+
+pub test-spec : {M : Type 1} → statement M
+test-spec =
+    tie.close
+    (tie.spec
+    refuse-requires
+    returns
+    refuse-requires-2
+    returns-2
+    new-requires
+    enum-known-made
+    enum-told
+    refuse-requires-3
+    returns-3
+    first-bad-held-requires
+    refuse-requires-4
+    returns-4
+    first-bad-line-requires
+    refuse-requires-5
+    returns-5
+    returns-6)

@@ -1,0 +1,43 @@
+-- What is known of a lent book that the test lets pass: every limit of document 01's table, by name. The rooms above use these facts and
+-- open no definition of the test.
+-- Assumes nothing.
+use mathlib.Core.Path.{_≡_}
+use mathlib.Core.List.{List}
+use Prim.Native.Nat.{ℕ, _*_, _≤_, _<_}
+use lib.ListN.{length}
+use lib.IntN.{ℤ, pos, natAbs}
+use Rattle.laws.proofs.Size.{Between}
+use Rattle.book.specs.Limits.{mostMarks, mostLines, mostHeld, mostTolerance, mostDifference, leastLength, mostLength, mostHeldHeight}
+use Rattle.book.specs.Held.{heldWords, markAt, heightAt}
+use Rattle.book.specs.Line.{lineWords, fromAt, toAt, differenceAt, lengthAt, standingAt}
+use Rattle.book.specs.declared.Book.{Book}
+
+-- the line at place i of a book of b marks
+pub record GoodLine (b : ℕ) (lines : List ℤ) (i : ℕ) : Type 0 where
+  pub from : Between 1 b (fromAt lines i)
+  pub to : Between 1 b (toAt lines i)
+  pub apart : fromAt lines i ≡ toAt lines i → ⊥
+  pub difference : natAbs (differenceAt lines i) ≤ mostDifference
+  pub long : Between leastLength mostLength (lengthAt lines i)
+  pub standing : Between 0 1 (standingAt lines i)
+
+-- the held entry at place i of a book of b marks
+pub record GoodHeld (b : ℕ) (held : List ℤ) (i : ℕ) : Type 0 where
+  pub mark : Between 1 b (markAt held i)
+  pub height : natAbs (heightAt held i) ≤ mostHeldHeight
+  pub once : (j : ℕ) → j < i → markAt held j ≡ markAt held i → ⊥
+
+-- the book with the counts k
+pub record GoodBook (k : Book) (b t : ℤ) (held lines : List ℤ) : Type 0 where
+  pub marks : b ≡ pos (k .marks)
+  pub a-mark : 1 ≤ k .marks
+  pub few-marks : k .marks ≤ mostMarks
+  pub tolerance : t ≡ pos (k .tolerance)
+  pub a-tolerance : 1 ≤ k .tolerance
+  pub small-tolerance : k .tolerance ≤ mostTolerance
+  pub whole-held : length held ≡ k .held * heldWords
+  pub few-held : k .held ≤ mostHeld
+  pub whole-lines : length lines ≡ k .lines * lineWords
+  pub few-lines : k .lines ≤ mostLines
+  pub each-held : (i : ℕ) → i < k .held → GoodHeld (k .marks) held i
+  pub each-line : (i : ℕ) → i < k .lines → GoodLine (k .marks) lines i

@@ -1,0 +1,6 @@
+pub mod Limits
+pub mod Height
+pub mod Held
+pub mod Line
+pub mod Test
+pub mod Good

@@ -1,0 +1,34 @@
+-- Document 01, the table of limits.
+-- Assumes nothing.
+use Prim.Native.Nat.{ℕ}
+
+abbrev pub mostMarks : ℕ
+mostMarks = 256
+
+abbrev pub mostLines : ℕ
+mostLines = 512
+
+abbrev pub mostHeld : ℕ
+mostHeld = 256
+
+-- tenths of mm per root km
+abbrev pub mostTolerance : ℕ
+mostTolerance = 1000
+
+-- micrometres, either way
+abbrev pub mostDifference : ℕ
+mostDifference = 100000000
+
+-- metres
+abbrev pub leastLength : ℕ
+leastLength = 10
+
+abbrev pub mostLength : ℕ
+mostLength = 100000
+
+-- micrometres, either way
+abbrev pub mostHeldHeight : ℕ
+mostHeldHeight = 10000000000
+
+abbrev pub mostHeight : ℕ
+mostHeight = 50000000000

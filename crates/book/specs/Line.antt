@@ -1,0 +1,79 @@
+-- Document 01, refusal 7: which lines are faulty. "In memory a line is five signed 64-bit numbers in a lent slice: from, to, difference,
+-- length, standing (1, or 0 once withdrawn)."
+-- Assumes nothing.
+use mathlib.Core.Bool.{Bool, _||_, cond}
+use mathlib.Core.List.{List}
+use Prim.Native.Nat.{ℕ, _+_, _*_, _/_}
+use lib.Dec.{ltb}
+use lib.ListN.{length, getD, take, drop}
+use lib.IntN.{ℤ, pos, negℤ}
+use Rattle.laws.specs.Tests.{outZ, eqZ}
+use Rattle.laws.specs.Scan.{firstBad}
+use Rattle.book.specs.Limits.{mostDifference, leastLength, mostLength}
+use Rattle.book.specs.declared.line.Line.{Line}
+use Rattle.book.specs.declared.line.MadeLine.{MadeLine}
+use Rattle.book.specs.declared.line.MadeLine.the-variants.{Good, Faulty}
+
+-- numbers per line
+abbrev pub lineWords : ℕ
+lineWords = 5
+
+-- number k of the line at place i, counted from 0
+abbrev pub field : ℕ → List ℤ → ℕ → ℤ
+field k lines i = getD lines (i * lineWords + k) (pos 0)
+
+abbrev pub fromAt : List ℤ → ℕ → ℤ
+fromAt = field 0
+
+abbrev pub toAt : List ℤ → ℕ → ℤ
+toAt = field 1
+
+abbrev pub differenceAt : List ℤ → ℕ → ℤ
+differenceAt = field 2
+
+abbrev pub lengthAt : List ℤ → ℕ → ℤ
+lengthAt = field 3
+
+abbrev pub standingAt : List ℤ → ℕ → ℤ
+standingAt = field 4
+
+-- how many lines a slice holds
+abbrev pub lineCount : List ℤ → ℕ
+lineCount lines = length lines / lineWords
+
+unfoldable pub differenceOut : ℤ → Bool
+differenceOut d = outZ (negℤ (pos mostDifference)) (pos mostDifference) d
+
+-- the first thing wrong with five numbers as a line of a book of b marks: 1 "end not 1 to b", 2 "ends equal", 3 "difference", 4 "length outside",
+-- 5 "standing not 0 or 1"; 0: nothing
+unfoldable pub lineFault : ℤ → ℤ → ℤ → ℤ → ℤ → ℤ → ℕ
+unfolding differenceOut
+lineFault b from to difference len standing =
+    cond (outZ (pos 1) b from || outZ (pos 1) b to) 1
+    (cond (eqZ from to) 2
+    (cond (differenceOut difference) 3
+    (cond (outZ (pos leastLength) (pos mostLength) len) 4
+    (cond (outZ (pos 0) (pos 1) standing) 5
+    0))))
+
+-- the line that five numbers make
+unfoldable pub lineOf : ℤ → ℤ → ℤ → ℤ → ℤ → ℤ → MadeLine
+unfolding lineFault
+lineOf b f t d l s =
+    cond (ltb 0 (lineFault b f t d l s)) (Faulty (lineFault b f t d l s)) (Good (record { from = f; to = t; difference = d; length = l; standing = s }))
+
+-- the line that the five numbers of an entry make
+unfoldable pub entryOf : ℤ → List ℤ → MadeLine
+unfolding lineOf
+entryOf b e = lineOf b (getD e 0 (pos 0)) (getD e 1 (pos 0)) (getD e 2 (pos 0)) (getD e 3 (pos 0)) (getD e 4 (pos 0))
+
+-- the line at place i has a fault
+unfoldable pub lineBad : ℤ → List ℤ → ℕ → Bool
+unfolding lineFault
+lineBad b lines i =
+    ltb 0 (lineFault b (fromAt lines i) (toAt lines i) (differenceAt lines i) (lengthAt lines i) (standingAt lines i))
+
+-- "first such line": its number, or 0
+unfoldable pub firstBadLine : ℤ → List ℤ → ℕ
+unfolding lineBad firstBad
+firstBadLine b lines = firstBad (lineBad b lines) (lineCount lines)

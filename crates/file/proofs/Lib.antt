@@ -1,0 +1,4 @@
+pub mod BigEndian
+pub mod Entries
+pub mod Heads
+pub mod Reading

@@ -1,0 +1,104 @@
+-- What the reader's definition gives: a book inside every limit, or a refusal that changes nothing.
+-- Assumes nothing.
+use mathlib.Core.Path.{_≡_, refl, sym, _∙_, ap, ap₂, subst}
+use mathlib.Core.Logic.{_⊎_, inl, inr}
+use mathlib.Core.Bool.{Bool, true, false, cond}
+use mathlib.Core.List.{List, _++_}
+use Prim.Native.Nat.{ℕ, _+_, _*_, _/_, _<_}
+use native.Mathlib.Omega.{arith}
+use lib.Dec.{ltb}
+use lib.ListN.{length, drop}
+use lib.IntN.{ℤ, pos}
+use Rattle.book.specs.Held.{heldWords, heldCount}
+use Rattle.book.specs.Line.{lineWords, lineCount}
+use Rattle.book.specs.Test.{testOf}
+use Rattle.book.specs.Good.{GoodBook}
+use Rattle.book.proofs.Goods.{tested-good, tested-counts, tested-refused}
+use Rattle.book.specs.declared.Book.{Book}
+use Rattle.book.specs.declared.Refusal.{Refusal}
+use Rattle.book.specs.declared.Tested.{Tested}
+use Rattle.book.specs.declared.Tested.the-variants.{Good, Refused}
+use Rattle.file.specs.Read.{Outcome, answered, refusal, done, heldOf, linesOf, headOf, roomOf, testedOf, bodyOf, afterHead, readOf}
+use Rattle.file.specs.Owed.{BookRead, FileRefused}
+use Rattle.file.specs.declared.Head as head
+use Rattle.file.specs.declared.Head.{Head}
+use Rattle.file.specs.declared.entry.Kind.the-variants.{Held, Line}
+use Rattle.file.proofs.Entries.{entries-length}
+use Rattle.file.proofs.Heads.{head-numbered}
+
+module _ (file : List ℕ) (held lines : List ℤ) where
+  -- read, or refused with a number
+  abbrev pub ReadOrRefused : Outcome → Type 0
+  ReadOrRefused o = BookRead file held lines o ⊎ FileRefused held lines o
+
+  refuses : (number place : ℕ) → 0 < number → ReadOrRefused (answered held lines (refusal number place))
+  refuses number place h =
+      inr (record { number = number; place = place; a-number = h; answer = refl; held-kept = refl; lines-kept = refl })
+
+  GoodFile : Book → Type 0
+  GoodFile k = GoodBook k (pos (k .marks)) (pos (k .tolerance)) (heldOf file (k .held)) (linesOf file (k .held) (k .lines))
+
+  -- as many entries as were read
+  held-entries : (h : ℕ) → heldCount (heldOf file h) ≡ h
+  unfolding heldOf
+  held-entries h = let l = entries-length Held file 13 h in omega arith
+
+  line-entries : (h n : ℕ) → lineCount (linesOf file h n) ≡ n
+  unfolding linesOf
+  line-entries h n = let l = entries-length Line file (13 + h * 10) n in omega arith
+
+  room-or-ten : (k : Book) → GoodFile k → ReadOrRefused (roomOf file k held lines)
+  unfolding roomOf GoodFile
+  room-or-ten k good = go (ltb (length held) (k .held * heldWords)) (ltb (length lines) (k .lines * lineWords))
+    where
+      go : (s t : Bool) → ReadOrRefused (cond s (answered held lines (refusal 10 0)) (cond t (answered held lines (refusal 10 0)) (record {
+        answer = done k;
+        held = heldOf file (k .held) ++ drop (k .held * heldWords) held;
+        lines = linesOf file (k .held) (k .lines) ++ drop (k .lines * lineWords) lines;
+      })))
+      go true t = refuses 10 0 (omega arith)
+      go false true = refuses 10 0 (omega arith)
+      go false false = inl (record { book = k; answer = refl; good = good; held-now = refl; lines-now = refl })
+
+  body : (k : Book) → ReadOrRefused (bodyOf file k held lines)
+  unfolding bodyOf testedOf GoodFile
+  body k = go (testOf b t h n) refl
+    where
+      b : ℤ
+      b = pos (k .marks)
+
+      t : ℤ
+      t = pos (k .tolerance)
+
+      h : List ℤ
+      h = heldOf file (k .held)
+
+      n : List ℤ
+      n = linesOf file (k .held) (k .lines)
+
+      go : (o : Tested) → testOf b t h n ≡ o → ReadOrRefused (testedOf file k held lines o)
+      go (Refused r) e = refuses (r .number) (r .place) (tested-refused b t h n r e)
+      go (Good j) e =
+          let same : j ≡ k = tested-counts b t h n j e ∙ rw (held-entries (k .held), line-entries (k .held) (k .lines)) in
+          room-or-ten k (subst (λ (x : Book). GoodBook x b t h n) same (tested-good b t h n j e))
+
+  -- every file is read as a book inside the limits, or refused
+  pub read-or-refused : ReadOrRefused (readOf file held lines)
+  unfolding readOf afterHead
+  read-or-refused = go (headOf file) refl
+    where
+      go : (o : Head) → headOf file ≡ o → ReadOrRefused (afterHead file held lines o)
+      go (head.the-variants.Refused number) e = refuses number 0 (head-numbered file number e)
+      go (head.the-variants.States k) e = body k
+
+  -- the answer 0 says which
+  pub zero-is-read : readOf file held lines .answer .number ≡ 0 → BookRead file held lines (readOf file held lines)
+  zero-is-read z = go read-or-refused
+    where
+      go : ReadOrRefused (readOf file held lines) → BookRead file held lines (readOf file held lines)
+      go (inl r) = r
+      go (inr f) = absurd (omega (arith, f .a-number, ap (λ (a : _). a .number) (f .answer)))
+
+-- two allowed answers are equal, and leave the same in the buffers
+pub read-one-answer : (file : List ℕ) (held lines : List ℤ) (o p : Outcome) → o ≡ readOf file held lines → p ≡ readOf file held lines → o ≡ p
+read-one-answer file held lines o p e f = e ∙ sym f

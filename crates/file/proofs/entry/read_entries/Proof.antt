@@ -1,0 +1,145 @@
+use native.Mathlib.Nat.{zero-mul}
+use mathlib.Core.Path.{_≡_, refl, sym, _∙_}
+use mathlib.Core.List.{_++_}
+use Prim.Native.Nat.{_+_, _*_, _-_, _≤_}
+use native.Mathlib.Omega.{arith}
+use lib.ListN.{length, drop, length-take, length-drop}
+use Rattle.file.specs.Entry.{entryBytes, entryWords, entries}
+use Rattle.file.proofs.Entries.{room-for, entries-pour}
+use Rattle.file.proofs.entry.read_entries.Statement.{statement}
+use Rattle.file.proofs.entry.read_entries.Tie as tie
+use Rattle.file.proofs.entry.read_entries.Reads as reads
+use Rattle.file.proofs.entry.read_entries.Lts as lts
+use Rattle.file.proofs.entry.Kind.bytes.Reads as bytes-reads
+use Rattle.file.proofs.entry.Kind.words.Reads as words-reads
+use Rattle.file.proofs.entry.read_entry.Reads as read-entry-reads
+
+abbrev Inv-loop : tie.InvT-loop
+Inv-loop kind file a n out₀ bytes words i₀ out i = (i ≤ n) × (length out ≡ length out₀) × (out ≡ entries kind file a i ++ drop (i * words) out₀)
+
+abbrev μ-loop : tie.MeasureT-loop
+μ-loop kind file a n out₀ bytes words i₀ out i = n - i
+
+-- entry i is whole, in the file and in what is filled
+record Room (c : tie.In-loop Inv-loop μ-loop) : Type 0 where
+  bytes : c .before .before .before .before .before .args .a + c .before .loop .i * c .before .before .before .bytes .result + c .before .before .before .bytes .result ≤ length (c .before .before .before .before .before .args .file .now)
+  words : c .before .loop .i * c .before .before .words .result + c .before .before .words .result ≤ length (c .before .loop .out)
+
+room : (c : tie.In-loop Inv-loop μ-loop) → Room c
+room c =
+    let w = c .before .before in
+    let b = w .before in
+    let g = b .before .before .args in
+    let p = b .before .before .pre in
+    let i = c .before .loop .i in
+    let e : g .a + g .n * b .bytes .result ≤ length (g .file .now) = rw (b .bytes .ensures) (p .0) in
+    let f : g .n * w .words .result ≤ length (g .out .now) = rw (w .words .ensures) (p .1) in
+    let x = room-for i (g .n) (b .bytes .result) (c .loop-test .taken) in
+    let y = room-for i (g .n) (w .words .result) (c .loop-test .taken) in
+    let z = c .before .loop .inv .1 in
+    record { bytes = omega arith; words = omega arith }
+
+bytes-requires : tie.Need-bytes-requires Inv-loop μ-loop
+bytes-requires c κs = tt
+
+words-requires : tie.Need-words-requires Inv-loop μ-loop
+words-requires c κs = tt
+
+loop-holds : tie.Need-loop-holds Inv-loop μ-loop
+unfolding entries
+loop-holds c = (omega arith, refl, rw zero-mul)
+
+mul-at : tie.Need-mul-at Inv-loop μ-loop
+mul-at c = let r = room c in omega arith
+
+add-at : tie.Need-add-at Inv-loop μ-loop
+add-at c = let r = room c in omega arith
+
+mul-to : tie.Need-mul-to Inv-loop μ-loop
+mul-to c = let r = room c in omega arith
+
+add-read-entry : tie.Need-add-read-entry Inv-loop μ-loop
+add-read-entry c = let r = room c in omega arith
+
+sub-read-entry : tie.Need-sub-read-entry Inv-loop μ-loop
+sub-read-entry c = let r = room c in omega arith
+
+part-read-entry-start : tie.Need-part-read-entry-start Inv-loop μ-loop
+part-read-entry-start c = let r = room c in omega arith
+
+part-read-entry-end : tie.Need-part-read-entry-end Inv-loop μ-loop
+part-read-entry-end c = let r = room c in omega arith
+
+add-read-entry-2 : tie.Need-add-read-entry-2 Inv-loop μ-loop
+add-read-entry-2 c = let r = room (c .before) in omega arith
+
+mul-read-entry : tie.Need-mul-read-entry Inv-loop μ-loop
+mul-read-entry c = let r = room (c .before) in omega arith
+
+sub-read-entry-2 : tie.Need-sub-read-entry-2 Inv-loop μ-loop
+sub-read-entry-2 c = let r = room (c .before) in omega arith
+
+part-read-entry-start-2 : tie.Need-part-read-entry-start-2 Inv-loop μ-loop
+part-read-entry-start-2 c = let r = room (c .before) in omega arith
+
+part-read-entry-end-2 : tie.Need-part-read-entry-end-2 Inv-loop μ-loop
+part-read-entry-end-2 c = let r = room (c .before) in omega arith
+
+read-entry-requires : tie.Need-read-entry-requires Inv-loop μ-loop
+read-entry-requires c κs = let r = room (c .before .before) in simp (length-take, length-drop) (omega arith)
+
+add-i : tie.Need-add-i Inv-loop μ-loop
+add-i c = omega arith
+
+loop-less : tie.Need-loop-less Inv-loop μ-loop
+loop-less c = omega arith
+
+loop-again : tie.Need-loop-again Inv-loop μ-loop
+loop-again c =
+    let entered = c .before in
+    let l = entered .before .before .before .before in
+    let w = l .before in
+    let b = w .before in
+    let g = b .before .before .args in (
+      omega arith,
+      c .out .given .1 ∙ l .loop .inv .1,
+      entries-pour (g .kind) (g .file .now) (g .a) (b .bytes .result) (w .words .result) (b .bytes .ensures) (w .words .ensures) (g .out .now) (l .loop .out) _ (l .loop .i) (l .loop .inv .2) (entered .read-entry .ensures),
+    )
+
+same-length : tie.Need-same-length Inv-loop μ-loop
+same-length c = c .before .loop .inv .1
+
+returns : tie.Need-returns Inv-loop μ-loop
+returns c =
+    let l = c .before in
+    let g = l .before .before .before .before .args in
+    let n : l .loop .i ≡ g .n = omega arith in
+    rw (← (l .before .words .ensures), ← n) (l .loop .inv .2)
+
+pub read-entries-spec : {M : Type 1} → statement M
+read-entries-spec =
+    tie.close
+    (tie.spec
+    Inv-loop
+    μ-loop
+    bytes-requires
+    words-requires
+    loop-holds
+    mul-at
+    add-at
+    mul-to
+    add-read-entry
+    sub-read-entry
+    part-read-entry-start
+    part-read-entry-end
+    add-read-entry-2
+    mul-read-entry
+    sub-read-entry-2
+    part-read-entry-start-2
+    part-read-entry-end-2
+    read-entry-requires
+    add-i
+    loop-less
+    loop-again
+    same-length
+    returns)

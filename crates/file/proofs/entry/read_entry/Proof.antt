@@ -1,0 +1,44 @@
+use borrow.Author.Needs.{needs}
+use Rattle.file.proofs.entry.read_entry.Statement.{statement}
+use Rattle.file.proofs.entry.read_entry.Tie as tie
+use Rattle.file.proofs.entry.read_entry.Reads as reads
+use Rattle.file.proofs.entry.read_entry.Lts as lts
+use Rattle.file.proofs.entry.read_held.Reads as read-held-reads
+use Rattle.file.proofs.entry.read_line.Reads as read-line-reads
+
+enum-told : tie.Need-enum-told
+enum-told c = search needs
+
+read-held-requires : tie.Need-read-held-requires
+read-held-requires c κs = rw (c .before .enum-told .given .1) at (c .before .before .before .before .pre)
+
+enum-told-2 : tie.Need-enum-told-2
+enum-told-2 c = search needs
+
+read-line-requires : tie.Need-read-line-requires
+read-line-requires c κs = rw (c .before .enum-told2 .given .1) at (c .before .before .before .before .pre)
+
+same-length : tie.Need-same-length
+same-length c = search needs
+
+returns : tie.Need-returns
+returns c = rw (c .before .before .before .enum-told .given .1) (c .before .read-held .ensures)
+
+same-length-2 : tie.Need-same-length-2
+same-length-2 c = search needs
+
+returns-2 : tie.Need-returns-2
+returns-2 c = rw (c .before .before .before .enum-told2 .given .1) (c .before .read-line .ensures)
+
+pub read-entry-spec : {M : Type 1} → statement M
+read-entry-spec =
+    tie.close
+    (tie.spec
+    enum-told
+    read-held-requires
+    enum-told-2
+    read-line-requires
+    same-length
+    returns
+    same-length-2
+    returns-2)

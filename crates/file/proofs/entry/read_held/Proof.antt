@@ -1,0 +1,61 @@
+use mathlib.Core.Path.{_∙_, ap}
+use mathlib.Core.List.{[], _∷_}
+use lib.IntN.{pos}
+use mir.Syntax.{w64}
+use mir.Val.{toZ}
+use Rattle.laws.proofs.Signed.{stored}
+use Rattle.laws.proofs.Lists.{filled}
+use Rattle.file.specs.Entry.{heldNumbers}
+use borrow.Author.Needs.{needs}
+use Rattle.file.proofs.entry.read_held.Statement.{statement}
+use Rattle.file.proofs.entry.read_held.Tie as tie
+use Rattle.file.proofs.entry.read_held.Reads as reads
+use Rattle.file.proofs.entry.read_held.Lts as lts
+use Rattle.file.proofs.wire.be2.Reads as be2-reads
+use Rattle.file.proofs.wire.be8.Reads as be8-reads
+use Rattle.file.proofs.wire.plain.Reads as plain-reads
+use Rattle.file.proofs.wire.signed8.Reads as signed8-reads
+
+be2-requires : tie.Need-be2-requires
+be2-requires c κs = search needs
+
+plain-requires : tie.Need-plain-requires
+plain-requires c κs = search needs
+
+be8-requires : tie.Need-be8-requires
+be8-requires c κs = search needs
+
+signed8-requires : tie.Need-signed8-requires
+signed8-requires c κs = search needs
+
+slice-set-from-mark : tie.Need-slice-set-from-mark
+slice-set-from-mark c = search needs
+
+slice-set-from-height : tie.Need-slice-set-from-height
+slice-set-from-height c = search needs
+
+same-length : tie.Need-same-length
+same-length c = search needs
+
+returns : tie.Need-returns
+unfolding heldNumbers
+returns c =
+    let c₃ = c .before in
+    let c₂ = c₃ .before in
+    let c₁ = c₂ .before in
+    let e₀ = stored (c₂ .plain .result) (c₂ .plain .ok) (c₂ .plain .ensures ∙ ap pos (c₁ .be2 .ensures .0)) in
+    let e₁ = stored (c .signed8 .result) (c .signed8 .ok) (c .signed8 .ensures ∙ ap (toZ w64) (c₃ .be8 .ensures)) in
+    rw (e₀, e₁) (filled (_ ∷ _ ∷ []) (c₁ .before .before .args .out .now) (c₁ .before .before .pre .1))
+
+pub read-held-spec : {M : Type 1} → statement M
+read-held-spec =
+    tie.close
+    (tie.spec
+    be2-requires
+    plain-requires
+    be8-requires
+    signed8-requires
+    slice-set-from-mark
+    slice-set-from-height
+    same-length
+    returns)

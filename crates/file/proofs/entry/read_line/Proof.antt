@@ -1,0 +1,97 @@
+use mathlib.Core.Path.{_∙_, ap}
+use mathlib.Core.List.{[], _∷_}
+use native.Mathlib.Omega.{arith}
+use lib.IntN.{pos}
+use lib.ListN.{length-set}
+use mir.Syntax.{w32}
+use mir.Val.{toZ}
+use Rattle.laws.proofs.Signed.{stored}
+use Rattle.laws.proofs.Lists.{filled}
+use Rattle.file.specs.Entry.{lineNumbers}
+use borrow.Author.Needs.{needs}
+use Rattle.file.proofs.entry.read_line.Statement.{statement}
+use Rattle.file.proofs.entry.read_line.Tie as tie
+use Rattle.file.proofs.entry.read_line.Reads as reads
+use Rattle.file.proofs.entry.read_line.Lts as lts
+use Rattle.file.proofs.wire.be2.Reads as be2-reads
+use Rattle.file.proofs.wire.be4.Reads as be4-reads
+use Rattle.file.proofs.wire.plain.Reads as plain-reads
+use Rattle.file.proofs.wire.signed4.Reads as signed4-reads
+
+be2-requires : tie.Need-be2-requires
+be2-requires c κs = search needs
+
+plain-requires : tie.Need-plain-requires
+plain-requires c κs = search needs
+
+be2-requires-2 : tie.Need-be2-requires-2
+be2-requires-2 c κs = search needs
+
+plain-requires-2 : tie.Need-plain-requires-2
+plain-requires-2 c κs = search needs
+
+be4-requires : tie.Need-be4-requires
+be4-requires c κs = search needs
+
+signed4-requires : tie.Need-signed4-requires
+signed4-requires c κs = search needs
+
+be4-requires-2 : tie.Need-be4-requires-2
+be4-requires-2 c κs = search needs
+
+plain-requires-3 : tie.Need-plain-requires-3
+plain-requires-3 c κs = search needs
+
+slice-set-from-from : tie.Need-slice-set-from-from
+slice-set-from-from c = search needs
+
+slice-set-from-to : tie.Need-slice-set-from-to
+slice-set-from-to c = search needs
+
+slice-set-from-difference : tie.Need-slice-set-from-difference
+slice-set-from-difference c = search needs
+
+slice-set-from-length : tie.Need-slice-set-from-length
+slice-set-from-length c = search needs
+
+slice-set-of-out : tie.Need-slice-set-of-out
+slice-set-of-out c = simp length-set (omega arith)
+
+same-length : tie.Need-same-length
+same-length c = search needs
+
+returns : tie.Need-returns
+unfolding lineNumbers
+returns c =
+    let c₇ = c .before in
+    let c₆ = c₇ .before in
+    let c₅ = c₆ .before in
+    let c₄ = c₅ .before in
+    let c₃ = c₄ .before in
+    let c₂ = c₃ .before in
+    let c₁ = c₂ .before in
+    let e₀ = stored (c₂ .plain .result) (c₂ .plain .ok) (c₂ .plain .ensures ∙ ap pos (c₁ .be2 .ensures .0)) in
+    let e₁ = stored (c₄ .plain2 .result) (c₄ .plain2 .ok) (c₄ .plain2 .ensures ∙ ap pos (c₃ .be22 .ensures .0)) in
+    let e₂ = stored (c₆ .signed4 .result) (c₆ .signed4 .ok) (c₆ .signed4 .ensures ∙ ap (toZ w32) (c₅ .be4 .ensures .0)) in
+    let e₃ = stored (c .plain3 .result) (c .plain3 .ok) (c .plain3 .ensures ∙ ap pos (c₇ .be42 .ensures .0)) in
+    rw (e₀, e₁, e₂, e₃) (filled (_ ∷ _ ∷ _ ∷ _ ∷ _ ∷ []) (c₁ .before .before .args .out .now) (c₁ .before .before .pre .1))
+
+pub read-line-spec : {M : Type 1} → statement M
+read-line-spec =
+    tie.close
+    (tie.spec
+    be2-requires
+    plain-requires
+    be2-requires-2
+    plain-requires-2
+    be4-requires
+    signed4-requires
+    be4-requires-2
+    plain-requires-3
+    slice-set-from-from
+    slice-set-from-to
+    slice-set-from-difference
+    slice-set-from-length
+    slice-set-of-out
+    same-length
+    returns)

@@ -1,0 +1,62 @@
+use mathlib.Core.Path.{sym, _∙_}
+use Rattle.file.specs.Read.{afterHead, readOf}
+use Rattle.file.proofs.Heads.{head-states}
+use borrow.Author.Needs.{needs}
+use Rattle.file.proofs.read.Statement.{statement}
+use Rattle.file.proofs.read.Tie as tie
+use Rattle.file.proofs.read.Reads as reads
+use Rattle.file.proofs.read.Lts as lts
+use Rattle.file.proofs.head_of.Reads as head-of-reads
+use Rattle.file.proofs.read_body.Reads as read-body-reads
+use Rattle.file.proofs.refuse.Reads as refuse-reads
+
+head-of-requires : tie.Need-head-of-requires
+head-of-requires c κs = search needs
+
+enum-known-number : tie.Need-enum-known-number
+enum-known-number c = search needs
+
+refuse-requires : tie.Need-refuse-requires
+refuse-requires c κs = search needs
+
+enum-known-book : tie.Need-enum-known-book
+enum-known-book c = search needs
+
+read-body-requires : tie.Need-read-body-requires
+read-body-requires c κs =
+    let g = c .before .before .before in
+    let h = g .before .before in
+    head-states (h .before .before .args .file .now) (g .book .given .0 .0) (sym (h .head-of .ensures) ∙ g .book .given .1)
+
+returns : tie.Need-returns
+unfolding readOf afterHead
+returns c =
+    let r = c .before .before in
+    rw (← (r .before .before .head-of .ensures), r .number .given .1, c .refuse .ensures)
+
+same-length : tie.Need-same-length
+same-length c = search needs
+
+same-length-2 : tie.Need-same-length-2
+same-length-2 c = search needs
+
+returns-2 : tie.Need-returns-2
+unfolding readOf afterHead
+returns-2 c =
+    let f = c .before .before in
+    let g = f .before .before .before .before in
+    rw (← (g .before .before .head-of .ensures), g .book .given .1) (f .read-body .ensures)
+
+pub read-spec : {M : Type 1} → statement M
+read-spec =
+    tie.close
+    (tie.spec
+    head-of-requires
+    enum-known-number
+    refuse-requires
+    enum-known-book
+    read-body-requires
+    returns
+    same-length
+    same-length-2
+    returns-2)

@@ -1,0 +1,17 @@
+use native.Mathlib.Omega.{arith}
+use mir.Syntax.{w64}
+use mir.Facts.{toZ-pos}
+use borrow.Author.Needs.{needs}
+use Rattle.file.proofs.wire.plain.Statement.{statement}
+use Rattle.file.proofs.wire.plain.Tie as tie
+use Rattle.file.proofs.wire.plain.Reads as reads
+use Rattle.file.proofs.wire.plain.Lts as lts
+
+cast-result : tie.Need-cast-result
+cast-result c = search needs
+
+returns : tie.Need-returns
+returns c = toZ-pos w64 (omega arith)
+
+pub plain-spec : {M : Type 1} → statement M
+plain-spec = tie.close (tie.spec cast-result returns)

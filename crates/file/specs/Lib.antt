@@ -1,0 +1,4 @@
+pub mod Wire
+pub mod Entry
+pub mod Read
+pub mod Owed

@@ -1,0 +1,29 @@
+-- What a caller may rely on after a call of the reader, by name.
+-- Assumes nothing.
+use mathlib.Core.Path.{_≡_}
+use mathlib.Core.List.{List, _++_}
+use Prim.Native.Nat.{ℕ, _*_, _<_}
+use lib.ListN.{drop}
+use lib.IntN.{ℤ, pos}
+use Rattle.book.specs.Held.{heldWords}
+use Rattle.book.specs.Line.{lineWords}
+use Rattle.book.specs.Good.{GoodBook}
+use Rattle.book.specs.declared.Book.{Book}
+use Rattle.file.specs.Read.{Outcome, refusal, done, heldOf, linesOf}
+
+-- a file that was read: a book inside every limit, in the first places of the buffers, whose other places are as they were
+pub record BookRead (file : List ℕ) (held lines : List ℤ) (o : Outcome) : Type 0 where
+  pub book : Book
+  pub answer : o .answer ≡ done book
+  pub good : GoodBook book (pos (book .marks)) (pos (book .tolerance)) (heldOf file (book .held)) (linesOf file (book .held) (book .lines))
+  pub held-now : o .held ≡ heldOf file (book .held) ++ drop (book .held * heldWords) held
+  pub lines-now : o .lines ≡ linesOf file (book .held) (book .lines) ++ drop (book .lines * lineWords) lines
+
+-- a file that was refused: "After a refusal the counts are 0 and no lent buffer has changed."
+pub record FileRefused (held lines : List ℤ) (o : Outcome) : Type 0 where
+  pub number : ℕ
+  pub place : ℕ
+  pub a-number : 0 < number
+  pub answer : o .answer ≡ refusal number place
+  pub held-kept : o .held ≡ held
+  pub lines-kept : o .lines ≡ lines

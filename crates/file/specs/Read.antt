@@ -1,0 +1,122 @@
+-- What the reader of a book file answers, and what it leaves in the buffers that it is lent: document 01, refusals 1 to 7 and 10, lowest first.
+-- Assumes nothing.
+use mathlib.Core.Bool.{Bool, not, cond, _||_}
+use mathlib.Core.List.{List, _++_}
+use mathlib.Core.Path.{_≡_}
+use Prim.Native.Nat.{ℕ, _+_, _*_, _≤_}
+use lib.Dec.{eqb, ltb}
+use lib.ListN.{length, getD, drop}
+use lib.IntN.{ℤ, pos}
+use Rattle.book.specs.Limits.{mostMarks, mostLines, mostHeld, mostTolerance}
+use Rattle.book.specs.Held.{heldWords}
+use Rattle.book.specs.Line.{lineWords}
+use Rattle.book.specs.Test.{bookOut, counts, testOf}
+use Rattle.book.specs.declared.Book.{Book}
+use Rattle.book.specs.declared.Tested.{Tested}
+use Rattle.book.specs.declared.Tested.the-variants.{Good, Refused}
+use Rattle.file.specs.Wire.{be}
+use Rattle.file.specs.Entry.{entries}
+use Rattle.file.specs.declared.entry.Kind.the-variants.{Held, Line}
+use Rattle.file.specs.declared.Head as head
+use Rattle.file.specs.declared.Head.{Head}
+use Rattle.file.specs.declared.ReadAnswer.{ReadAnswer}
+
+-- "total length in 4 bytes, counting themselves; version byte 1; t, b, h and n in 2 bytes each"
+abbrev pub statedLength : List ℕ → ℕ
+statedLength file = be 4 file 0
+
+abbrev pub statedVersion : List ℕ → ℕ
+statedVersion file = getD file 4 0
+
+abbrev pub statedT : List ℕ → ℕ
+statedT file = be 2 file 5
+
+abbrev pub statedB : List ℕ → ℕ
+statedB file = be 2 file 7
+
+abbrev pub statedH : List ℕ → ℕ
+statedH file = be 2 file 9
+
+abbrev pub statedN : List ℕ → ℕ
+statedN file = be 2 file 11
+
+-- "A file has 13 + 10h + 12n bytes"
+abbrev pub fileLength : ℕ → ℕ → ℕ
+fileLength h n = 13 + h * 10 + n * 12
+
+-- refusals 1 to 5, whose place is 0, or the counts that the file states
+unfoldable pub headOf : List ℕ → Head
+unfolding be bookOut
+headOf file =
+    cond (ltb (length file) 13) (head.the-variants.Refused 1)
+    (cond (not (eqb (statedLength file) (length file))) (head.the-variants.Refused 2)
+    (cond (not (eqb (statedVersion file) 1)) (head.the-variants.Refused 3)
+    (cond (bookOut (pos (statedB file)) (pos (statedT file)) (statedH file) (statedN file)) (head.the-variants.Refused 4)
+    (cond (not (eqb (length file) (fileLength (statedH file) (statedN file)))) (head.the-variants.Refused 5)
+    (head.the-variants.States (counts (pos (statedB file)) (pos (statedT file)) (statedH file) (statedN file)))))))
+
+-- the numbers that the file's held entries and lines put into memory
+unfoldable pub heldOf : List ℕ → ℕ → List ℤ
+unfolding entries
+heldOf file h = entries Held file 13 h
+
+unfoldable pub linesOf : List ℕ → ℕ → ℕ → List ℤ
+unfolding entries
+linesOf file h n = entries Line file (13 + h * 10) n
+
+-- "After a refusal the counts are 0"
+abbrev pub refusal : ℕ → ℕ → ReadAnswer
+refusal number place = record { number = number; place = place; b = 0; t = 0; h = 0; n = 0 }
+
+abbrev pub done : Book → ReadAnswer
+done k = record { number = 0; place = 0; b = k .marks; t = k .tolerance; h = k .held; n = k .lines }
+
+-- what a call answers, and what the two lent buffers then hold
+pub record Outcome : Type 0 where
+  pub answer : ReadAnswer
+  pub held : List ℤ
+  pub lines : List ℤ
+
+abbrev pub answered : List ℤ → List ℤ → ReadAnswer → Outcome
+answered held lines a = record { answer = a; held = held; lines = lines }
+
+-- refusal 10, or the book read: "Output places past the answer stay unchanged"
+unfoldable pub roomOf : List ℕ → Book → List ℤ → List ℤ → Outcome
+unfolding heldOf linesOf
+roomOf file k held lines =
+    cond (ltb (length held) (k .held * heldWords)) (answered held lines (refusal 10 0))
+    (cond (ltb (length lines) (k .lines * lineWords)) (answered held lines (refusal 10 0))
+    (record {
+      answer = done k;
+      held = heldOf file (k .held) ++ drop (k .held * heldWords) held;
+      lines = linesOf file (k .held) (k .lines) ++ drop (k .lines * lineWords) lines;
+    }))
+
+-- refusals 6 and 7 by the test of every call, then what comes after it
+unfoldable pub testedOf : List ℕ → Book → List ℤ → List ℤ → Tested → Outcome
+unfolding roomOf
+testedOf file k held lines (Refused r) = answered held lines (refusal (r .number) (r .place))
+testedOf file k held lines (Good book) = roomOf file k held lines
+
+unfoldable pub bodyOf : List ℕ → Book → List ℤ → List ℤ → Outcome
+unfolding testedOf testOf
+bodyOf file k held lines =
+    testedOf file k held lines (testOf (pos (k .marks)) (pos (k .tolerance)) (heldOf file (k .held)) (linesOf file (k .held) (k .lines)))
+
+unfoldable pub afterHead : List ℕ → List ℤ → List ℤ → Head → Outcome
+unfolding bodyOf
+afterHead file held lines (head.the-variants.Refused number) = answered held lines (refusal number 0)
+afterHead file held lines (head.the-variants.States k) = bodyOf file k held lines
+
+-- what the reader does with a file
+unfoldable pub readOf : List ℕ → List ℤ → List ℤ → Outcome
+unfolding afterHead headOf
+readOf file held lines = afterHead file held lines (headOf file)
+
+-- a head that is not refused states a file of this length, with counts within their limits
+pub record Stated (len : ℕ) (k : Book) : Type 0 where
+  pub size : len ≡ fileLength (k .held) (k .lines)
+  pub few-marks : k .marks ≤ mostMarks
+  pub small-tolerance : k .tolerance ≤ mostTolerance
+  pub few-held : k .held ≤ mostHeld
+  pub few-lines : k .lines ≤ mostLines

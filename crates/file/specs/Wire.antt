@@ -1,0 +1,10 @@
+-- Document 01: "The file, big-endian".
+-- Assumes nothing.
+use mathlib.Core.List.{List}
+use Prim.Native.Nat.{ℕ, zero, suc, _+_, _*_}
+use lib.ListN.{getD}
+
+-- the number in the k bytes of s from place a on, the first byte the highest
+unfoldable pub be : ℕ → List ℕ → ℕ → ℕ
+be zero s a = 0
+be (suc k) s a = be k s a * 256 + getD s (a + k) 0

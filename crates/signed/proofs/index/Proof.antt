@@ -1,0 +1,16 @@
+use borrow.Author.Needs.{needs}
+use mir.Facts.{toZ-ofZ, fits-natAbs}
+use Rattle.laws.proofs.Signed.{nonneg}
+use Rattle.signed.proofs.index.Statement.{statement}
+use Rattle.signed.proofs.index.Tie as tie
+use Rattle.signed.proofs.index.Reads as reads
+use Rattle.signed.proofs.index.Lts as lts
+
+cast-result : tie.Need-cast-result
+cast-result c = rw (toZ-ofZ (c .fits .x)) (nonneg (c .args .x) (c .pre), fits-natAbs tt (c .fits .x))
+
+returns : tie.Need-returns
+returns c = search needs
+
+pub index-spec : {M : Type 1} → statement M
+index-spec = tie.close (tie.spec cast-result returns)
