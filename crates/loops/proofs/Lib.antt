@@ -1,0 +1,10 @@
+pub mod Count
+pub mod AllLoops
+pub mod EachLoop
+pub mod Passes
+pub mod Basis
+pub mod Misclosure
+pub mod Checked
+pub mod Row
+pub mod Rerun
+pub mod Withdrawal

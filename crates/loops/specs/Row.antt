@@ -1,0 +1,64 @@
+-- Document 01, "Loops": listing, misclosure, verdict and report row of a loop.
+-- Assumes nothing.
+use Prim.Native.Nat.{ℕ, zero, _+_, _*_}
+use mathlib.Core.Bool.{Bool, true, false, cond}
+use mathlib.Core.List.{List, [], _∷_, _++_}
+use lib.IntN.{ℤ, pos, negℤ, natAbs, _+ℤ_}
+use lib.Dec.{leb}
+use lib.ListN.{length}
+use Rattle.network.specs.Standing.{Line}
+use Rattle.network.specs.Path.{Pass, wayLength}
+use Rattle.loops.specs.Loops.{Loop}
+
+-- a number in the sense of a pass
+abbrev pub signed : Bool → ℤ → ℤ
+signed true z = z
+signed false z = negℤ z
+
+-- "A line is listed positive if run from its from to its to, else negative."
+abbrev pub listed : Pass → ℤ
+listed p = signed (p .forward) (pos (p .line .number))
+
+-- "Misclosure is the signed sum"
+unfoldable pub misclosure : Loop → ℤ
+misclosure [] = pos 0
+misclosure (p ∷ ps) = signed (p .forward) (p .line .difference) +ℤ misclosure ps
+
+-- what one line of a loop allows, at the tolerance t: a tenth of its part in 10*t*t*L
+unfoldable pub lineAllows : ℕ → Line → ℕ
+lineAllows t l = t * t * l .length
+
+-- the allowances of a loop's lines
+unfoldable pub allowances : ℕ → Loop → List ℕ
+unfolding lineAllows
+allowances t [] = []
+allowances t (p ∷ ps) = lineAllows t (p .line) ∷ allowances t ps
+
+unfoldable pub total : List ℕ → ℕ
+total [] = zero
+total (a ∷ rest) = a + total rest
+
+-- "a loop is within exactly if m*m <= 10*t*t*L; equal is within": over the list of its lines' allowances
+unfoldable pub within : List ℕ → ℤ → Bool
+unfolding total
+within allowed m = leb (natAbs m * natAbs m) (10 * total allowed)
+
+-- "verdict (0 within, 1 over)"
+unfoldable pub verdict : ℕ → Loop → ℤ
+unfolding within allowances misclosure
+verdict t lp = cond (within (allowances t lp) (misclosure lp)) (pos 0) (pos 1)
+
+abbrev pub closingNumber : Loop → ℕ
+closingNumber [] = zero
+closingNumber (p ∷ ps) = p .line .number
+
+-- "A report row is five numbers: closing line, count of lines, length, misclosure, verdict"
+unfoldable pub row : ℕ → Loop → List ℤ
+unfolding wayLength misclosure verdict
+row t lp = pos (closingNumber lp) ∷ pos (length lp) ∷ pos (wayLength lp) ∷ misclosure lp ∷ verdict t lp ∷ []
+
+-- "The kept report is the rows", one after the other
+unfoldable pub rows : ℕ → List Loop → List ℤ
+unfolding row
+rows t [] = []
+rows t (l ∷ ls) = row t l ++ rows t ls

@@ -1,0 +1,117 @@
+-- Withdrawing a line makes at most one piece more. Assumes nothing.
+use Prim.Native.Nat.{ℕ, suc, _≤_, _<_}
+use native.Mathlib.Omega.{arith}
+use native.Mathlib.Decide.{ℕ-discrete}
+use mathlib.Core.Path.{_≡_, sym, _∙_, ap, subst}
+use mathlib.Core.Logic.{_⊎_, inl, inr}
+use mathlib.Core.Bool.{true, false}
+use mathlib.Core.List.{List, [], _∷_, _++_, List·Memᴰ}
+use Rattle.network.specs.Standing.{Line}
+use Rattle.network.specs.Sound.{Sound}
+use Rattle.network.specs.Walk.{Ends, along, against, Pass, start, stop, Walk, here, step}
+use Rattle.network.specs.Tree.{tree, pieces}
+use Rattle.network.specs.Without.{without}
+use Rattle.network.proofs.ClosingLines.{has-distance}
+use Rattle.network.proofs.Count.{unique}
+use Rattle.network.proofs.Descent.{clash}
+use Rattle.network.proofs.Growth.{tree-grows}
+use Rattle.network.proofs.Roots.{rootAt, count-one-more, pieces-are-roots, root-is-lowest, ToRoot, to-its-root}
+use Rattle.network.proofs.Shortest.{endsOf}
+use Rattle.network.proofs.Walks.{Way, walk-append, way-back}
+use Rattle.network.proofs.Withdrawn.{sound-without}
+use Rattle.network.proofs.Without.{in-without}
+
+-- m is one of the line's two ends
+abbrev EndOf : Line → ℕ → Type 0
+EndOf l m = (m ≡ l .from) ⊎ (m ≡ l .to)
+
+pass-ends : (p : Pass) → EndOf (p .line) (start p) × EndOf (p .line) (stop p)
+pass-ends p = go (endsOf p)
+  where
+    go : {u v : ℕ} → Ends (p .line) u v → EndOf (p .line) u × EndOf (p .line) v
+    go (along a c) = (inl (sym a), inr (sym c))
+    go (against a c) = (inr (sym a), inl (sym c))
+
+module _ (b : ℕ) (lines : List Line) (sound : Sound b lines) (l : Line) (stands : List·Memᴰ l lines) where
+  abbrev few : List Line
+  few = without (l .number) lines
+
+  -- a walk runs without the line, or it leads to one end of the line and goes on from one
+  data Cut (r u : ℕ) : Type 0 where
+    whole : Way few r u → Cut r u
+    parts : (a c : ℕ) → EndOf l a → EndOf l c → Way few a u → Way few r c → Cut r u
+
+  cut : {r u : ℕ} {w : List Pass} → Walk lines r u w → Cut r u
+  cut (here e) = whole ([], here e)
+  cut {r = r} {u = u} (step {p = p} s m w) = go (ℕ-discrete (p .line .number) (l .number)) (cut w)
+    where
+      go : Dec (p .line .number ≡ l .number) → Cut r (stop p) → Cut r u
+      go (no d) (whole (v, x)) = whole (p ∷ v, step s (in-without (l .number) lines (p .line) m d) x)
+      go (no d) (parts a c i j (v, x) y) = parts a c i j (p ∷ v, step s (in-without (l .number) lines (p .line) m d) x) y
+      go (yes e) rest = own (unique lines (sound .rising) (p .line) l m stands e) rest
+        where
+          own : p .line ≡ l → Cut r (stop p) → Cut r u
+          own z (whole y) = parts (start p) (stop p) (subst (λ (k : Line). EndOf k (start p)) z (pass-ends p .0)) (subst (λ (k : Line). EndOf k (stop p)) z (pass-ends p .1)) ([], here (sym s)) y
+          own z (parts a c i j x y) = parts (start p) c (subst (λ (k : Line). EndOf k (start p)) z (pass-ends p .0)) j ([], here (sym s)) y
+
+  -- of three ends of one line two are the same
+  two-of-three : (x y z : ℕ) → EndOf l x → EndOf l y → EndOf l z → (x ≡ y) ⊎ ((x ≡ z) ⊎ (y ≡ z))
+  two-of-three x y z (inl p) (inl q) r = inl (p ∙ sym q)
+  two-of-three x y z (inr p) (inr q) r = inl (p ∙ sym q)
+  two-of-three x y z (inl p) (inr q) (inl r) = inr (inl (p ∙ sym r))
+  two-of-three x y z (inl p) (inr q) (inr r) = inr (inr (q ∙ sym r))
+  two-of-three x y z (inr p) (inl q) (inl r) = inr (inr (q ∙ sym r))
+  two-of-three x y z (inr p) (inl q) (inr r) = inr (inl (p ∙ sym r))
+
+  -- from u to a mark, and on from there
+  then-on : {r u a c : ℕ} → a ≡ c → Way few a u → Way few r c → Way few r u
+  then-on {r = r} e x y = (x .0 ++ y .0, walk-append (x .1) (subst (λ (m : ℕ). Walk few r m (y .0)) (sym e) (y .1)))
+
+  -- a root of the book without the line
+  Root′ : ℕ → Type 0
+  Root′ m = rootAt (tree b few) m ≡ true
+
+  lowest′ : (m r : ℕ) → Root′ m → 0 < r → r < m → Way few r m → ⊥
+  unfolding Root′
+  lowest′ m r h low lt w = root-is-lowest b few (sound-without sound (l .number)) (tree-grows b few (sound-without sound (l .number))) m r h low lt (w .1)
+
+  -- a mark that is no root is joined with a lower one
+  joined-lower : (m : ℕ) → 0 < m → m ≤ b → rootAt (tree b lines) m ≡ false → (r : ℕ) × (0 < r) × (r < m) × Way lines r m
+  joined-lower m low high h =
+      let d = has-distance b lines sound m low high in
+      go (to-its-root b lines sound (tree-grows b lines sound) m (d .0) (d .1))
+    where
+      go : ToRoot b lines sound (tree b lines) m → (r : ℕ) × (0 < r) × (r < m) × Way lines r m
+      go t = (t .root, t .low, strictly (ℕ-discrete (t .root) m), t .way)
+        where
+          strictly : Dec (t .root ≡ m) → t .root < m
+          strictly (yes e) = clash (ap (rootAt (tree b lines)) (sym e) ∙ t .isRoot) h
+          strictly (no n) = omega (arith, t .notAbove)
+
+  -- no two marks become roots
+  one-new-root : (m n : ℕ) → 0 < m → m < n → n ≤ b → Root′ m → rootAt (tree b lines) m ≡ false → Root′ n → rootAt (tree b lines) n ≡ false → ⊥
+  one-new-root m n low lt high rm om rn on = go (joined-lower m low (omega arith) om) (joined-lower n (omega arith) high on)
+    where
+      go : (r : ℕ) × (0 < r) × (r < m) × Way lines r m → (s : ℕ) × (0 < s) × (s < n) × Way lines s n → ⊥
+      go (r, zr, lr, wr) (s, zs, ls, ws) = meet (cut (wr .1)) (cut (ws .1))
+        where
+          meet : Cut r m → Cut s n → ⊥
+          meet (whole x) y = lowest′ m r rm zr lr x
+          meet (parts a c i j x y) (whole z) = lowest′ n s rn zs ls z
+          meet (parts a c i j x y) (parts e f p q z t) = hit (two-of-three a c e i j p)
+            where
+              hit : (a ≡ c) ⊎ ((a ≡ e) ⊎ (c ≡ e)) → ⊥
+              hit (inl z′) = lowest′ m r rm zr lr (then-on z′ x y)
+              hit (inr (inl z′)) = lowest′ n m rn low lt (then-on (sym z′) z (way-back (x .1)))
+              hit (inr (inr z′)) = lowest′ n r rn zr (omega arith) (then-on (sym z′) z y)
+
+  -- withdrawing a line makes at most one piece more
+  pub one-piece-more : pieces (tree b (without (l .number) lines)) ≤ suc (pieces (tree b lines))
+  unfolding Root′
+  one-piece-more =
+      omega (
+        arith,
+        pieces-are-roots b few (sound-without sound (l .number)) (tree-grows b few (sound-without sound (l .number))),
+        pieces-are-roots b lines sound (tree-grows b lines sound),
+        count-one-more (rootAt (tree b few)) (rootAt (tree b lines)) b one-new-root,
+      )

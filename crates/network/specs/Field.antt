@@ -1,0 +1,50 @@
+-- Where the numbers of a line stand in a lent book.
+-- Assumes nothing.
+use Prim.Native.Nat.{ℕ, suc, _+_, _*_, _≤_}
+use mathlib.Core.Path.{_≡_}
+use mathlib.Core.List.{List}
+use lib.IntN.{ℤ, pos, natAbs}
+use lib.ListN.{length, getD}
+use Rattle.network.specs.Standing.{Line, line}
+
+-- "a line is five signed 64-bit numbers in a lent slice: from, to, difference, length, standing"
+abbrev pub numbersOfLine : ℕ
+numbersOfLine = 5
+
+abbrev pub fromField : ℕ
+fromField = 0
+
+abbrev pub toField : ℕ
+toField = 1
+
+abbrev pub differenceField : ℕ
+differenceField = 2
+
+abbrev pub lengthField : ℕ
+lengthField = 3
+
+abbrev pub standingField : ℕ
+standingField = 4
+
+-- where field k of line i stands; lines are counted from 0 here
+abbrev pub place : ℕ → ℕ → ℕ
+place i k = numbersOfLine * i + k
+
+abbrev pub field : List ℤ → ℕ → ℕ → ℤ
+field book i k = getD book (place i k) (pos 0)
+
+-- the book has a line i
+abbrev pub HasLine : List ℤ → ℕ → Type 0
+HasLine book i = place i numbersOfLine ≤ length book
+
+-- line i of the book under the number n
+abbrev pub lineAt : ℕ → List ℤ → ℕ → Line
+lineAt n book i =
+    line n (natAbs (field book i fromField)) (natAbs (field book i toField)) (field book i differenceField) (natAbs (field book i lengthField))
+
+-- line i of the book stands, and under the number n it is l
+pub record StandsAt (book : List ℤ) (i n : ℕ) (l : Line) : Type 0 where
+  pub isThere : HasLine book i
+  pub beyond : ℕ
+  pub stands : field book i standingField ≡ pos (suc beyond)
+  pub its : l ≡ lineAt n book i

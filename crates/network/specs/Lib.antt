@@ -1,0 +1,13 @@
+pub mod Standing
+pub mod Field
+pub mod Sound
+pub mod Walk
+pub mod Tree
+pub mod Closing
+pub mod Path
+pub mod Subgraph
+pub mod Growth
+pub mod Pairwise
+pub mod ClosingOrder
+pub mod Redone
+pub mod Without

@@ -1,0 +1,38 @@
+-- The standing lines of a lent book. Document 01: "Only standing lines count."
+-- Assumes nothing.
+use Prim.Native.Nat.{ℕ, zero, suc}
+use mathlib.Core.List.{List, [], _∷_}
+use lib.IntN.{ℤ, pos, negsuc, natAbs}
+
+-- A standing line: its number in the book, its two ends, its difference from `from` to `to` in micrometres, its length in metres
+pub record Line : Type 0 where
+  pub number : ℕ
+  pub from : ℕ
+  pub to : ℕ
+  pub difference : ℤ
+  pub length : ℕ
+
+abbrev pub line : ℕ → ℕ → ℕ → ℤ → ℕ → Line
+line n f t d l = record { number = n; from = f; to = t; difference = d; length = l }
+
+-- the line l in front of the others where its standing is 1; "a withdrawn line keeps its number" and is left out
+unfoldable pub keep : ℤ → Line → List Line → List Line
+keep (pos zero) l ls = ls
+keep (pos (suc k)) l ls = l ∷ ls
+keep (negsuc k) l ls = ls
+
+-- "a line is five signed 64-bit numbers in a lent slice: from, to, difference, length, standing"; the first line here has the number k
+unfoldable pub standingFrom : ℕ → List ℤ → List Line
+unfolding keep
+standingFrom k [] = []
+standingFrom k (f ∷ []) = []
+standingFrom k (f ∷ t ∷ []) = []
+standingFrom k (f ∷ t ∷ d ∷ []) = []
+standingFrom k (f ∷ t ∷ d ∷ l ∷ []) = []
+standingFrom k (f ∷ t ∷ d ∷ l ∷ s ∷ rest) =
+    keep s (line k (natAbs f) (natAbs t) d (natAbs l)) (standingFrom (suc k) rest)
+
+-- "Lines are numbered from 1." The standing lines, by rising number
+unfoldable pub standing : List ℤ → List Line
+unfolding standingFrom
+standing lines = standingFrom 1 lines
