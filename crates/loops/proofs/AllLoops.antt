@@ -2,10 +2,10 @@
 use Prim.Native.Nat.{ℕ}
 use mathlib.Core.Path.{_≡_, refl, ap₂, subst}
 use mathlib.Core.Logic.{_⊎_, inl, inr}
-use mathlib.Core.Bool.{true}
+use mathlib.Core.Bool.{true, false}
 use mathlib.Core.List.{List, [], _∷_, List·Memᴰ, List·Memᴰ·head, List·Memᴰ·tail}
 use lib.Dec.{eqb}
-use borrow.Author.Tests.{eqb-true, eq-eqb}
+use borrow.Author.Tests.{eqb-true, eq-eqb, ne-eqb}
 use Rattle.network.specs.Standing.{Line}
 use Rattle.network.specs.Sound.{Sound}
 use Rattle.network.specs.Pairwise.{Pairwise}
@@ -69,6 +69,19 @@ first-or-in c n ns h = go (or-true (eqb c n) (isIn n ns) h)
     go : (eqb c n ≡ true) ⊎ (isIn n ns ≡ true) → (c ≡ n) ⊎ (isIn n ns ≡ true)
     go (inl e) = inl (eqb-true c n e)
     go (inr h) = inr h
+
+-- whatever the path, a number of the subgraph stays in it when the closing line c is taken
+pub in-added : (c : ℕ) (p : List Pass) (sub : List ℕ) (n : ℕ) → isIn n sub ≡ true → isIn n (added c p sub) ≡ true
+in-added c [] sub n h = in-more c n sub h
+in-added c (p ∷ []) sub n h = h
+in-added c (p ∷ q ∷ ps) sub n h = in-more c n sub h
+
+-- and no number but that of c comes in
+pub out-added : (c : ℕ) (p : List Pass) (sub : List ℕ) (n : ℕ) → (c ≡ n → ⊥) → isIn n sub ≡ false → isIn n (added c p sub) ≡ false
+unfolding isIn
+out-added c [] sub n d h = rw (ne-eqb c n d) h
+out-added c (p ∷ []) sub n d h = h
+out-added c (p ∷ q ∷ ps) sub n d h = rw (ne-eqb c n d) h
 
 -- every number of ns is one of ms
 abbrev pub Within : List ℕ → List ℕ → Type 0

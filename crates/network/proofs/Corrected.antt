@@ -7,9 +7,10 @@ use mathlib.Core.List.{List, [], _∷_, List·Memᴰ, List·Memᴰ·head, List·
 use lib.IntN.{ℤ, pos, negsuc, natAbs}
 use lib.ListN.{length, getD, set}
 use borrow.Author.Tests.{eq-eqb, ne-eqb}
+use Rattle.book.specs.Line.{lineWords}
 use Rattle.network.specs.Standing.{Line, line, keep, standingFrom, standing}
 use Rattle.network.specs.Sound.{Placed, Sound}
-use Rattle.network.specs.Field.{numbersOfLine, fromField, toField, differenceField, lengthField, standingField, place, field, HasLine, lineAt, StandsAt}
+use Rattle.network.specs.Field.{fromField, toField, differenceField, lengthField, standingField, place, field, HasLine, lineAt, StandsAt}
 use Rattle.network.specs.Redone.{measured, newDifference, redone}
 use Rattle.network.specs.Without.{without}
 use Rattle.network.proofs.Standing.{from-on, rising-standing}
@@ -31,7 +32,7 @@ lineAt-on n a c d e s rest j =
 data FirstLine : List ℤ → Type 0 where
   first-line : (a c d e s : ℤ) (rest : List ℤ) → FirstLine (a ∷ c ∷ d ∷ e ∷ s ∷ rest)
 
-has-first : (book : List ℤ) → numbersOfLine ≤ length book → FirstLine book
+has-first : (book : List ℤ) → lineWords ≤ length book → FirstLine book
 has-first [] h = absurd (omega arith)
 has-first (a ∷ []) h = absurd (omega arith)
 has-first (a ∷ c ∷ []) h = absurd (omega arith)

@@ -10,6 +10,7 @@ use lib.ListN.{length, length-append}
 use borrow.Author.Tests.{eqb-true, eq-eqb, ne-eqb}
 use Rattle.network.specs.Standing.{Line}
 pub use Rattle.network.specs.Sound.{Placed, Apart}
+pub use Rattle.network.specs.Piece.{bit}
 use Rattle.network.specs.Tree.{Entry, Tree, Candidate, candidate, distance, score, far, tree, pieces, roots1, treeLines, lines1}
 use Rattle.network.specs.Closing.{insert, insertOf, sameLine, closerOf, closersAt, justLines, closing}
 use Rattle.network.proofs.Grown.{score-of, After, new, old, after, ByLine, ByRoot, Grown, empty, byLine, byRoot, isNew}
@@ -29,10 +30,6 @@ tree-and-roots (e ∷ es) = go (e .by) (tree-and-roots es)
     go (some l) h = simp length-append (omega (arith, h))
 
 -- ---- counting lines by a test
-
-abbrev pub bit : Bool → ℕ
-bit true = 1
-bit false = 0
 
 abbrev pub count : (Line → Bool) → List Line → ℕ
 count f [] = 0

@@ -1,25 +1,54 @@
--- Withdrawing a line makes at most one piece more. Assumes nothing.
+-- The pieces: as many as marks that are the lowest of their piece; and withdrawing a line makes at most one more. Assumes nothing.
 use Prim.Native.Nat.{ℕ, suc, _≤_, _<_}
 use native.Mathlib.Omega.{arith}
 use native.Mathlib.Decide.{ℕ-discrete}
-use mathlib.Core.Path.{_≡_, sym, _∙_, ap, subst}
-use mathlib.Core.Logic.{_⊎_, inl, inr}
-use mathlib.Core.Bool.{true, false}
+use mathlib.Core.Path.{_≡_, refl, sym, _∙_, ap, subst}
+use mathlib.Core.Logic.{_⊎_, inl, inr, _↔_}
+use mathlib.Core.Bool.{Bool, true, false}
 use mathlib.Core.List.{List, [], _∷_, _++_, List·Memᴰ}
 use Rattle.network.specs.Standing.{Line}
 use Rattle.network.specs.Sound.{Sound}
 use Rattle.network.specs.Walk.{Ends, along, against, Pass, start, stop, Walk, here, step}
 use Rattle.network.specs.Tree.{tree, pieces}
+use Rattle.network.specs.Piece.{LowestOfPiece, rootAt, countTo}
 use Rattle.network.specs.Without.{without}
 use Rattle.network.proofs.ClosingLines.{has-distance}
 use Rattle.network.proofs.Count.{unique}
 use Rattle.network.proofs.Descent.{clash}
 use Rattle.network.proofs.Growth.{tree-grows}
-use Rattle.network.proofs.Roots.{rootAt, count-one-more, pieces-are-roots, root-is-lowest, ToRoot, to-its-root}
+use Rattle.network.proofs.Roots.{count-one-more, pieces-are-roots, root-is-lowest, ToRoot, to-its-root}
 use Rattle.network.proofs.Shortest.{endsOf}
 use Rattle.network.proofs.Walks.{Way, walk-append, way-back}
 use Rattle.network.proofs.Withdrawn.{sound-without}
 use Rattle.network.proofs.Without.{in-without}
+
+module _ (b : ℕ) (lines : List Line) (sound : Sound b lines) where
+  -- a mark that is no root is joined with a lower one
+  joined-lower : (m : ℕ) → 0 < m → m ≤ b → rootAt (tree b lines) m ≡ false → (r : ℕ) × (0 < r) × (r < m) × Way lines r m
+  joined-lower m low high h =
+      let d = has-distance b lines sound m low high in
+      go (to-its-root b lines sound (tree-grows b lines sound) m (d .0) (d .1))
+    where
+      go : ToRoot b lines sound (tree b lines) m → (r : ℕ) × (0 < r) × (r < m) × Way lines r m
+      go t = (t .root, t .low, strictly (ℕ-discrete (t .root) m), t .way)
+        where
+          strictly : Dec (t .root ≡ m) → t .root < m
+          strictly (yes e) = clash (ap (rootAt (tree b lines)) (sym e) ∙ t .isRoot) h
+          strictly (no n) = omega (arith, t .notAbove)
+
+  -- a mark of the book is a root exactly if it is the lowest of its piece
+  pub root-exactly-if-lowest : (m : ℕ) → 0 < m → m ≤ b → (rootAt (tree b lines) m ≡ true) ↔ LowestOfPiece lines m
+  root-exactly-if-lowest m low high = (λ h r z lt w x. root-is-lowest b lines sound (tree-grows b lines sound) m r h z lt x, λ f. go f (rootAt (tree b lines) m) refl)
+    where
+      go : LowestOfPiece lines m → (t : Bool) → rootAt (tree b lines) m ≡ t → t ≡ true
+      go f true e = refl
+      go f false e = let k = joined-lower m low high e in absurd (f (k .0) (k .1) (k .2) (k .3 .0) (k .3 .1))
+
+  -- there are as many pieces as roots, so as many as marks that are the lowest of their piece
+  pub as-many-pieces-as-roots : pieces (tree b lines) ≡ countTo (rootAt (tree b lines)) b
+  as-many-pieces-as-roots = pieces-are-roots b lines sound (tree-grows b lines sound)
+
+-- ---- a line withdrawn
 
 -- m is one of the line's two ends
 abbrev EndOf : Line → ℕ → Type 0
@@ -75,22 +104,9 @@ module _ (b : ℕ) (lines : List Line) (sound : Sound b lines) (l : Line) (stand
   unfolding Root′
   lowest′ m r h low lt w = root-is-lowest b few (sound-without sound (l .number)) (tree-grows b few (sound-without sound (l .number))) m r h low lt (w .1)
 
-  -- a mark that is no root is joined with a lower one
-  joined-lower : (m : ℕ) → 0 < m → m ≤ b → rootAt (tree b lines) m ≡ false → (r : ℕ) × (0 < r) × (r < m) × Way lines r m
-  joined-lower m low high h =
-      let d = has-distance b lines sound m low high in
-      go (to-its-root b lines sound (tree-grows b lines sound) m (d .0) (d .1))
-    where
-      go : ToRoot b lines sound (tree b lines) m → (r : ℕ) × (0 < r) × (r < m) × Way lines r m
-      go t = (t .root, t .low, strictly (ℕ-discrete (t .root) m), t .way)
-        where
-          strictly : Dec (t .root ≡ m) → t .root < m
-          strictly (yes e) = clash (ap (rootAt (tree b lines)) (sym e) ∙ t .isRoot) h
-          strictly (no n) = omega (arith, t .notAbove)
-
   -- no two marks become roots
   one-new-root : (m n : ℕ) → 0 < m → m < n → n ≤ b → Root′ m → rootAt (tree b lines) m ≡ false → Root′ n → rootAt (tree b lines) n ≡ false → ⊥
-  one-new-root m n low lt high rm om rn on = go (joined-lower m low (omega arith) om) (joined-lower n (omega arith) high on)
+  one-new-root m n low lt high rm om rn on = go (joined-lower b lines sound m low (omega arith) om) (joined-lower b lines sound n (omega arith) high on)
     where
       go : (r : ℕ) × (0 < r) × (r < m) × Way lines r m → (s : ℕ) × (0 < s) × (s < n) × Way lines s n → ⊥
       go (r, zr, lr, wr) (s, zs, ls, ws) = meet (cut (wr .1)) (cut (ws .1))
@@ -111,7 +127,7 @@ module _ (b : ℕ) (lines : List Line) (sound : Sound b lines) (l : Line) (stand
   one-piece-more =
       omega (
         arith,
-        pieces-are-roots b few (sound-without sound (l .number)) (tree-grows b few (sound-without sound (l .number))),
-        pieces-are-roots b lines sound (tree-grows b lines sound),
+        as-many-pieces-as-roots b few (sound-without sound (l .number)),
+        as-many-pieces-as-roots b lines sound,
         count-one-more (rootAt (tree b few)) (rootAt (tree b lines)) b one-new-root,
       )

@@ -3,29 +3,24 @@ use Prim.Native.Nat.{ℕ, zero, suc, _+_, _≤_, _<_}
 use native.Mathlib.Omega.{arith}
 use native.Mathlib.Decide.{ℕ-discrete, decLt}
 use mathlib.Core.Path.{_≡_, refl, sym, _∙_, ap, subst}
-use mathlib.Core.Bool.{Bool, true, false, cond, false≢true}
+use mathlib.Core.Bool.{Bool, true, false, false≢true}
 use mathlib.Core.List.{List, [], _∷_, _++_}
 use mathlib.Core.Option.{Option, none, some}
-use lib.Dec.{eqb}
 use borrow.Author.Tests.{eq-eqb, ne-eqb}
 use Rattle.network.specs.Standing.{Line}
 use Rattle.network.specs.Sound.{Sound}
 use Rattle.network.specs.Walk.{Pass, Walk, here}
 use Rattle.network.specs.Tree.{Entry, entry, Tree, Candidate, distance, far, pieces}
+use Rattle.network.specs.Piece.{rootIf, rootAt, bit, countTo}
 use Rattle.network.specs.Growth.{EntersNext, Growth, nothing, enters, nextRoot}
 use Rattle.network.proofs.Grown.{Scored, scored, After, new, old, after, ends-to}
 use Rattle.network.proofs.Shortest.{never, turn, wasOut, shortest-of-all}
 use Rattle.network.proofs.Descent.{clash}
-use Rattle.network.proofs.Count.{bit, placed-end}
+use Rattle.network.proofs.Marks.{placed-end}
 use Rattle.network.proofs.Parallel.{growth-grown}
 use Rattle.network.proofs.Walks.{Way, walk-append, over}
 
 -- ---- counting marks
-
--- how many of the marks 1 to b pass the test f
-pub countTo : (ℕ → Bool) → ℕ → ℕ
-countTo f zero = 0
-countTo f (suc b) = bit (f (suc b)) + countTo f b
 
 count-same : (f g : ℕ → Bool) (b : ℕ) → ((m : ℕ) → m ≤ b → f m ≡ g m) → countTo f b ≡ countTo g b
 unfolding countTo
@@ -68,16 +63,6 @@ count-one-more f g (suc b) h = go (f (suc b)) (g (suc b)) refl refl (count-one-m
     go false false p q ih = omega arith
 
 -- ---- roots
-
--- an entry by no line is a root
-abbrev pub rootIf : Option Line → Bool
-rootIf none = true
-rootIf (some l) = false
-
--- mark m entered as a root
-unfoldable pub rootAt : Tree → ℕ → Bool
-rootAt [] m = false
-rootAt (e ∷ es) m = cond (eqb (e .mark) m) (rootIf (e .by)) (rootAt es m)
 
 root-new : (e : Entry) (es : Tree) → rootAt (e ∷ es) (e .mark) ≡ rootIf (e .by)
 unfolding rootAt

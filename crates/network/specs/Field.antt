@@ -5,12 +5,10 @@ use mathlib.Core.Path.{_≡_}
 use mathlib.Core.List.{List}
 use lib.IntN.{ℤ, pos, natAbs}
 use lib.ListN.{length, getD}
+use Rattle.book.specs.Line.{lineWords}
 use Rattle.network.specs.Standing.{Line, line}
 
--- "a line is five signed 64-bit numbers in a lent slice: from, to, difference, length, standing"
-abbrev pub numbersOfLine : ℕ
-numbersOfLine = 5
-
+-- the places of a line's numbers
 abbrev pub fromField : ℕ
 fromField = 0
 
@@ -28,14 +26,14 @@ standingField = 4
 
 -- where field k of line i stands; lines are counted from 0 here
 abbrev pub place : ℕ → ℕ → ℕ
-place i k = numbersOfLine * i + k
+place i k = i * lineWords + k
 
 abbrev pub field : List ℤ → ℕ → ℕ → ℤ
 field book i k = getD book (place i k) (pos 0)
 
 -- the book has a line i
 abbrev pub HasLine : List ℤ → ℕ → Type 0
-HasLine book i = place i numbersOfLine ≤ length book
+HasLine book i = place i lineWords ≤ length book
 
 -- line i of the book under the number n
 abbrev pub lineAt : ℕ → List ℤ → ℕ → Line

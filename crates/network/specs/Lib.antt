@@ -7,6 +7,7 @@ pub mod Closing
 pub mod Path
 pub mod Subgraph
 pub mod Growth
+pub mod Piece
 pub mod Pairwise
 pub mod ClosingOrder
 pub mod Redone

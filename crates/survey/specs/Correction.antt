@@ -1,0 +1,83 @@
+-- What re-run and withdrawal answer, and what the book's lines and its kept report then hold: refusals 4, 6, 7, 8 and 9.
+-- Assumes nothing.
+use mathlib.Core.Bool.{Bool, true, false, not, cond, _||_}
+use mathlib.Core.List.{List, [], _∷_, _++_}
+use Prim.Native.Nat.{ℕ, _+_, _-_, _*_}
+use lib.Dec.{ltb}
+use lib.ListN.{length, take, drop, set, replicate}
+use lib.IntN.{ℤ, pos, natAbs}
+use Rattle.laws.specs.Tests.{outZ, eqZ}
+use Rattle.book.specs.Line.{lineWords, lineCount, standingAt, differenceOut}
+use Rattle.book.specs.Test.{testOf}
+use Rattle.book.specs.declared.Book.{Book}
+use Rattle.book.specs.declared.Tested.{Tested}
+use Rattle.book.specs.declared.Tested.the-variants.{Good, Refused}
+use Rattle.survey.specs.Report.{reportOf, refusal, counted}
+use Rattle.survey.specs.declared.Answer.{Answer}
+
+-- the answer, and lines and report after the call
+pub record Corrected : Type 0 where
+  pub answer : Answer
+  pub lines : List ℤ
+  pub report : List ℤ
+
+abbrev pub corrected : Answer → List ℤ → List ℤ → Corrected
+corrected a lines report = record { answer = a; lines = lines; report = report }
+
+-- "no such line .. also a withdrawn line": the line of this number does not stand
+unfoldable pub noLine : List ℤ → ℤ → Bool
+noLine lines number = outZ (pos 1) (pos (lineCount lines)) number || eqZ (standingAt lines (natAbs number - 1)) (pos 0)
+
+-- the two lists of numbers are the same
+unfoldable pub sameNumbers : List ℤ → List ℤ → Bool
+sameNumbers [] [] = true
+sameNumbers [] (y ∷ ys) = false
+sameNumbers (x ∷ xs) [] = false
+sameNumbers (x ∷ xs) (y ∷ ys) = cond (eqZ x y) (sameNumbers xs ys) false
+
+-- "lent report is shorter than this book's rows, or differs from them in their places"
+unfoldable pub otherReport : List ℤ → List ℤ → Bool
+unfolding sameNumbers
+otherReport report now = not (sameNumbers (take (length now) report) now)
+
+-- the kept report brought up to date: the rows of the book as it then stands; "if the loops become one fewer, the vacated last row becomes zeros";
+-- places past the old rows unchanged
+unfoldable pub updated : List ℤ → List ℤ → List ℤ → List ℤ
+updated report old new = new ++ replicate (length old - length new) (pos 0) ++ drop (length old) report
+
+-- a correction of a good book's line makes its lines new
+unfoldable pub correctGood : Book → List ℤ → List ℤ → ℤ → List ℤ → Corrected
+unfolding noLine otherReport updated reportOf counted
+correctGood k lines report number new =
+    let before = reportOf (k .marks) (k .tolerance) lines in
+    cond (noLine lines number) (corrected (refusal 8 0) lines report)
+    (cond (otherReport report before) (corrected (refusal 9 0) lines report)
+    (corrected (counted (k .marks) new) new (updated report before (reportOf (k .marks) (k .tolerance) new))))
+
+unfoldable pub correctTested : List ℤ → List ℤ → ℤ → List ℤ → Tested → Corrected
+unfolding correctGood
+correctTested lines report number new (Refused r) = corrected (refusal (r .number) (r .place)) lines report
+correctTested lines report number new (Good k) = correctGood k lines report number new
+
+-- the place in the slice of a line's k-th number, by the line's number from 1
+abbrev pub placeOf : ℤ → ℕ → ℕ
+placeOf number k = (natAbs number - 1) * lineWords + k
+
+-- "Re-run sets the line's difference to the new one .. and nothing else in the book changes"
+unfoldable pub rerunLines : List ℤ → ℤ → ℤ → List ℤ
+rerunLines lines number difference = set lines (placeOf number 2) difference
+
+-- "withdrawal its standing to 0"
+unfoldable pub withdrawLines : List ℤ → ℤ → List ℤ
+withdrawLines lines number = set lines (placeOf number 4) (pos 0)
+
+-- 4 is also "a new difference outside its limit"
+unfoldable pub rerunOf : ℤ → ℤ → List ℤ → List ℤ → List ℤ → ℤ → ℤ → Corrected
+unfolding correctTested testOf rerunLines differenceOut
+rerunOf b t held lines report number difference =
+    cond (differenceOut difference) (corrected (refusal 4 0) lines report)
+    (correctTested lines report number (rerunLines lines number difference) (testOf b t held lines))
+
+unfoldable pub withdrawOf : ℤ → ℤ → List ℤ → List ℤ → List ℤ → ℤ → Corrected
+unfolding correctTested testOf withdrawLines
+withdrawOf b t held lines report number = correctTested lines report number (withdrawLines lines number) (testOf b t held lines)

@@ -1,0 +1,58 @@
+-- What the listing of one loop answers, and what the lent output then holds: refusals 4, 6, 7, 8 and 10.
+-- Assumes nothing.
+use mathlib.Core.Bool.{cond}
+use mathlib.Core.List.{List, [], _∷_, _++_, map}
+use Prim.Native.Nat.{ℕ, zero, suc, _-_}
+use lib.Dec.{ltb}
+use lib.ListN.{length, drop}
+use lib.IntN.{ℤ, pos, natAbs}
+use Rattle.laws.specs.Tests.{outZ}
+use Rattle.book.specs.Test.{testOf}
+use Rattle.book.specs.declared.Book.{Book}
+use Rattle.book.specs.declared.Tested.{Tested}
+use Rattle.book.specs.declared.Tested.the-variants.{Good, Refused}
+use Rattle.loops.specs.Loops.{Loop}
+use Rattle.loops.specs.Row.{listed}
+use Rattle.survey.specs.Report.{loopsOf}
+use Rattle.survey.specs.declared.Listed.{Listed}
+
+-- "a listing its entries"
+abbrev pub unlisted : ℕ → ℕ → Listed
+unlisted number place = record { number = number; place = place; entries = 0 }
+
+-- the answer, and the output after the call
+pub record Listing : Type 0 where
+  pub answer : Listed
+  pub out : List ℤ
+
+abbrev pub listing : Listed → List ℤ → Listing
+listing a out = record { answer = a; out = out }
+
+-- 10, or a whole list, with "places past the answer .. unchanged"
+unfoldable pub listOf : List ℤ → List ℤ → Listing
+listOf list out =
+    cond (ltb (length out) (length list)) (listing (unlisted 10 0) out)
+    (listing (record { number = 0; place = 0; entries = length list }) (list ++ drop (length list) out))
+
+-- the loop at place i, counted from 0
+unfoldable pub loopAt : List Loop → ℕ → Loop
+loopAt [] i = []
+loopAt (l ∷ ls) zero = l
+loopAt (l ∷ ls) (suc i) = loopAt ls i
+
+-- "lines and sense are listed from the book, loop by loop", by the loop's number from 1
+unfoldable pub listingGood : Book → List ℤ → ℤ → List ℤ → Listing
+unfolding loopsOf listOf loopAt
+listingGood k lines number out =
+    let found = loopsOf (k .marks) lines in
+    cond (outZ (pos 1) (pos (length found)) number) (listing (unlisted 8 0) out)
+    (listOf (map listed (loopAt found (natAbs number - 1))) out)
+
+unfoldable pub listingTested : List ℤ → ℤ → List ℤ → Tested → Listing
+unfolding listingGood
+listingTested lines number out (Refused r) = listing (unlisted (r .number) (r .place)) out
+listingTested lines number out (Good k) = listingGood k lines number out
+
+unfoldable pub listingOf : ℤ → ℤ → List ℤ → List ℤ → ℤ → List ℤ → Listing
+unfolding listingTested testOf
+listingOf b t held lines number out = listingTested lines number out (testOf b t held lines)

@@ -1,0 +1,38 @@
+-- What the survey answers, and what the lent rows then hold: refusals 4, 6, 7 and 10.
+-- Assumes nothing.
+use mathlib.Core.Bool.{cond}
+use mathlib.Core.List.{List, _++_}
+use lib.Dec.{ltb}
+use lib.ListN.{length, drop}
+use lib.IntN.{ℤ}
+use Rattle.book.specs.Test.{testOf}
+use Rattle.book.specs.declared.Book.{Book}
+use Rattle.book.specs.declared.Tested.{Tested}
+use Rattle.book.specs.declared.Tested.the-variants.{Good, Refused}
+use Rattle.survey.specs.Report.{reportOf, refusal, counted}
+use Rattle.survey.specs.declared.Answer.{Answer}
+
+-- the answer, and the rows after the call
+pub record Surveyed : Type 0 where
+  pub answer : Answer
+  pub rows : List ℤ
+
+abbrev pub surveyed : Answer → List ℤ → Surveyed
+surveyed a out = record { answer = a; rows = out }
+
+-- of a good book: 10, or its report, "Output places past the answer stay unchanged"
+unfoldable pub surveyGood : Book → List ℤ → List ℤ → Surveyed
+unfolding reportOf counted
+surveyGood k lines out =
+    let report = reportOf (k .marks) (k .tolerance) lines in
+    cond (ltb (length out) (length report)) (surveyed (refusal 10 0) out)
+    (surveyed (counted (k .marks) lines) (report ++ drop (length report) out))
+
+unfoldable pub surveyTested : List ℤ → List ℤ → Tested → Surveyed
+unfolding surveyGood
+surveyTested lines out (Refused r) = surveyed (refusal (r .number) (r .place)) out
+surveyTested lines out (Good k) = surveyGood k lines out
+
+unfoldable pub surveyOf : ℤ → ℤ → List ℤ → List ℤ → List ℤ → Surveyed
+unfolding surveyTested testOf
+surveyOf b t held lines out = surveyTested lines out (testOf b t held lines)

@@ -1,0 +1,13 @@
+// The public calls on a lent book.
+pub struct Answer {
+    pub number: usize,
+    pub place: usize,
+    pub rows: usize,
+    pub pieces: usize,
+}
+
+pub struct Listed {
+    pub number: usize,
+    pub place: usize,
+    pub entries: usize,
+}

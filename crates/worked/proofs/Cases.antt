@@ -1,0 +1,99 @@
+-- Document 01, "Proved as one list with a single statement, each change made to the book above": what each case gives is what document 01 says.
+-- Assumes nothing.
+use Prim.Native.Nat.{ℕ}
+use mathlib.Core.Path.{_≡_, refl}
+use mathlib.Core.List.{List, [], _∷_, _++_, map}
+use lib.IntN.{ℤ, pos, negℤ}
+use lib.ListN.{replicate}
+use Rattle.laws.specs.Tests.{outZ, outN, eqZ}
+use Rattle.laws.specs.Scan.{firstFrom, firstBad, anyBelow}
+use Rattle.network.specs.Standing as network
+use Rattle.network.specs.Tree.{tree, treeLines}
+use Rattle.network.specs.Subgraph.{numbers}
+use Rattle.network.specs.Walk.{pass}
+use Rattle.loops.specs.Row.{verdict}
+use Rattle.survey.specs.Survey.{Surveyed, surveyOf}
+use Rattle.survey.specs.Listing.{Listing, listingOf}
+use Rattle.survey.specs.NotChecked.{notCheckedOf}
+use Rattle.survey.specs.Correction.{Corrected, rerunOf, withdrawOf, withdrawLines}
+use Rattle.worked.specs.Network.{lines, held}
+use mathlib.Core.Bool.{true}
+
+-- a case: the lists of numbers that it gives, and those that document 01 says
+pub record Case : Type 0 where
+  pub gives : List (List ℤ)
+  pub says : List (List ℤ)
+
+abbrev case : List (List ℤ) → List (List ℤ) → Case
+case g s = record { gives = g; says = s }
+
+abbrev minus : ℕ → ℤ
+minus n = negℤ (pos n)
+
+abbrev places : ℕ → List ℤ
+places n = replicate n (pos 0)
+
+abbrev answer : ℕ → ℕ → List ℤ
+answer rows pieces = pos 0 ∷ pos 0 ∷ pos rows ∷ pos pieces ∷ []
+
+-- an answer and what the lent buffers then hold, as lists of numbers
+abbrev ofSurvey : Surveyed → List (List ℤ)
+ofSurvey s = (pos (s .answer .number) ∷ pos (s .answer .place) ∷ pos (s .answer .rows) ∷ pos (s .answer .pieces) ∷ []) ∷ s .rows ∷ []
+
+abbrev ofListing : Listing → List (List ℤ)
+ofListing l = (pos (l .answer .number) ∷ pos (l .answer .place) ∷ pos (l .answer .entries) ∷ []) ∷ l .out ∷ []
+
+abbrev ofCorrection : Corrected → List (List ℤ)
+ofCorrection c = (pos (c .answer .number) ∷ pos (c .answer .place) ∷ pos (c .answer .rows) ∷ pos (c .answer .pieces) ∷ []) ∷ c .report ∷ []
+
+abbrev row : ℕ → ℕ → ℕ → ℤ → ℕ → List ℤ
+row closing count length misclosure over = pos closing ∷ pos count ∷ pos length ∷ misclosure ∷ pos over ∷ []
+
+-- the morning's report
+report : List ℤ
+report = row 6 3 4450 (minus 40000) 1 ++ row 4 3 7600 (minus 5000) 0 ++ row 3 4 6750 (pos 65000) 1
+
+-- the verdict of a loop of 1,000 m with the misclosure m, at t = 40
+edge : ℤ → List (List ℤ)
+unfolding verdict
+edge m = (verdict 40 (pass (network.line 1 1 2 m 1000) true ∷ []) ∷ []) ∷ []
+
+pub cases : List Case
+unfolding lines held report edge surveyOf listingOf notCheckedOf rerunOf withdrawOf withdrawLines tree treeLines network.standing outZ outN eqZ firstFrom firstBad anyBelow
+cases =
+    -- (a) the three loops
+    case (ofSurvey (surveyOf (pos 5) (pos 120) held lines (places 15))) (answer 3 1 ∷ report ∷ [])
+    ∷ case (ofListing (listingOf (pos 5) (pos 120) held lines (pos 1) (places 3))) ((pos 0 ∷ pos 0 ∷ pos 3 ∷ []) ∷ (pos 6 ∷ minus 1 ∷ pos 5 ∷ []) ∷ [])
+    ∷ case (ofListing (listingOf (pos 5) (pos 120) held lines (pos 2) (places 3))) ((pos 0 ∷ pos 0 ∷ pos 3 ∷ []) ∷ (pos 4 ∷ pos 5 ∷ minus 7 ∷ []) ∷ [])
+    ∷ case (ofListing (listingOf (pos 5) (pos 120) held lines (pos 3) (places 4))) ((pos 0 ∷ pos 0 ∷ pos 4 ∷ []) ∷ (pos 3 ∷ pos 2 ∷ minus 6 ∷ minus 7 ∷ []) ∷ [])
+    ∷ case (ofListing (notCheckedOf (pos 5) (pos 120) held lines [])) ((pos 0 ∷ pos 0 ∷ pos 0 ∷ []) ∷ [] ∷ [])
+    -- (b) tree 1, 5, 7, 2 in that order
+    ∷ case (map pos (numbers (treeLines (tree 5 (network.standing lines)))) ∷ []) ((pos 1 ∷ pos 5 ∷ pos 7 ∷ pos 2 ∷ []) ∷ [])
+    -- (c) re-run of 6 to 2,428,000: only loop 1's verdict changes
+    ∷ case (ofCorrection (rerunOf (pos 5) (pos 120) held lines report (pos 6) (pos 2428000)))
+    (answer 3 1 ∷ (row 6 3 4450 (minus 22000) 0 ++ row 4 3 7600 (minus 5000) 0 ++ row 3 4 6750 (pos 47000) 1) ∷ [])
+    -- (d) withdraw 6: rows for 4 (unchanged) and 3, the vacated row zeros
+    ∷ case (ofCorrection (withdrawOf (pos 5) (pos 120) held lines report (pos 6)))
+    (answer 2 1 ∷ (row 4 3 7600 (minus 5000) 0 ++ row 3 5 8700 (pos 25000) 0 ++ places 5) ∷ [])
+    ∷ case (ofListing (listingOf (pos 5) (pos 120) held (withdrawLines lines (pos 6)) (pos 2) (places 5)))
+    ((pos 0 ∷ pos 0 ∷ pos 5 ∷ []) ∷ (pos 3 ∷ pos 2 ∷ minus 1 ∷ pos 5 ∷ minus 7 ∷ []) ∷ [])
+    -- (e) withdraw 3: two loops, line 2 not checked
+    ∷ case (ofCorrection (withdrawOf (pos 5) (pos 120) held lines report (pos 3)))
+    (answer 2 1 ∷ (row 6 3 4450 (minus 40000) 1 ++ row 4 3 7600 (minus 5000) 0 ++ places 5) ∷ [])
+    ∷ case (ofListing (notCheckedOf (pos 5) (pos 120) held (withdrawLines lines (pos 3)) (places 1))) ((pos 0 ∷ pos 0 ∷ pos 1 ∷ []) ∷ (pos 2 ∷ []) ∷ [])
+    -- (f) t = 40, L = 1000: m = 4000 within, -4000 within, 4001 over
+    ∷ case (edge (pos 4000)) ((pos 0 ∷ []) ∷ []) ∷ case (edge (minus 4000)) ((pos 0 ∷ []) ∷ []) ∷ case (edge (pos 4001)) ((pos 1 ∷ []) ∷ [])
+    -- (g) n = 0: no loop, b pieces
+    ∷ case (ofSurvey (surveyOf (pos 5) (pos 120) held [] [])) (answer 0 5 ∷ [] ∷ []) ∷ []
+
+abbrev gives : List Case → List (List (List ℤ))
+gives [] = []
+gives (c ∷ cs) = c .gives ∷ gives cs
+
+abbrev says : List Case → List (List (List ℤ))
+says [] = []
+says (c ∷ cs) = c .says ∷ says cs
+
+pub worked : gives cases ≡ says cases
+unfolding cases
+worked = refl
