@@ -12,7 +12,7 @@ use lib.IntN.{ℤ, pos, negℤ, natAbs}
 use borrow.Author.Tests.{eqb-true, ltb-false}
 use Rattle.laws.specs.Tests.{outZ, outN, eqZ}
 use Rattle.laws.proofs.Tests.{or-left, or-right, inN-low, inN-high, eqZ-apart}
-use Rattle.laws.proofs.Scans.{cond-zero, none-bad, none-below}
+use Rattle.laws.proofs.Scans.{cond-zero, none-bad, none-below, first-most}
 use Rattle.laws.proofs.Size.{Between, between, size-within}
 use Rattle.book.specs.Limits.{mostMarks, mostLines, mostHeld, mostTolerance, mostDifference, leastLength, mostLength, mostHeldHeight}
 use Rattle.book.specs.Height.{heldHeightOut}
@@ -127,22 +127,44 @@ module _ (b t : ℤ) (held lines : List ℤ) (k : Book) where
         each-line = λ i l. good-line (natAbs b) lines i (subst (λ (z : ℤ). lineBad z lines i ≡ false) (marks .is) (none-bad (lineBad b lines) n (none-first (firstBadLine b lines) (p₅ .0)) i l));
       })
 
--- a refusal has a number of the table
-Numbered : Tested → Type 0
-Numbered (Good k) = Unit {0}
-Numbered (Refused r) = 0 < r .number
+-- a refusal has a number of the table, and a place that is an entry's or 0
+pub record Numbered (r : Refusal) : Type 0 where
+  pub low : 0 < r .number
+  pub high : r .number ≤ 7
+  pub near : r .place ≤ mostLines
 
-numbered : (t : Bool) (number place : ℕ) (rest : Tested) → 0 < number → Numbered rest → Numbered (cond t (refused number place) rest)
-unfolding Numbered
-numbered true number place rest h n = h
-numbered false number place rest h n = n
+abbrev pub NumberedIf : Tested → Type 0
+NumberedIf (Good k) = Unit {0}
+NumberedIf (Refused r) = Numbered r
 
-pub tested-refused : (b t : ℤ) (held lines : List ℤ) (r : Refusal) → testOf b t held lines ≡ Refused r → 0 < r .number
-unfolding testOf Numbered
-tested-refused b t held lines r e =
-    subst Numbered e
-    (numbered (torn heldWords held) 4 0 _ (omega arith)
-    (numbered (torn lineWords lines) 4 0 _ (omega arith)
-    (numbered (bookOut b t (heldCount held) (lineCount lines)) 4 0 _ (omega arith)
-    (numbered (ltb 0 (firstBadHeld b held)) 6 (firstBadHeld b held) _ (omega arith)
-    (numbered (ltb 0 (firstBadLine b lines)) 7 (firstBadLine b lines) _ (omega arith) tt)))))
+numbered : (t : Bool) (number place : ℕ) (rest : Tested) → (t ≡ true → Numbered (record { number = number; place = place })) → (t ≡ false → NumberedIf rest)
+    → NumberedIf (cond t (refused number place) rest)
+numbered true number place rest h n = h refl
+numbered false number place rest h n = n refl
+
+module _ (b t : ℤ) (held lines : List ℤ) where
+  few-entries : bookOut b t (heldCount held) (lineCount lines) ≡ false → (heldCount held ≤ mostHeld) × (lineCount lines ≤ mostLines)
+  unfolding bookOut
+  few-entries e =
+      let out₁ = outZ (pos 1) (pos mostMarks) b in
+      let out₂ = outZ (pos 1) (pos mostTolerance) t in
+      let out₃ = outN 0 mostHeld (heldCount held) in
+      let out₄ = outN 0 mostLines (lineCount lines) in
+      let o₃ = or-left (out₁ || out₂ || out₃) out₄ e in
+      (inN-high 0 mostHeld (heldCount held) (or-right (out₁ || out₂) out₃ o₃), inN-high 0 mostLines (lineCount lines) (or-right (out₁ || out₂ || out₃) out₄ e))
+
+  pub tested-numbered : (r : Refusal) → testOf b t held lines ≡ Refused r → Numbered r
+  unfolding testOf firstBadHeld firstBadLine
+  tested-numbered r e =
+      subst NumberedIf e
+      (numbered (torn heldWords held) 4 0 _ four (λ _.
+      numbered (torn lineWords lines) 4 0 _ four (λ _.
+      numbered (bookOut b t (heldCount held) (lineCount lines)) 4 0 _ four (λ inside.
+      let few = few-entries inside in
+      let h = first-most (heldBad b held) (heldCount held) in
+      let n = first-most (lineBad b lines) (lineCount lines) in
+      numbered (ltb 0 (firstBadHeld b held)) 6 (firstBadHeld b held) _ (λ _. record { low = omega arith; high = omega arith; near = omega (arith, few .0, h) }) (λ _.
+      numbered (ltb 0 (firstBadLine b lines)) 7 (firstBadLine b lines) _ (λ _. record { low = omega arith; high = omega arith; near = omega (arith, few .1, n) }) (λ _. tt))))))
+    where
+      four : {P : Type 0} → P → Numbered (record { number = 4; place = 0 })
+      four p = record { low = omega arith; high = omega arith; near = omega arith }

@@ -13,7 +13,7 @@ use Rattle.book.specs.Held.{heldWords, heldCount}
 use Rattle.book.specs.Line.{lineWords, lineCount}
 use Rattle.book.specs.Test.{testOf}
 use Rattle.book.specs.Good.{GoodBook}
-use Rattle.book.proofs.Goods.{tested-good, tested-counts, tested-refused}
+use Rattle.book.proofs.Goods.{tested-good, tested-counts, tested-numbered}
 use Rattle.book.specs.declared.Book.{Book}
 use Rattle.book.specs.declared.Refusal.{Refusal}
 use Rattle.book.specs.declared.Tested.{Tested}
@@ -77,7 +77,7 @@ module _ (file : List ℕ) (held lines : List ℤ) where
       n = linesOf file (k .held) (k .lines)
 
       go : (o : Tested) → testOf b t h n ≡ o → ReadOrRefused (testedOf file k held lines o)
-      go (Refused r) e = refuses (r .number) (r .place) (tested-refused b t h n r e)
+      go (Refused r) e = refuses (r .number) (r .place) (tested-numbered b t h n r e .low)
       go (Good j) e =
           let same : j ≡ k = tested-counts b t h n j e ∙ rw (held-entries (k .held), line-entries (k .held) (k .lines)) in
           room-or-ten k (subst (λ (x : Book). GoodBook x b t h n) same (tested-good b t h n j e))

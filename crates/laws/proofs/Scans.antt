@@ -82,3 +82,18 @@ module _ (bad : ℕ → Bool) where
   pub none-bad : (n : ℕ) → firstBad bad n ≡ 0 → (i : ℕ) → i < n → bad i ≡ false
   unfolding firstBad
   none-bad n e i l = rw (zero-add i) at (none-from 0 n e i l)
+
+-- The number of the first bad entry is one of the entries', or 0.
+module _ (bad : ℕ → Bool) where
+  most-from : (i k : ℕ) → firstFrom bad i k ≤ i + k
+  unfolding firstFrom
+  most-from i zero = omega arith
+  most-from i (suc k) = go (bad i) (most-from (suc i) k)
+    where
+      go : (t : Bool) → firstFrom bad (suc i) k ≤ suc i + k → cond t (suc i) (firstFrom bad (suc i) k) ≤ i + suc k
+      go true h = omega arith
+      go false h = omega arith
+
+  pub first-most : (n : ℕ) → firstBad bad n ≤ n
+  unfolding firstBad
+  first-most n = let h = most-from 0 n in omega arith

@@ -1,0 +1,4 @@
+pub mod Keys
+pub mod Ranks
+pub mod Popping
+pub mod Members

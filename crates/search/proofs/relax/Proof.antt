@@ -1,0 +1,88 @@
+use Prim.Native.Nat.{ℕ, zero, suc, _+_, _-_, _*_, _/_, _%_, _≤_, _<_}
+use borrow.Author.Needs.{needs}
+use native.Mathlib.Omega.{arith}
+use mathlib.Core.Path.{_≡_, refl, sym, _∙_, ap}
+use mathlib.Core.Logic.{_⊎_, inl, inr}
+use lib.ListN.{length, getD, set, length-set}
+use borrow.Author.Tests.{ltb-true, ltb-false}
+use Rattle.chains.specs.Chains.{Nodes}
+use Rattle.search.specs.Front.{Stage, Offered, kept, fell, Relaxed}
+use Rattle.search.proofs.Laws.{Relaxing, relax-start, relax-turn, relax-end}
+use Rattle.chains.specs.Chains.{Nodes}
+use Rattle.search.specs.Front.{Stage, Offered, kept, fell, Relaxed}
+use Rattle.search.proofs.Laws.{Relaxing, relax-start, relax-next, relax-end}
+use Rattle.search.proofs.relax.Statement.{statement}
+use Rattle.search.proofs.relax.Tie as tie
+
+abbrev Inv-loop : tie.InvT-loop
+Inv-loop next far add best₀ seg₀ n cnt first base i₀ best seg i = (i ≤ cnt) × Relaxing n next far add best₀ seg₀ best seg first base i × (length best ≡ length best₀) × (length seg ≡ length seg₀)
+
+abbrev μ-loop : tie.MeasureT-loop
+μ-loop next far add best₀ seg₀ n cnt first base i₀ best seg i = i
+
+loop-holds : tie.Need-loop-holds Inv-loop μ-loop
+loop-holds c = (omega arith, relax-start _ _ _ _ _ _ _ _ (c .before .before .before .before .before .pre .1 .0), refl, refl)
+
+sub-j : tie.Need-sub-j Inv-loop μ-loop
+sub-j c = search needs
+
+mul-offer : tie.Need-mul-offer Inv-loop μ-loop
+mul-offer c = search needs
+
+shared-slice-read-offer : tie.Need-shared-slice-read-offer Inv-loop μ-loop
+shared-slice-read-offer c = omega arith
+
+mul-offer-2 : tie.Need-mul-offer-2 Inv-loop μ-loop
+mul-offer-2 c = search needs
+
+shared-slice-read-offer-2 : tie.Need-shared-slice-read-offer-2 Inv-loop μ-loop
+shared-slice-read-offer-2 c = search needs
+
+add-offer : tie.Need-add-offer Inv-loop μ-loop
+add-offer c = omega (arith, c .before .before .before .before .before .before .before .before .before .before .before .pre .0 .add-ok (c .before .before .before .before .before .loop .i - 1) (omega arith))
+
+offer-requires : tie.Need-offer-requires Inv-loop μ-loop
+offer-requires c κs = (c .before .before .before .before .before .loop .inv .1 .stage, c .before .before .before .before .before .before .before .before .before .before .before .pre .0 .far-ok (c .before .before .before .before .before .loop .i - 1) (omega arith))
+
+mul-i : tie.Need-mul-i Inv-loop μ-loop
+mul-i c = search needs
+
+shared-slice-read-i : tie.Need-shared-slice-read-i Inv-loop μ-loop
+shared-slice-read-i c = search needs
+
+loop-less : tie.Need-loop-less Inv-loop μ-loop
+loop-less c = omega (arith, c .before .before .before .before .before .before .before .before .before .before .before .before .before .before .before .before .before .pre .0 .falls (c .before .before .before .before .before .before .before .before .before .before .before .loop .i - 1) (omega arith))
+
+loop-again : tie.Need-loop-again Inv-loop μ-loop
+loop-again c = (omega (arith, c .before .before .before .before .before .before .before .before .before .before .before .before .before .before .before .before .before .pre .0 .falls (c .before .before .before .before .before .before .before .before .before .before .before .loop .i - 1) (omega arith)), relax-turn _ _ _ _ _ _ _ _ _ _ _ _ _ _ (c .before .before .before .before .before .before .before .before .before .before .before .before .before .before .before .before .before .pre .0) (c .before .before .before .before .before .before .before .before .before .before .before .loop .inv .1) (omega arith) (omega arith) (c .before .before .before .before .before .offer .ensures), omega arith, omega arith)
+
+same-length : tie.Need-same-length Inv-loop μ-loop
+same-length c = omega arith
+
+same-length-2 : tie.Need-same-length-2 Inv-loop μ-loop
+same-length-2 c = omega arith
+
+returns : tie.Need-returns Inv-loop μ-loop
+returns c = relax-end _ _ _ _ _ _ _ _ _ _ _ (c .before .loop .inv .1) (omega arith)
+
+pub relax-spec : {M : Type 1} → statement M
+relax-spec =
+    tie.close
+    (tie.spec
+    Inv-loop
+    μ-loop
+    loop-holds
+    sub-j
+    mul-offer
+    shared-slice-read-offer
+    mul-offer-2
+    shared-slice-read-offer-2
+    add-offer
+    offer-requires
+    mul-i
+    shared-slice-read-i
+    loop-less
+    loop-again
+    same-length
+    same-length-2
+    returns)

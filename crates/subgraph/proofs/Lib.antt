@@ -1,0 +1,3 @@
+pub mod Only
+pub mod Laying
+pub mod Turns

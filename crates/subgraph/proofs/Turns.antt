@@ -1,0 +1,152 @@
+-- One loop's turn after the other. Assumes nothing.
+use Prim.Native.Nat.{ℕ, zero, suc, _+_, _*_, _-_, _≤_, _<_}
+use native.Mathlib.Omega.{arith}
+use mathlib.Core.Path.{_≡_, refl, sym, _∙_, ap, subst}
+use mathlib.Core.Logic.{_⊎_, inl, inr}
+use mathlib.Core.Bool.{true}
+use mathlib.Core.List.{List, [], _∷_, _++_, List·Memᴰ, List·Memᴰ·head, List·Memᴰ·tail, append-assoc}
+use lib.ListN.{length, getD, set, length-set}
+use lib.Seq.{sets, getD-set-same, getD-set-other}
+use Rattle.network.specs.Standing.{Line}
+use Rattle.network.specs.Tree.{tree, treeLines}
+use Rattle.network.specs.Closing.{closing}
+use Rattle.network.specs.Path.{Pass, pass, shortest}
+use Rattle.network.specs.Subgraph.{isIn, only, numbers}
+use Rattle.network.proofs.Count.{unique}
+use Rattle.loops.specs.Loops.{Loop, added, loopsFrom, loops}
+use Rattle.loops.proofs.Basis.{in-only, of-only, rising-only}
+use Rattle.chains.specs.Chains.{Half, fore, aft, Nodes, Heads, Tips, Chains, Given, numberLimit}
+use Rattle.chains.specs.Link.{Places, Wider, Added}
+use Rattle.chains.specs.Listed.{Listed}
+use Rattle.search.specs.Front.{Two, Held, Pathed, Written}
+use Rattle.subgraph.specs.Drawn.{Drawn, Joined}
+use Rattle.subgraph.specs.Turn.{Taking, Takes, Took, Reached, Queue, empty, next-is}
+use Rattle.subgraph.proofs.Only.{in-first, in-more, in-cases}
+use Rattle.subgraph.proofs.Laying.{line-joins}
+
+-- ---- a line more
+
+wider-only : (lines : List Line) (sub : List ℕ) (c : Line) → ((k : Line) → List·Memᴰ k lines → k .number ≡ c .number → k ≡ c) → List·Memᴰ c lines → Wider (only sub lines) (only (c .number ∷ sub) lines) c
+wider-only lines sub c one i = record {
+  mine = in-only (c .number ∷ sub) lines c i (in-first (c .number) (c .number) sub refl);
+  keeps = λ k m. let w = of-only sub lines k m in in-only (c .number ∷ sub) lines k (w .0) (in-more (k .number) (c .number) sub (w .1));
+  only = λ k m. let w = of-only (c .number ∷ sub) lines k m in pick k (w .0) (in-cases (k .number) (c .number) sub (w .1));
+}
+  where
+    pick : (k : Line) → List·Memᴰ k lines → (c .number ≡ k .number) ⊎ (isIn (k .number) sub ≡ true) → (k ≡ c) ⊎ List·Memᴰ k (only sub lines)
+    pick k m (inl e) = inl (one k m (sym e))
+    pick k m (inr h) = inr (in-only sub lines k m h)
+
+added-one : (c : ℕ) (p : List Pass) (sub : List ℕ) → length p ≡ 1 → added c p sub ≡ sub
+added-one c [] sub e = absurd (omega arith)
+added-one c (x ∷ []) sub e = refl
+added-one c (x ∷ y ∷ p) sub e = absurd (omega arith)
+
+added-more : (c : ℕ) (p : List Pass) (sub : List ℕ) → (length p ≡ 1 → ⊥) → added c p sub ≡ c ∷ sub
+added-more c [] sub e = refl
+added-more c (x ∷ []) sub e = absurd (e refl)
+added-more c (x ∷ y ∷ p) sub e = refl
+
+-- ---- the subgraph is what a search asks for
+
+module _ {n q cnt number : ℕ} {tip long head next fars add : List ℕ} (lines : List Line) (sub : List ℕ) (c : Line)
+    (tk : Taking lines sub c n q cnt number tip long head next fars add) where
+  given : Given (only sub lines) n head next fars add tip
+  given = record {
+    rising = rising-only sub lines (tk .listed .rising);
+    sound = λ l i. tk .listed .sound l (of-only sub lines l i .0);
+    chains = tk .drawn .chains;
+  }
+
+  held : Tips n tip → Held n cnt head next fars add tip
+  held t = record { nodes = tk .drawn .nodes; heads = tk .drawn .heads; tips = t; sub = only sub lines; given = given }
+
+  from-is : getD tip (number * 2 + 1) 0 ≡ c .from
+  from-is = tk .listed .tipOf c (c .to) (c .from) (number * 2 + 1) (tk .isLine) (aft refl refl (omega (arith, tk .its)))
+
+  to-is : getD tip (number * 2) 0 ≡ c .to
+  to-is = tk .listed .tipOf c (c .from) (c .to) (number * 2) (tk .isLine) (fore refl refl (omega (arith, tk .its)))
+
+  two : Two n (getD tip (number * 2 + 1) 0) (getD tip (number * 2) 0)
+  two = let s = tk .listed .sound c (tk .isLine) in record {
+    r-ok = rw from-is (s .from-high);
+    to-ok = rw to-is (s .to-high);
+    apart = λ e. s .apart (sym from-is ∙ e ∙ to-is);
+  }
+
+  module _ {out out′ : List ℕ} {count : ℕ} (pt : Pathed n head next fars add tip out out′ (getD tip (number * 2 + 1) 0) (getD tip (number * 2) 0) count) where
+    abbrev path : List Pass
+    path = shortest (n - 1) (only sub lines) (c .to) (c .from)
+
+    written : Written (shortest (n - 1) (only sub lines) (c .to) (c .from)) out out′ count
+    written = subst (λ (u : ℕ). Written (shortest (n - 1) (only sub lines) u (c .from)) out out′ count) to-is
+        (subst (λ (r : ℕ). Written (shortest (n - 1) (only sub lines) (getD tip (number * 2) 0) r) out out′ count) from-is (pt (only sub lines) given))
+
+    -- a path of one line
+    pub took-same : count ≡ 1 → Took lines sub c n cnt tip out head next fars add out′ count cnt
+    took-same e = record {
+      written = written;
+      drawn = subst (λ (s : List ℕ). Drawn lines s n cnt head next fars add tip) (sym (added-one (c .number) path sub (sym (written .count) ∙ e))) (tk .drawn);
+      few = omega arith;
+    }
+
+    pub took-more : {head′ next′ fars′ add′ : List ℕ} → (count ≡ 1 → ⊥) → Joined n cnt tip long head next fars add head′ next′ fars′ add′ number
+        → Took lines sub c n cnt tip out head′ next′ fars′ add′ out′ count (cnt + 2)
+    took-more {head′ = head′} {next′ = next′} {fars′ = fars′} {add′ = add′} e jn = record {
+      written = written;
+      drawn = subst (λ (s : List ℕ). Drawn lines s n (cnt + 2) head′ next′ fars′ add′ tip) (sym (added-more (c .number) path sub (λ z. e (written .count ∙ z))))
+          (record {
+            nodes = jn .nodes;
+            heads = jn .heads;
+            chains = line-joins lines (tk .listed) c (tk .isLine) (only sub lines) (only (c .number ∷ sub) lines) (λ k i. of-only sub lines k i .0)
+                (wider-only lines sub c (λ k i x. unique lines (tk .listed .rising) k c i (tk .isLine) x) (tk .isLine))
+                (subst (λ (j : ℕ). Joined n cnt tip long head next fars add head′ next′ fars′ add′ j) (sym (tk .its)) jn) (tk .drawn .chains);
+          });
+      few = omega arith;
+    }
+
+module _ {n cnt number : ℕ} {tip long head next fars add best seg out : List ℕ} (tk : Takes n cnt number tip long head next fars add best seg out) where
+  pub takes-held : Held n cnt head next fars add tip
+  takes-held = held (tk .lines) (tk .sub) (tk .c) (tk .taking) (tk .tips)
+
+  pub takes-two : Two n (getD tip (number * 2 + 1) 0) (getD tip (number * 2) 0)
+  takes-two = two (tk .lines) (tk .sub) (tk .c) (tk .taking)
+
+  pub takes-number : number < numberLimit
+  takes-number = omega (arith, tk .taking .its, tk .taking .listed .sound (tk .c) (tk .taking .isLine) .number)
+
+  pub takes-places : Places n cnt head next fars add
+  takes-places = record { heads = tk .taking .drawn .heads; nodes = tk .taking .drawn .nodes; nexts = tk .nexts; ends = tk .ends; adds = tk .adds }
+
+-- ---- loop by loop
+
+pub reached-start : (b : ℕ) (lines : List Line) → ((c : Line) → List·Memᴰ c (closing lines (tree b lines)) → List·Memᴰ c lines)
+    → Reached b lines [] (closing lines (tree b lines)) (numbers (treeLines (tree b lines)))
+unfolding loops
+reached-start b lines f = record { all = refl; lines-left = f }
+
+pub reached-next : (b : ℕ) (lines : List Line) (done : List Loop) (c : Line) (rest : List Line) (sub : List ℕ) → Reached b lines done (c ∷ rest) sub
+    → Reached b lines (done ++ ((pass c true ∷ shortest b (only sub lines) (c .to) (c .from)) ∷ [])) rest (added (c .number) (shortest b (only sub lines) (c .to) (c .from)) sub)
+unfolding loopsFrom
+reached-next b lines done c rest sub r = record {
+  all = r .all ∙ sym (append-assoc done ((pass c true ∷ shortest b (only sub lines) (c .to) (c .from)) ∷ []) (loopsFrom b lines rest (added (c .number) (shortest b (only sub lines) (c .to) (c .from)) sub)));
+  lines-left = λ k i. r .lines-left k (List·Memᴰ·tail i);
+}
+
+pub reached-end : (b : ℕ) (lines : List Line) (done : List Loop) (sub : List ℕ) → Reached b lines done [] sub → loops b lines ≡ done ++ []
+unfolding loopsFrom
+reached-end b lines done sub r = r .all
+
+-- ---- the closing lines that are left stand in the array
+
+before-sets : (l : List ℕ) (i : ℕ) (vs : List ℕ) (j : ℕ) → j < i → getD (sets l i vs) j 0 ≡ getD l j 0
+before-sets l i [] j h = refl
+before-sets l i (v ∷ vs) j h = before-sets (set l i v) (suc i) vs j (omega arith) ∙ getD-set-other l i j v 0 (λ e. omega arith)
+
+queue-from : (l : List ℕ) (i : ℕ) (cs : List Line) → i + length cs ≤ length l → Queue (sets l i (numbers cs)) i cs
+queue-from l i [] h = empty
+queue-from l i (c ∷ cs) h = next-is (before-sets (set l i (c .number)) (suc i) (numbers cs) i (omega arith) ∙ getD-set-same l i (c .number) 0 (omega arith))
+    (queue-from (set l i (c .number)) (suc i) cs (simp length-set (omega arith)))
+
+pub queue-start : (out out′ : List ℕ) (cs : List Line) → length cs ≤ length out → out′ ≡ sets out 0 (numbers cs) → Queue out′ 0 cs
+queue-start out out′ cs h e = subst (λ (z : List ℕ). Queue z 0 cs) (sym e) (queue-from out 0 cs (omega arith))

@@ -1,0 +1,63 @@
+use Prim.Native.Nat.{ℕ, zero, suc, _+_, _-_, _*_, _/_, _%_, _≤_, _<_}
+use borrow.Author.Needs.{needs}
+use native.Mathlib.Omega.{arith}
+use mathlib.Core.Path.{_≡_, refl, sym, _∙_, ap}
+use mathlib.Core.Logic.{_⊎_, inl, inr}
+use lib.ListN.{length, getD, set, length-set}
+use mathlib.Core.List.{List}
+use borrow.Author.Tests.{eqb-true, eqb-false}
+use Rattle.network.specs.Standing.{Line}
+use Rattle.nearest.specs.Heap as hp
+use Rattle.chains.specs.Chains.{Given}
+use Rattle.search.specs.Front.{Stage}
+use Rattle.search.proofs.Laws.{stage-set}
+use Rattle.search.proofs.Searched.{turned-any}
+use Rattle.tree.specs.Plant.{FirstFar, Sprouted, by-line, by-root, ended}
+use Rattle.tree.proofs.Laws.{first-next}
+use Rattle.tree.proofs.first_far.Statement.{statement}
+use Rattle.tree.proofs.first_far.Tie as tie
+
+abbrev Inv-loop : tie.InvT-loop
+Inv-loop best n i j₀ j = (i ≤ j) × (j ≤ n) × ((x : ℕ) → i ≤ x → x < j → getD best x 0 ≡ hp.far → ⊥)
+
+abbrev μ-loop : tie.MeasureT-loop
+μ-loop best n i j₀ j = n - j
+
+loop-holds : tie.Need-loop-holds Inv-loop μ-loop
+loop-holds c = (omega arith, omega arith, λ x a b e. omega arith)
+
+mul-if1 : tie.Need-mul-if1 Inv-loop μ-loop
+mul-if1 c = omega arith
+
+shared-slice-read-if1 : tie.Need-shared-slice-read-if1 Inv-loop μ-loop
+shared-slice-read-if1 c = omega arith
+
+returns : tie.Need-returns Inv-loop μ-loop
+returns c = let v = c .before .before .before .loop .inv in record { low = omega arith; high = omega arith; before = v .2; at = λ h. omega arith }
+
+add-j : tie.Need-add-j Inv-loop μ-loop
+add-j c = omega arith
+
+loop-less : tie.Need-loop-less Inv-loop μ-loop
+loop-less c = omega arith
+
+loop-again : tie.Need-loop-again Inv-loop μ-loop
+loop-again c = (omega arith, omega arith, first-next (c .before .before .before .before .args .best .now) (c .before .before .before .before .args .i) (c .before .before .before .loop .j) (c .before .before .before .loop .inv .2) (λ e. omega arith))
+
+returns-2 : tie.Need-returns-2 Inv-loop μ-loop
+returns-2 c = let v = c .before .loop .inv in record { low = omega arith; high = omega arith; before = v .2; at = λ h. absurd (omega arith) }
+
+pub first-far-spec : {M : Type 1} → statement M
+first-far-spec =
+    tie.close
+    (tie.spec
+    Inv-loop
+    μ-loop
+    loop-holds
+    mul-if1
+    shared-slice-read-if1
+    returns
+    add-j
+    loop-less
+    loop-again
+    returns-2)
