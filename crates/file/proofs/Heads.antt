@@ -62,19 +62,18 @@ pub longest-is : fileLength mostHeld mostLines ≡ 8717
 longest-is = refl
 
 -- a refusal of the head has a number of the table
-Numbered : Head → Type 0
-Numbered (States k) = Unit {0}
-Numbered (Refused number) = 0 < number
+abbrev NumberedIf : Head → Type 0
+NumberedIf (States k) = Unit {0}
+NumberedIf (Refused number) = (0 < number) × (number ≤ 5)
 
-numbered : (t : Bool) (number : ℕ) (rest : Head) → 0 < number → Numbered rest → Numbered (cond t (Refused number) rest)
-unfolding Numbered
+numbered : (t : Bool) (number : ℕ) (rest : Head) → (0 < number) × (number ≤ 5) → NumberedIf rest → NumberedIf (cond t (Refused number) rest)
 numbered true number rest h n = h
 numbered false number rest h n = n
 
-pub head-numbered : (file : List ℕ) (number : ℕ) → headOf file ≡ Refused number → 0 < number
-unfolding headOf Numbered
+pub head-numbered : (file : List ℕ) (number : ℕ) → headOf file ≡ Refused number → (0 < number) × (number ≤ 5)
+unfolding headOf
 head-numbered file number e =
-    subst Numbered e
+    subst NumberedIf e
     (numbered (ltb (length file) 13) 1 _ (omega arith)
     (numbered (not (eqb (statedLength file) (length file))) 2 _ (omega arith)
     (numbered (not (eqb (statedVersion file) 1)) 3 _ (omega arith)

@@ -4,11 +4,12 @@ use mathlib.Core.Path.{_≡_, refl, sym, _∙_, ap, ap₂, subst}
 use mathlib.Core.Logic.{_⊎_, inl, inr}
 use mathlib.Core.Bool.{Bool, true, false, cond}
 use mathlib.Core.List.{List, _++_}
-use Prim.Native.Nat.{ℕ, _+_, _*_, _/_, _<_}
+use Prim.Native.Nat.{ℕ, _+_, _*_, _/_, _<_, _≤_}
 use native.Mathlib.Omega.{arith}
 use lib.Dec.{ltb}
 use lib.ListN.{length, drop}
 use lib.IntN.{ℤ, pos}
+use Rattle.book.specs.Limits.{mostLines}
 use Rattle.book.specs.Held.{heldWords, heldCount}
 use Rattle.book.specs.Line.{lineWords, lineCount}
 use Rattle.book.specs.Test.{testOf}
@@ -31,9 +32,9 @@ module _ (file : List ℕ) (held lines : List ℤ) where
   abbrev pub ReadOrRefused : Outcome → Type 0
   ReadOrRefused o = BookRead file held lines o ⊎ FileRefused held lines o
 
-  refuses : (number place : ℕ) → 0 < number → ReadOrRefused (answered held lines (refusal number place))
-  refuses number place h =
-      inr (record { number = number; place = place; a-number = h; answer = refl; held-kept = refl; lines-kept = refl })
+  refuses : (number place : ℕ) → 0 < number → number ≤ 10 → place ≤ mostLines → ReadOrRefused (answered held lines (refusal number place))
+  refuses number place low high near =
+      inr (record { number = number; place = place; low = low; high = high; near = near; answer = refl; held-kept = refl; lines-kept = refl })
 
   GoodFile : Book → Type 0
   GoodFile k = GoodBook k (pos (k .marks)) (pos (k .tolerance)) (heldOf file (k .held)) (linesOf file (k .held) (k .lines))
@@ -56,8 +57,8 @@ module _ (file : List ℕ) (held lines : List ℤ) where
         held = heldOf file (k .held) ++ drop (k .held * heldWords) held;
         lines = linesOf file (k .held) (k .lines) ++ drop (k .lines * lineWords) lines;
       })))
-      go true t = refuses 10 0 (omega arith)
-      go false true = refuses 10 0 (omega arith)
+      go true t = refuses 10 0 (omega arith) (omega arith) (omega arith)
+      go false true = refuses 10 0 (omega arith) (omega arith) (omega arith)
       go false false = inl (record { book = k; answer = refl; good = good; held-now = refl; lines-now = refl })
 
   body : (k : Book) → ReadOrRefused (bodyOf file k held lines)
@@ -77,7 +78,7 @@ module _ (file : List ℕ) (held lines : List ℤ) where
       n = linesOf file (k .held) (k .lines)
 
       go : (o : Tested) → testOf b t h n ≡ o → ReadOrRefused (testedOf file k held lines o)
-      go (Refused r) e = refuses (r .number) (r .place) (tested-numbered b t h n r e .low)
+      go (Refused r) e = let w = tested-numbered b t h n r e in refuses (r .number) (r .place) (w .low) (omega (arith, w .high)) (w .near)
       go (Good j) e =
           let same : j ≡ k = tested-counts b t h n j e ∙ rw (held-entries (k .held), line-entries (k .held) (k .lines)) in
           room-or-ten k (subst (λ (x : Book). GoodBook x b t h n) same (tested-good b t h n j e))
@@ -88,7 +89,7 @@ module _ (file : List ℕ) (held lines : List ℤ) where
   read-or-refused = go (headOf file) refl
     where
       go : (o : Head) → headOf file ≡ o → ReadOrRefused (afterHead file held lines o)
-      go (head.the-variants.Refused number) e = refuses number 0 (head-numbered file number e)
+      go (head.the-variants.Refused number) e = let w = head-numbered file number e in refuses number 0 (w .0) (omega (arith, w .1)) (omega arith)
       go (head.the-variants.States k) e = body k
 
   -- the answer 0 says which
@@ -97,7 +98,7 @@ module _ (file : List ℕ) (held lines : List ℤ) where
     where
       go : ReadOrRefused (readOf file held lines) → BookRead file held lines (readOf file held lines)
       go (inl r) = r
-      go (inr f) = absurd (omega (arith, f .a-number, ap (λ (a : _). a .number) (f .answer)))
+      go (inr f) = absurd (omega (arith, f .low, ap (λ (a : _). a .number) (f .answer)))
 
 -- two allowed answers are equal, and leave the same in the buffers
 pub read-one-answer : (file : List ℕ) (held lines : List ℤ) (o p : Outcome) → o ≡ readOf file held lines → p ≡ readOf file held lines → o ≡ p

@@ -2,9 +2,10 @@
 -- Assumes nothing.
 use mathlib.Core.Path.{_≡_}
 use mathlib.Core.List.{List, _++_}
-use Prim.Native.Nat.{ℕ, _*_, _<_}
+use Prim.Native.Nat.{ℕ, _*_, _<_, _≤_}
 use lib.ListN.{drop}
 use lib.IntN.{ℤ, pos}
+use Rattle.book.specs.Limits.{mostLines}
 use Rattle.book.specs.Held.{heldWords}
 use Rattle.book.specs.Line.{lineWords}
 use Rattle.book.specs.Good.{GoodBook}
@@ -19,11 +20,13 @@ pub record BookRead (file : List ℕ) (held lines : List ℤ) (o : Outcome) : Ty
   pub held-now : o .held ≡ heldOf file (book .held) ++ drop (book .held * heldWords) held
   pub lines-now : o .lines ≡ linesOf file (book .held) (book .lines) ++ drop (book .lines * lineWords) lines
 
--- a file that was refused: "After a refusal the counts are 0 and no lent buffer has changed."
+-- a file that was refused, by a number of the table and a place that is an entry or 0: "After a refusal the counts are 0 and no lent buffer has changed."
 pub record FileRefused (held lines : List ℤ) (o : Outcome) : Type 0 where
   pub number : ℕ
   pub place : ℕ
-  pub a-number : 0 < number
+  pub low : 0 < number
+  pub high : number ≤ 10
+  pub near : place ≤ mostLines
   pub answer : o .answer ≡ refusal number place
   pub held-kept : o .held ≡ held
   pub lines-kept : o .lines ≡ lines
