@@ -1,26 +1,28 @@
 -- One loop's turn after the other. Assumes nothing.
 use Prim.Native.Nat.{ℕ, zero, suc, _+_, _*_, _-_, _≤_, _<_}
 use native.Mathlib.Omega.{arith}
+use native.Mathlib.Numerals.{add-one}
 use mathlib.Core.Path.{_≡_, refl, sym, _∙_, ap, subst}
 use mathlib.Core.Logic.{_⊎_, inl, inr}
 use mathlib.Core.Bool.{true}
 use mathlib.Core.List.{List, [], _∷_, _++_, List·Memᴰ, List·Memᴰ·head, List·Memᴰ·tail, append-assoc}
-use lib.ListN.{length, getD, set, length-set}
+use lib.ListN.{length, getD, set, length-set, length-append}
 use lib.Seq.{sets, getD-set-same, getD-set-other}
 use Rattle.network.specs.Standing.{Line}
 use Rattle.network.specs.Tree.{tree, treeLines}
 use Rattle.network.specs.Closing.{closing}
 use Rattle.network.specs.Path.{Pass, pass, shortest}
 use Rattle.network.specs.Subgraph.{isIn, only, numbers}
-use Rattle.network.proofs.Count.{unique}
+use Rattle.network.proofs.Count.{unique, Placed, tree-and-roots, size, grows, closing-count}
+use Rattle.network.proofs.Closers.{closing-line}
 use Rattle.loops.specs.Loops.{Loop, added, loopsFrom, loops}
 use Rattle.loops.proofs.Basis.{in-only, of-only, rising-only}
 use Rattle.chains.specs.Chains.{Half, fore, aft, Nodes, Heads, Tips, Chains, Given, numberLimit}
 use Rattle.chains.specs.Link.{Places, Wider, Added}
 use Rattle.chains.specs.Listed.{Listed}
 use Rattle.search.specs.Front.{Two, Held, Pathed, Written}
-use Rattle.subgraph.specs.Drawn.{Drawn, Joined}
-use Rattle.subgraph.specs.Turn.{Taking, Takes, Took, Reached, Queue, empty, next-is}
+use Rattle.subgraph.specs.Drawn.{Drawn, Joined, TreeDrawn}
+use Rattle.subgraph.specs.Turn.{Taking, Takes, Took, Reached, Queue, empty, next-is, Going}
 use Rattle.subgraph.proofs.Only.{in-first, in-more, in-cases}
 use Rattle.subgraph.proofs.Laying.{line-joins}
 
@@ -150,3 +152,61 @@ queue-from l i (c ∷ cs) h = next-is (before-sets (set l i (c .number)) (suc i)
 
 pub queue-start : (out out′ : List ℕ) (cs : List Line) → length cs ≤ length out → out′ ≡ sets out 0 (numbers cs) → Queue out′ 0 cs
 queue-start out out′ cs h e = subst (λ (z : List ℕ). Queue z 0 cs) (sym e) (queue-from out 0 cs (omega arith))
+
+-- ---- what a driver goes by
+
+module _ (n : ℕ) (lines : List Line) (tip close : List ℕ) where
+  -- before the first loop
+  pub going-start : (q cnt : ℕ) (long head next fars add : List ℕ) → 0 < n → Listed lines n q tip long → TreeDrawn lines n head next fars add tip cnt
+      → Queue close 0 (closing lines (tree (n - 1) lines)) → Going n 0 cnt lines tip close head next fars add
+  going-start q cnt long head next fars add pos li td qu = record {
+    done = [];
+    rest = closing lines (tree (n - 1) lines);
+    sub = numbers (treeLines (tree (n - 1) lines));
+    reached = reached-start (n - 1) lines (λ c i. closing-line lines (li .rising) apart (grows (n - 1) lines placed) c i);
+    count = refl;
+    queue = qu;
+    drawn = td .drawn;
+    room = omega (arith, td .count, tree-and-roots (tree (n - 1) lines), size (n - 1) lines placed, closing-count (n - 1) lines placed (li .rising) apart);
+  }
+    where
+      placed : (l : Line) → List·Memᴰ l lines → Placed (n - 1) l
+      placed l i = let x = li .sound l i in
+          record { from-low = x .from-low; from-high = omega (arith, x .from-high); to-low = x .to-low; to-high = omega (arith, x .to-high) }
+
+      apart : (l : Line) → List·Memᴰ l lines → l .from ≡ l .to → ⊥
+      apart l i = li .sound l i .apart
+
+  module _ (i cnt : ℕ) (head next fars add : List ℕ) (g : Going n i cnt lines tip close head next fars add) where
+    -- the closing line whose turn it is
+    pub record Next : Type 0 where
+      pub c : Line
+      pub rest : List Line
+      pub is : g .rest ≡ c ∷ rest
+      pub number : getD close i 0 ≡ c .number
+      pub isLine : List·Memᴰ c lines
+      pub queue : Queue close (suc i) rest
+
+    pub going-turn : i < length (loops (n - 1) lines) → Next
+    unfolding loopsFrom
+    going-turn lt = go (g .rest) refl (g .queue)
+      where
+        go : (rest : List Line) → g .rest ≡ rest → Queue close i rest → Next
+        go [] e q = absurd (omega (arith, g .count, ap length (g .reached .all ∙ ap (λ (r : List Line). g .done ++ loopsFrom (n - 1) lines r (g .sub)) e), length-append (g .done) (loopsFrom (n - 1) lines [] (g .sub)), no-loops))
+          where
+            no-loops : length (loopsFrom (n - 1) lines [] (g .sub)) ≡ 0
+            no-loops = refl
+        go (c ∷ rest) e (next-is x q) = record { c = c; rest = rest; is = e; number = x; isLine = g .reached .lines-left c (subst (λ (r : List Line). List·Memᴰ c r) (sym e) (List·Memᴰ·head refl)); queue = q }
+
+    pub going-next : {head′ next′ fars′ add′ out out′ : List ℕ} {count nodes : ℕ} (x : Next)
+        → Took lines (g .sub) (x .c) n cnt tip out head′ next′ fars′ add′ out′ count nodes → Going n (i + 1) nodes lines tip close head′ next′ fars′ add′
+    going-next x t = record {
+      done = g .done ++ ((pass (x .c) true ∷ shortest (n - 1) (only (g .sub) lines) (x .c .to) (x .c .from)) ∷ []);
+      rest = x .rest;
+      sub = added (x .c .number) (shortest (n - 1) (only (g .sub) lines) (x .c .to) (x .c .from)) (g .sub);
+      reached = reached-next (n - 1) lines (g .done) (x .c) (x .rest) (g .sub) (subst (λ (r : List Line). Reached (n - 1) lines (g .done) r (g .sub)) (x .is) (g .reached));
+      count = length-append (g .done) ((pass (x .c) true ∷ shortest (n - 1) (only (g .sub) lines) (x .c .to) (x .c .from)) ∷ []) ∙ omega (arith, g .count);
+      queue = subst (λ (k : ℕ). Queue close k (x .rest)) (sym (add-one i)) (x .queue);
+      drawn = t .drawn;
+      room = omega (arith, g .room, ap length (x .is), t .few);
+    }

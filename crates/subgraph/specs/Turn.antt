@@ -1,7 +1,7 @@
 -- One loop's turn, and how far the turns have come. Document 01, "Loops": "Closing lines are taken in their order. A loop runs its closing line
 -- from its from end to its to end, then back by the shortest path in the subgraph .. A closing line whose path has one line is not added; any other is."
 -- Assumes nothing.
-use Prim.Native.Nat.{ℕ, suc, _+_, _-_, _≤_, _<_}
+use Prim.Native.Nat.{ℕ, suc, _+_, _*_, _-_, _≤_, _<_}
 use mathlib.Core.Path.{_≡_}
 use mathlib.Core.Bool.{true}
 use mathlib.Core.List.{List, [], _∷_, _++_, List·Memᴰ}
@@ -58,3 +58,14 @@ pub record Reached (b : ℕ) (lines : List Line) (done : List Loop) (rest : List
 pub data Queue (close : List ℕ) : ℕ → List Line → Type 0 where
   empty : {i : ℕ} → Queue close i []
   next-is : {i : ℕ} {c : Line} {cs : List Line} → getD close i 0 ≡ c .number → Queue close (suc i) cs → Queue close i (c ∷ cs)
+
+-- after the first i loops: what is done, what is left, and the subgraph then, in cnt nodes
+pub record Going (n i cnt : ℕ) (lines : List Line) (tip close head next fars add : List ℕ) : Type 0 where
+  pub done : List Loop
+  pub rest : List Line
+  pub sub : List ℕ
+  pub reached : Reached (n - 1) lines done rest sub
+  pub count : length done ≡ i
+  pub queue : Queue close i rest
+  pub drawn : Drawn lines sub n cnt head next fars add tip
+  pub room : cnt + 2 * length rest ≤ 2 * length lines

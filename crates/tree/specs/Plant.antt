@@ -49,4 +49,3 @@ pub record Roomy (n : ℕ) (best seg order : List ℕ) : Type 0 where
   pub room : Room n best seg
   pub some-mark : 0 < n
   pub orders : n ≤ length order
-  pub below : Below n order

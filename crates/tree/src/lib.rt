@@ -69,6 +69,7 @@ pub fn plant(
     requires { ⌜ Nodes n cnt (now next) (now far) (now add) ⌝ ∗ ⌜ Heads n cnt (now head) ⌝ ∗ ⌜ Tips n (now tip) ⌝ ∗ ⌜ Roomy n (now best) (now seg) (now order) ⌝ }
     ensures { λ _. ⌜ Planted n (now (head .entry)) (now (next .entry)) (now (far .entry)) (now (add .entry)) (now (tip .entry)) (now (best .exit)) (now (order .exit)) ⌝ ∗ ⌜ Below n (now (order .exit)) ⌝ }
 {
+    chains::zero(order, n);
     nearest::clear(best, n);
     nearest::clear(seg, n * 2);
     let mut root = 1;

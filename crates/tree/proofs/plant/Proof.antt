@@ -13,6 +13,7 @@ use Rattle.tree.proofs.plant.Statement.{statement}
 use Rattle.tree.proofs.plant.Tie as tie
 use Rattle.tree.proofs.plant.Reads as reads
 use Rattle.tree.proofs.plant.Lts as lts
+use Rattle.chains.proofs.zero.Reads as zero-reads
 use Rattle.nearest.proofs.clear.Reads as clear-reads
 use Rattle.tree.proofs.sprout.Reads as sprout-reads
 
@@ -23,20 +24,25 @@ abbrev μ-loop : tie.MeasureT-loop
 μ-loop head next far add tip best₀ seg₀ order₀ n cnt root₀ k₀ best seg order root k = n - k
 
 -- src/lib.rt:72:5
+zero-requires : tie.Need-zero-requires Inv-loop μ-loop
+zero-requires c κs = search needs
+
+-- src/lib.rt:73:5
 clear-requires : tie.Need-clear-requires Inv-loop μ-loop
 clear-requires c κs = search needs
 
--- src/lib.rt:73:25
+-- src/lib.rt:74:25
 mul-clear : tie.Need-mul-clear Inv-loop μ-loop
 mul-clear c = search needs
 
--- src/lib.rt:73:5
+-- src/lib.rt:74:5
 clear-requires-2 : tie.Need-clear-requires-2 Inv-loop μ-loop
 clear-requires-2 c κs = search needs
 
--- src/lib.rt:76:5
+-- src/lib.rt:77:5
 loop-holds : tie.Need-loop-holds Inv-loop μ-loop
-loop-holds c = let p = c .before .before .before .before .before .before .before .before .before .before .before .before .before .before .before .before .pre .1 .1 .1 in
+loop-holds c = let p = c .before .before .before .before .before .before .before .before .before .before .before .before .before .before .before .before .before .before .before .before .pre .1 .1 .1 in
+    let z = c .before .before .before .before .before .before .before .before .before .before .zero .ensures in
     let a = c .before .before .before .before .before .before .clear .ensures in
     let b = c .before .before .clear2 .ensures in (
       p .some-mark,
@@ -45,32 +51,32 @@ loop-holds c = let p = c .before .before .before .before .before .before .before
       refl,
       refl,
       refl,
-      p .below,
+      λ k h. omega (arith, z k h),
       λ lines g. plant-start lines _ _ _ _ _ _ g (c .before .before .before .before .before .before .clear .last .0) (c .before .before .clear2 .last .0) _ (a .1) (λ i h. b .1 i (omega arith)),
     )
 
--- src/lib.rt:76:11
+-- src/lib.rt:77:11
 add-loop : tie.Need-add-loop Inv-loop μ-loop
 add-loop c = search needs
 
--- src/lib.rt:77:9
+-- src/lib.rt:78:9
 sprout-requires : tie.Need-sprout-requires Inv-loop μ-loop
-sprout-requires c κs = let p = c .before .before .before .before .before .before .before .before .before .before .before .before .before .before .before .before .before .before .before .before .before .pre in
+sprout-requires c κs = let p = c .before .before .before .before .before .before .before .before .before .before .before .before .before .before .before .before .before .before .before .before .before .before .before .before .before .pre in
     (p .0, (p .1 .0, (p .1 .1 .0, (c .before .before .before .before .loop .inv .2, (c .before .before .before .before .loop .inv .1, omega (arith, p .1 .1 .1 .orders, c .before .before .before .before .loop .inv))))))
 
--- src/lib.rt:80:9
+-- src/lib.rt:81:9
 add-k : tie.Need-add-k Inv-loop μ-loop
 add-k c = search needs
 
--- src/lib.rt:76:5
+-- src/lib.rt:77:5
 loop-less : tie.Need-loop-less Inv-loop μ-loop
 loop-less c = omega arith
 
--- src/lib.rt:76:5
+-- src/lib.rt:77:5
 loop-again : tie.Need-loop-again Inv-loop μ-loop
 loop-again c = let v = c .before .before .before .before .before .before .before .before .before .before .before .loop .inv in
     let e = c .before .before .before .before .before .before .sprout .ensures in
-    let p = c .before .before .before .before .before .before .before .before .before .before .before .before .before .before .before .before .before .before .before .before .before .before .before .before .before .before .before .before .pre in (
+    let p = c .before .before .before .before .before .before .before .before .before .before .before .before .before .before .before .before .before .before .before .before .before .before .before .before .before .before .before .before .before .before .before .before .pre in (
       omega arith,
       sprouted-high _ _ _ _ _ _ _ _ _ _ _ _ _ _ _ (v .1) e,
       sprouted-stage _ _ _ _ _ _ _ _ _ _ _ _ _ _ _ (v .2) (p .1 .1 .0) e,
@@ -103,6 +109,7 @@ plant-spec =
     (tie.spec
     Inv-loop
     μ-loop
+    zero-requires
     clear-requires
     mul-clear
     clear-requires-2
