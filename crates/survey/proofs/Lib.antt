@@ -1,1 +1,3 @@
 pub mod Sounding
+pub mod Laid
+pub mod SameNumbers

@@ -1,4 +1,6 @@
 // The public calls on a lent book.
+mod kept;
+
 pub struct Answer {
     pub number: usize,
     pub place: usize,

@@ -1,0 +1,86 @@
+use Rattle.laws.specs.Tests.{eqZ}
+use lib.IntN.{pos}
+use lib.ListN.{getD}
+use Prim.Native.Nat.{_-_}
+use mathlib.Core.Path.{_≡_, sym, _∙_}
+use native.Mathlib.Omega.{arith}
+use lib.ListN.{length}
+use borrow.Author.Needs.{needs}
+use Rattle.survey.proofs.SameNumbers.{Compared, too-short, compare-start, compare-next, compare-stop, compare-end}
+use Rattle.survey.proofs.kept.differs.Statement.{statement}
+use Rattle.survey.proofs.kept.differs.Tie as tie
+use Rattle.survey.proofs.kept.differs.Reads as reads
+use Rattle.survey.proofs.kept.differs.Lts as lts
+use Rattle.signed.proofs.same.Reads as same-reads
+
+abbrev Inv-loop : tie.InvT-loop
+Inv-loop report rows i₀ i = Compared report rows i
+
+abbrev μ-loop : tie.MeasureT-loop
+μ-loop report rows i₀ i = length rows - i
+
+returns : tie.Need-returns Inv-loop μ-loop
+returns c = too-short _ _ (c .if1 .taken)
+
+loop-holds : tie.Need-loop-holds Inv-loop μ-loop
+loop-holds c = compare-start _ _
+
+mul-same : tie.Need-mul-same Inv-loop μ-loop
+mul-same c = omega arith
+
+shared-slice-copy-out-same : tie.Need-shared-slice-copy-out-same Inv-loop μ-loop
+shared-slice-copy-out-same c = omega arith
+
+mul-same-2 : tie.Need-mul-same-2 Inv-loop μ-loop
+mul-same-2 c = omega arith
+
+shared-slice-copy-out-same-2 : tie.Need-shared-slice-copy-out-same-2 Inv-loop μ-loop
+shared-slice-copy-out-same-2 c = omega arith
+
+-- the flag that the code has is the definition's test
+flag : (c : tie.After-same Inv-loop μ-loop) → (let l = c .before .before .before .before in let g = l .before .before .args in
+    c .same .result ≡ eqZ (getD (g .report .now) (l .loop .i) (pos 0)) (getD (g .rows .now) (l .loop .i) (pos 0)))
+flag c = c .same .ensures ∙ search needs
+
+same-requires : tie.Need-same-requires Inv-loop μ-loop
+same-requires c κs = tt
+
+add-i : tie.Need-add-i Inv-loop μ-loop
+add-i c = omega arith
+
+loop-less : tie.Need-loop-less Inv-loop μ-loop
+loop-less c = omega arith
+
+loop-again : tie.Need-loop-again Inv-loop μ-loop
+loop-again c =
+    let in-loop = c .before .before .before .before in
+    let l = in-loop .before in
+    compare-next _ _ (l .before .if1 .left) (l .loop .i) (in-loop .loop-test .taken) (l .loop .inv) (sym (flag (c .before)) ∙ c .if2 .taken)
+
+returns-2 : tie.Need-returns-2 Inv-loop μ-loop
+returns-2 c =
+    let in-loop = c .before .before .before .before in
+    let l = in-loop .before in
+    compare-stop _ _ (l .before .if1 .left) (l .loop .i) (in-loop .loop-test .taken) (l .loop .inv) (sym (flag (c .before)) ∙ c .if2 .left)
+
+returns-3 : tie.Need-returns-3 Inv-loop μ-loop
+returns-3 c = compare-end _ _ (c .before .loop .i) (c .loop-test .left) (c .before .loop .inv)
+
+pub differs-spec : {M : Type 1} → statement M
+differs-spec =
+    tie.close
+    (tie.spec
+    Inv-loop
+    μ-loop
+    returns
+    loop-holds
+    mul-same
+    shared-slice-copy-out-same
+    mul-same-2
+    shared-slice-copy-out-same-2
+    same-requires
+    add-i
+    loop-less
+    loop-again
+    returns-2
+    returns-3)

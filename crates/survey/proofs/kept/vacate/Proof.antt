@@ -1,0 +1,67 @@
+use Prim.Native.Nat.{_≤_}
+use Rattle.survey.proofs.Laid.{zeroed-length, zeroed-start, zeroed-at}
+use Prim.Native.Nat.{_-_}
+use mathlib.Core.List.{_++_}
+use native.Mathlib.Omega.{arith}
+use lib.IntN.{pos}
+use lib.ListN.{length, take, replicate}
+use Rattle.survey.proofs.Laid.{Laid, laid-start, laid-next, laid-end}
+use Rattle.survey.proofs.kept.vacate.Statement.{statement}
+use Rattle.survey.proofs.kept.vacate.Tie as tie
+use Rattle.survey.proofs.kept.vacate.Reads as reads
+use Rattle.survey.proofs.kept.vacate.Lts as lts
+
+abbrev Inv-loop : tie.InvT-loop
+Inv-loop out₀ a e i₀ out i = (a ≤ i) × Laid (take a out₀ ++ replicate (e - a) (pos 0)) out₀ out i
+
+abbrev μ-loop : tie.MeasureT-loop
+μ-loop out₀ a e i₀ out i = e - i
+
+loop-holds : tie.Need-loop-holds Inv-loop μ-loop
+loop-holds c = (omega arith, zeroed-start (pos 0) (c .args .out .now) (c .args .a) (c .args .e) (c .pre .0) (c .pre .1))
+
+mul-out : tie.Need-mul-out Inv-loop μ-loop
+mul-out c = omega arith
+
+slice-set-of-out : tie.Need-slice-set-of-out Inv-loop μ-loop
+slice-set-of-out c = let s = c .before .loop .inv .1 in omega arith
+
+add-i : tie.Need-add-i Inv-loop μ-loop
+add-i c = omega arith
+
+loop-less : tie.Need-loop-less Inv-loop μ-loop
+loop-less c = omega arith
+
+loop-again : tie.Need-loop-again Inv-loop μ-loop
+loop-again c =
+    let l = c .before in
+    let p = l .before .pre in
+    let g = l .before .args in
+    let n = zeroed-length (pos 0) (g .out .now) (g .a) (g .e) (p .0) (p .1) in
+    (omega arith, laid-next _ _ _ (l .loop .i) _ (pos 0) (omega arith) (omega arith) (zeroed-at (pos 0) (g .out .now) (g .a) (g .e) (p .0) (p .1) (l .loop .i) (pos 0) (l .loop .inv .0) (c .loop-test .taken)) (l .loop .inv .1))
+
+same-length : tie.Need-same-length Inv-loop μ-loop
+same-length c = c .before .loop .inv .1 .as-long
+
+returns : tie.Need-returns Inv-loop μ-loop
+returns c =
+    let l = c .before in
+    let p = l .before .pre in
+    let g = l .before .args in
+    let n = zeroed-length (pos 0) (g .out .now) (g .a) (g .e) (p .0) (p .1) in
+    rw n at (laid-end _ _ _ (l .loop .i) (omega arith) (l .loop .inv .1))
+
+pub vacate-spec : {M : Type 1} → statement M
+vacate-spec =
+    tie.close
+    (tie.spec
+    Inv-loop
+    μ-loop
+    loop-holds
+    mul-out
+    slice-set-of-out
+    add-i
+    loop-less
+    loop-again
+    same-length
+    returns)
