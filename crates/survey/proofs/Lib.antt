@@ -1,3 +1,4 @@
 pub mod Sounding
 pub mod Laid
 pub mod SameNumbers
+pub mod Halves

@@ -1,5 +1,6 @@
 // The public calls on a lent book.
 mod kept;
+mod list;
 
 pub struct Answer {
     pub number: usize,

@@ -1,0 +1,41 @@
+use Prim.Native.Nat.{_<_}
+use mathlib.Core.Path.{_≡_, sym, _∙_, ap}
+use Prim.Native.Nat.{_/_}
+use native.Mathlib.Omega.{arith}
+use lib.IntN.{ℤ, pos, negℤ, _-ℤ_, +ℤ-idl}
+use mir.Syntax.{w64}
+use mir.Val.{toZ, ofZ}
+use mir.Facts.{toZ-pos, toZ-ofZ}
+use borrow.Author.Tests.{eq-eqb, ne-eqb}
+use Rattle.laws.proofs.Signed.{back}
+use Rattle.survey.specs.Halves.{halfListed}
+use borrow.Author.Needs.{needs}
+use Rattle.survey.proofs.list.half_listed.Statement.{statement}
+use Rattle.survey.proofs.list.half_listed.Tie as tie
+use Rattle.survey.proofs.list.half_listed.Reads as reads
+use Rattle.survey.proofs.list.half_listed.Lts as lts
+use Rattle.signed.proofs.sub.Reads as sub-reads
+
+cast-number : tie.Need-cast-number
+cast-number c = search needs
+
+-- the number of the half
+number : (c : tie.Else1) → toZ w64 (c .before .args .h / 2) ≡ pos (c .before .args .h / 2)
+number c = toZ-pos w64 (omega arith)
+
+returns : tie.Need-returns
+unfolding halfListed
+returns c = rw (eq-eqb _ _ (c .if1 .taken)) (toZ-pos w64 (omega arith))
+
+sub-requires : tie.Need-sub-requires
+sub-requires c κs = rw (number c) (omega arith)
+
+returns-2 : tie.Need-returns-2
+unfolding halfListed
+returns-2 c =
+    let e = c .before in
+    rw (ne-eqb _ _ (e .if1 .left))
+    (back _ (c .sub .ok) ∙ (rw (number e) at (c .sub .ensures)) ∙ +ℤ-idl (negℤ (pos (e .before .args .h / 2))))
+
+pub half-listed-spec : {M : Type 1} → statement M
+half-listed-spec = tie.close (tie.spec cast-number returns sub-requires returns-2)
