@@ -1,0 +1,76 @@
+use lib.IntN.{+ℤ-idl}
+use Rattle.rows.proofs.Totals.{rise-size}
+use Prim.Native.Nat.{_+_, _*_, _≤_, _-_}
+use borrow.Author.Needs.{needs}
+use native.Mathlib.Omega.{arith}
+use mathlib.Core.Path.{_≡_, refl, _∙_}
+use lib.IntN.{natAbs, _+ℤ_}
+use lib.ListN.{take, drop, getD}
+use mir.Syntax.{w64}
+use mir.Val.{toZ}
+use Rattle.laws.proofs.Signed.{back, stored}
+use Rattle.laws.proofs.Size.{size-add}
+use Rattle.rows.specs.Sums.{riseOf, steepest}
+use Rattle.rows.proofs.Totals.{rise-next, rise-end}
+use Rattle.rows.proofs.way_rise.Statement.{statement}
+use Rattle.rows.proofs.way_rise.Tie as tie
+use Rattle.rows.proofs.way_rise.Reads as reads
+use Rattle.rows.proofs.way_rise.Lts as lts
+use Rattle.rows.proofs.half_rise.Reads as half-rise-reads
+use Rattle.signed.proofs.add.Reads as add-reads
+
+abbrev Inv-loop : tie.InvT-loop
+Inv-loop lines out a sum₀ j₀ sum j = (j ≤ a) × (toZ w64 sum +ℤ riseOf lines (drop j (take a out)) ≡ riseOf lines (take a out)) × (natAbs (toZ w64 sum) ≤ j * steepest)
+
+abbrev μ-loop : tie.MeasureT-loop
+μ-loop lines out a sum₀ j₀ sum j = a - j
+
+loop-holds : tie.Need-loop-holds Inv-loop μ-loop
+loop-holds c = (omega arith, +ℤ-idl _, omega arith)
+
+mul-half-rise : tie.Need-mul-half-rise Inv-loop μ-loop
+mul-half-rise c = omega (arith, c .before .before .before .pre .1 .few)
+
+shared-slice-read-half-rise : tie.Need-shared-slice-read-half-rise Inv-loop μ-loop
+shared-slice-read-half-rise c = omega (arith, c .before .before .before .before .pre .1 .places)
+
+half-rise-requires : tie.Need-half-rise-requires Inv-loop μ-loop
+half-rise-requires c κs = let p = c .before .before .before .before .pre in (p .0, p .1 .ok (c .before .before .loop .j) (omega arith))
+
+add-requires : tie.Need-add-requires Inv-loop μ-loop
+add-requires c κs = let p = c .before .before .before .before .before .pre in
+    let s : natAbs (c .half-rise .result) ≤ steepest = rw (c .half-rise .ensures) (rise-size _ _ (p .0) (p .1 .ok (c .before .before .before .loop .j) (omega arith))) in
+    rw (back _ (c .half-rise .ok)) (omega (arith, p .1 .few, c .before .before .before .loop .inv))
+
+add-j : tie.Need-add-j Inv-loop μ-loop
+add-j c = omega (arith, c .before .before .before .before .before .before .pre .1 .few)
+
+loop-less : tie.Need-loop-less Inv-loop μ-loop
+loop-less c = omega arith
+
+loop-again : tie.Need-loop-again Inv-loop μ-loop
+loop-again c = let p = c .before .before .before .before .before .before .pre in
+    let v = c .before .before .before .before .loop .inv in
+    let r = c .before .half-rise .result in
+    let s : natAbs r ≤ steepest = rw (c .before .half-rise .ensures) (rise-size _ _ (p .0) (p .1 .ok (c .before .before .before .before .loop .j) (omega arith))) in
+    let e = stored (c .add .result) (c .add .ok) (rw (back _ (c .before .half-rise .ok)) at (c .add .ensures)) in
+    (omega arith, rw (e, c .before .half-rise .ensures) (rise-next _ _ _ (p .1 .places) (c .before .before .before .before .loop .j) (toZ w64 (c .before .before .before .before .loop .sum)) (omega arith) (v .1)), rw e (omega (arith, size-add (toZ w64 (c .before .before .before .before .loop .sum)) r, v)))
+
+returns : tie.Need-returns Inv-loop μ-loop
+returns c = (rise-end _ _ _ (c .before .before .before .pre .1 .places) (c .before .loop .j) _ (omega arith) (c .before .loop .inv .1), omega arith)
+
+pub way-rise-spec : {M : Type 1} → statement M
+way-rise-spec =
+    tie.close
+    (tie.spec
+    Inv-loop
+    μ-loop
+    loop-holds
+    mul-half-rise
+    shared-slice-read-half-rise
+    half-rise-requires
+    add-requires
+    add-j
+    loop-less
+    loop-again
+    returns)

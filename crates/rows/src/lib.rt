@@ -1,0 +1,103 @@
+// The row of a loop, and the rows of a book.
+ghost use mathlib.Core.Path.{_≡_};
+ghost use mathlib.Core.List.{[], _∷_};
+ghost use Prim.Native.Nat.{_+_, _*_, _<_, _≤_, _^_};
+ghost use lib.IntN.{pos, natAbs};
+ghost use lib.ListN.{length, take};
+ghost use Rattle.chains.specs.Chains.{numberLimit, longest};
+ghost use Rattle.chains.specs.Listed.{Longs};
+ghost use Rattle.rows.specs.Sums.{lengthOf, riseAt, riseOf, verdictOf, rowOf, Gentle, HalfOk, Coded, RowAsked, loosest, steepest};
+use book::line::Line;
+
+// The difference of a half in its sense.
+pub fn half_rise(lines: &[i64], h: usize) -> i64
+    requires { ⌜ Gentle (now lines) ⌝ ∗ ⌜ HalfOk (now lines) h ⌝ }
+    ensures { λ r. ⌜ r ≡ riseAt (now (lines .entry)) h ⌝ }
+{
+    let d = lines[(h / 2 - 1) * Line::WORDS + 2];
+    if h % 2 == 0 {
+        return d;
+    }
+    signed::sub(0, d)
+}
+
+// The length of the way in the first a places of out.
+pub fn way_length(lines: &[i64], long: &[u64], out: &[u64], a: usize) -> usize
+    requires { ⌜ Longs numberLimit (now long) ⌝ ∗ ⌜ Coded (now lines) (now out) a ⌝ }
+    ensures { λ r. ⌜ (r ≡ lengthOf (now (long .entry)) (take a (now (out .entry)))) × (r ≤ a * longest) ⌝ }
+{
+    let mut sum = 0;
+    let mut j = 0;
+    while j < a {
+        sum += long[(out[j] / 2) as usize] as usize;
+        j += 1;
+    }
+    sum
+}
+
+// The rise of the way in the first a places of out.
+pub fn way_rise(lines: &[i64], out: &[u64], a: usize) -> i64
+    requires { ⌜ Gentle (now lines) ⌝ ∗ ⌜ Coded (now lines) (now out) a ⌝ }
+    ensures { λ r. ⌜ (r ≡ riseOf (now (lines .entry)) (take a (now (out .entry)))) × (natAbs r ≤ a * steepest) ⌝ }
+{
+    let mut sum = 0i64;
+    let mut j = 0;
+    while j < a {
+        sum = signed::add(sum, half_rise(lines, out[j] as usize));
+        j += 1;
+    }
+    sum
+}
+
+// 0 where the misclosure is within the allowable, 1 where it is over. A size of 2 to the 31st or more is over in any case; below it the square fits.
+pub fn verdict(misclosure: i64, t: usize, metres: usize) -> i64
+    requires { ⌜ t ≤ loosest ⌝ ∗ ⌜ metres ≤ 1000 * longest ⌝ }
+    ensures { λ r. ⌜ r ≡ verdictOf t misclosure metres ⌝ }
+{
+    let size = signed::magnitude(misclosure);
+    if 2147483648 <= size {
+        return 1;
+    }
+    if size * size <= 10 * (t * t * metres) {
+        return 0;
+    }
+    1
+}
+
+// The five numbers of a row.
+pub fn write_row(
+    out: &mut [i64],
+    number: usize,
+    count: usize,
+    metres: usize,
+    misclosure: i64,
+    verdict: i64,
+)
+    requires { ⌜ length (now out) ≡ 5 ⌝ ∗ ⌜ (number < 2 ^ 63) × (count < 2 ^ 63) × (metres < 2 ^ 63) ⌝ }
+    ensures { λ _. ⌜ now (out .exit) ≡ pos number ∷ pos count ∷ pos metres ∷ misclosure ∷ verdict ∷ [] ⌝ }
+{
+    out[0] = signed::signed_count(number);
+    out[1] = signed::signed_count(count);
+    out[2] = signed::signed_count(metres);
+    out[3] = misclosure;
+    out[4] = verdict;
+}
+
+// The row of the loop of the closing line of this number, whose path stands in the first a places of path.
+pub fn row_of(
+    lines: &[i64],
+    long: &[u64],
+    path: &[u64],
+    out: &mut [i64],
+    a: usize,
+    number: usize,
+    t: usize,
+)
+    requires { ⌜ RowAsked (now lines) (now long) (now path) a number t ⌝ ∗ ⌜ length (now out) ≡ 5 ⌝ }
+    ensures { λ _. ⌜ now (out .exit) ≡ rowOf t (now (lines .entry)) (now (long .entry)) number (take a (now (path .entry))) ⌝ }
+{
+    let metres = long[number] as usize + way_length(lines, long, path, a);
+    let misclosure = signed::add(half_rise(lines, number * 2), way_rise(lines, path, a));
+    let over = verdict(misclosure, t, metres);
+    write_row(out, number, a + 1, metres, misclosure, over);
+}
