@@ -150,7 +150,7 @@ module _ (n q : ℕ) (ls : List ℤ) (tip long : List ℕ) (li : Listed (standin
   pub closing-ok : (c : Line) → List·Memᴰ c (standing ls) → q ≡ length ls / 5 + 1 → (number : ℕ) → c .number ≡ number → HalfOk ls (number * 2)
   closing-ok c i e number z = let two : 2 * c .number ≡ number * 2 = omega arith in subst (HalfOk ls) two (half-ok c i e true)
 
-  codes-ok : (ps : List Pass) → ((p : Pass) → List·Memᴰ p ps → List·Memᴰ (p .line) (standing ls)) → q ≡ length ls / 5 + 1 → (j : ℕ) → j < length ps → HalfOk ls (getD (codes ps) j 0)
+  pub codes-ok : (ps : List Pass) → ((p : Pass) → List·Memᴰ p ps → List·Memᴰ (p .line) (standing ls)) → q ≡ length ls / 5 + 1 → (j : ℕ) → j < length ps → HalfOk ls (getD (codes ps) j 0)
   unfolding codes
   codes-ok [] f e j h = absurd (omega arith)
   codes-ok (p ∷ ps) f e zero h = half-ok (p .line) (f p (List·Memᴰ·head refl)) e (p .forward)

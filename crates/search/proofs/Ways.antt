@@ -152,13 +152,13 @@ module _ (sub : List Line) (n : ℕ) (head next fars add tip : List ℕ) (gv : G
   }
   path-leads (cut-off x z) e out t o = absurd (true≢false (sym e ∙ x))
 
-  pub path-walked : {a : Bool} → Outcome sub n best tip r to a → a ≡ true → (out out′ : List ℕ) (c : ℕ) → Walked best tip out out′ 0 to c → Written (shortest (n - 1) sub to r) out out′ c
+  pub path-walked : {a : Bool} → Outcome sub n best tip r to a → a ≡ true → (out out′ : List ℕ) (c : ℕ) → Walked best tip out out′ 0 to c → Written n (shortest (n - 1) sub to r) out out′ c
   path-walked (reached x k d few ky i) e out out′ c w =
       let z = w (codes (shortest (n - 1) sub to r)) (found-way k d few ky i) in
-      record { places = z .places; count = omega (arith, z .count, length-codes (shortest (n - 1) sub to r)) }
+      record { places = z .places; count = omega (arith, z .count, length-codes (shortest (n - 1) sub to r)); few = omega (arith, z .count, length-codes (shortest (n - 1) sub to r), found-few k d few i) }
   path-walked (cut-off x z) e out out′ c w = absurd (true≢false (sym e ∙ x))
 
-  pub path-cut : {a : Bool} → Outcome sub n best tip r to a → a ≡ false → (out : List ℕ) → Written (shortest (n - 1) sub to r) out out 0
+  pub path-cut : {a : Bool} → Outcome sub n best tip r to a → a ≡ false → (out : List ℕ) → Written n (shortest (n - 1) sub to r) out out 0
   unfolding codes
   path-cut (reached x k d few ky i) e out = absurd (true≢false (sym x ∙ e))
-  path-cut (cut-off x z) e out = subst (λ (p : List Pass). Written p out out 0) (sym (shortest-none n sub (gv .sound) (gv .rising) r (n - 1) to z)) (record { places = refl; count = refl })
+  path-cut (cut-off x z) e out = subst (λ (p : List Pass). Written n p out out 0) (sym (shortest-none n sub (gv .sound) (gv .rising) r (n - 1) to z)) (record { places = refl; count = refl; few = omega arith })

@@ -196,9 +196,11 @@ Walked best tip out out′ c m a = (hs : List ℕ) → Way best tip m hs → Put
 
 -- ---- the path of a closing line
 
-pub record Written (ps : List Pass) (out out′ : List ℕ) (a : ℕ) : Type 0 where
+-- the passes ps, fewer than n, stand in out′ from place 0 on
+pub record Written (n : ℕ) (ps : List Pass) (out out′ : List ℕ) (a : ℕ) : Type 0 where
   pub places : out′ ≡ sets out 0 (codes ps)
   pub count : a ≡ length ps
+  pub few : a < n
 
 -- the chains hold some lines of a book
 pub record Held (n cnt : ℕ) (head next fars add tip : List ℕ) : Type 0 where
@@ -210,4 +212,4 @@ pub record Held (n cnt : ℕ) (head next fars add tip : List ℕ) : Type 0 where
 
 -- the path of the definition is written out
 abbrev pub Pathed : ℕ → List ℕ → List ℕ → List ℕ → List ℕ → List ℕ → List ℕ → List ℕ → ℕ → ℕ → ℕ → Type 0
-Pathed n head next fars add tip out out′ r to a = (sub : List Line) → Given sub n head next fars add tip → Written (shortest (n - 1) sub to r) out out′ a
+Pathed n head next fars add tip out out′ r to a = (sub : List Line) → Given sub n head next fars add tip → Written n (shortest (n - 1) sub to r) out out′ a

@@ -80,9 +80,9 @@ module _ {n q cnt number : ℕ} {tip long head next fars add : List ℕ} (lines 
     abbrev path : List Pass
     path = shortest (n - 1) (only sub lines) (c .to) (c .from)
 
-    written : Written (shortest (n - 1) (only sub lines) (c .to) (c .from)) out out′ count
-    written = subst (λ (u : ℕ). Written (shortest (n - 1) (only sub lines) u (c .from)) out out′ count) to-is
-        (subst (λ (r : ℕ). Written (shortest (n - 1) (only sub lines) (getD tip (number * 2) 0) r) out out′ count) from-is (pt (only sub lines) given))
+    written : Written n (shortest (n - 1) (only sub lines) (c .to) (c .from)) out out′ count
+    written = subst (λ (u : ℕ). Written n (shortest (n - 1) (only sub lines) u (c .from)) out out′ count) to-is
+        (subst (λ (r : ℕ). Written n (shortest (n - 1) (only sub lines) (getD tip (number * 2) 0) r) out out′ count) from-is (pt (only sub lines) given))
 
     -- a path of one line
     pub took-same : count ≡ 1 → Took lines sub c n cnt tip out head next fars add out′ count cnt
@@ -210,3 +210,8 @@ module _ (n : ℕ) (lines : List Line) (tip close : List ℕ) where
       drawn = t .drawn;
       room = omega (arith, g .room, ap length (x .is), t .few);
     }
+
+    pub going-more : {head′ next′ fars′ add′ out out′ : List ℕ} {count nodes : ℕ} (x : Next) (t : Took lines (g .sub) (x .c) n cnt tip out head′ next′ fars′ add′ out′ count nodes)
+        → going-next x t .done ≡ g .done ++ ((pass (x .c) true ∷ shortest (n - 1) (only (g .sub) lines) (x .c .to) (x .c .from)) ∷ [])
+    unfolding going-next
+    going-more x t = refl

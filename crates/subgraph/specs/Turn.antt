@@ -39,7 +39,7 @@ pub record Takes (n cnt number : ℕ) (tip long head next fars add best seg out 
 
 -- the path of c is in out′, in so many lines, and the subgraph has c with it unless the path has one line
 pub record Took (lines : List Line) (sub : List ℕ) (c : Line) (n cnt : ℕ) (tip out head′ next′ fars′ add′ out′ : List ℕ) (count nodes : ℕ) : Type 0 where
-  pub written : Written (shortest (n - 1) (only sub lines) (c .to) (c .from)) out out′ count
+  pub written : Written n (shortest (n - 1) (only sub lines) (c .to) (c .from)) out out′ count
   pub drawn : Drawn lines (added (c .number) (shortest (n - 1) (only sub lines) (c .to) (c .from)) sub) n nodes head′ next′ fars′ add′ tip
   pub few : nodes ≤ cnt + 2
 

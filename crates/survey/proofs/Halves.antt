@@ -6,14 +6,10 @@ use native.Mathlib.Omega.{arith}
 use mathlib.Core.Path.{_≡_, refl, sym, _∙_, ap}
 use mathlib.Core.List.{List, [], _∷_, _++_, map}
 use lib.IntN.{ℤ, pos}
-use lib.ListN.{length, take, drop, getD, set, length-set, length-take}
+use lib.ListN.{length, take, drop, getD, set, length-set, length-take, length-map}
 use lib.Seq.{take-suc-set, drop-set-lt, getD-take}
 use Rattle.survey.specs.Halves.{halfListed, halvesListed, Halves}
 use Rattle.survey.proofs.Laid.{Laid, laid-end}
-
-length-map : {A B : Type 0} (f : A → B) (xs : List A) → length (map f xs) ≡ length xs
-length-map f [] = refl
-length-map f (x ∷ xs) = ap suc (length-map f xs)
 
 getD-map : {A B : Type 0} (f : A → B) (xs : List A) (i : ℕ) (a : A) (b : B) → i < length xs → getD (map f xs) i b ≡ f (getD xs i a)
 getD-map f [] i a b h = absurd (omega arith)
@@ -27,7 +23,7 @@ wanted number a path = halvesListed number (take a path)
 module _ (number a : ℕ) (path : List ℕ) (places : a ≤ length path) where
   pub wanted-length : length (wanted number a path) ≡ a + 1
   unfolding halvesListed
-  wanted-length = rw (length-map halfListed (take a path), length-take a path) (omega arith)
+  wanted-length = rw (length-map (take a path) halfListed, length-take a path) (omega arith)
 
   -- the number is the first
   pub list-start : (out : List ℤ) (v : ℤ) → 1 ≤ length out → v ≡ pos number → Laid (wanted number a path) (set out 0 v) (set out 0 v) 1

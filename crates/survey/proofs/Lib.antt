@@ -2,3 +2,4 @@ pub mod Sounding
 pub mod Laid
 pub mod SameNumbers
 pub mod Halves
+pub mod Corrected

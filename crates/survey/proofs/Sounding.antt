@@ -1,29 +1,77 @@
--- The standing lines of a book that passes the test are sound: what the theorems on tree, paths and loops ask for.
+-- The standing lines of a tested book are sound, which is what the theorems on tree, paths and loops ask for; and there are few loops.
 -- Assumes nothing.
 use native.Mathlib.Omega.{arith}
 use mathlib.Core.Path.{_≡_, sym, _∙_, ap}
-use mathlib.Core.List.{List}
-use Prim.Native.Nat.{ℕ}
-use lib.IntN.{ℤ, pos, natAbs}
+use mathlib.Core.List.{List, [], _∷_}
+use Prim.Native.Nat.{ℕ, zero, suc, _+_, _*_, _≤_}
+use lib.IntN.{ℤ, pos, negsuc, natAbs}
+use lib.ListN.{length}
 use Rattle.laws.proofs.Size.{Between}
 use Rattle.book.specs.Good.{GoodLine, GoodBook}
 use Rattle.book.specs.declared.Book.{Book}
-use Rattle.network.specs.Standing.{standing}
+use Rattle.network.specs.Standing.{Line, line, keep, standingFrom, standing}
 use Rattle.network.specs.Sound.{Sound}
 use Rattle.network.specs.Field.{HasLine}
 use Rattle.network.proofs.Corrected.{standing-sound}
+use Rattle.network.proofs.Entries.{tree-lines-count}
+use Rattle.loops.specs.Loops.{loops}
+use Rattle.loops.proofs.EachLoop.{loops-are-counted}
+use Rattle.loops.proofs.Row.{rows-length}
+use Rattle.survey.specs.GoodLines.{GoodLines}
+use Rattle.survey.specs.Report.{loopsOf, reportOf}
+
+-- a book that passes the test has good lines
+pub good-lines : (k : Book) (b t : ℤ) (held lines : List ℤ) → GoodBook k b t held lines → GoodLines k lines
+good-lines k b t held lines g = record {
+  a-mark = g .a-mark;
+  few-marks = g .few-marks;
+  small-tolerance = g .small-tolerance;
+  whole = g .whole-lines;
+  few = g .few-lines;
+  each = g .each-line;
+}
 
 -- two whole numbers that are natural are equal where their sizes are
 natural : {lo hi : ℕ} {x y : ℤ} → Between lo hi x → Between lo hi y → natAbs x ≡ natAbs y → x ≡ y
 natural f t e = f .is ∙ ap pos e ∙ sym (t .is)
 
-module _ (k : Book) (b t : ℤ) (held lines : List ℤ) (good : GoodBook k b t held lines) where
-  there : (i : ℕ) → HasLine lines i → GoodLine (k .marks) lines i
-  there i h = good .each-line i (omega (arith, h, good .whole-lines))
+-- no more lines stand than there are
+few-stand : (k : ℕ) (lines : List ℤ) → 5 * length (standingFrom k lines) ≤ length lines
+unfolding standingFrom
+few-stand k [] = omega arith
+few-stand k (f ∷ []) = omega arith
+few-stand k (f ∷ t ∷ []) = omega arith
+few-stand k (f ∷ t ∷ d ∷ []) = omega arith
+few-stand k (f ∷ t ∷ d ∷ n ∷ []) = omega arith
+few-stand k (f ∷ t ∷ d ∷ n ∷ s ∷ rest) = go s (few-stand (suc k) rest)
+  where
+    go : (s : ℤ) → 5 * length (standingFrom (suc k) rest) ≤ length rest
+        → 5 * length (keep s (line k (natAbs f) (natAbs t) d (natAbs n)) (standingFrom (suc k) rest)) ≤ suc (suc (suc (suc (suc (length rest)))))
+    go (pos zero) h = omega arith
+    go (pos (suc x)) h = omega arith
+    go (negsuc x) h = omega arith
 
-  pub good-sound : Sound (k .marks) (standing lines)
-  good-sound = standing-sound (k .marks) lines (λ i h. let g = there i h in (
+pub few-standing : (lines : List ℤ) → 5 * length (standing lines) ≤ length lines
+unfolding standing
+few-standing lines = few-stand 1 lines
+
+module _ (k : Book) (lines : List ℤ) (good : GoodLines k lines) where
+  there : (i : ℕ) → HasLine lines i → GoodLine (k .marks) lines i
+  there i h = good .each i (omega (arith, h, good .whole))
+
+  pub lines-sound : Sound (k .marks) (standing lines)
+  lines-sound = standing-sound (k .marks) lines (λ i h. let g = there i h in (
     record { from-low = g .from .low; from-high = g .from .high; to-low = g .to .low; to-high = g .to .high },
     λ e. g .apart (natural (g .from) (g .to) e),
     g .long .low,
   ))
+
+  -- no more loops than lines
+  pub few-loops : length (loopsOf (k .marks) lines) ≤ k .lines
+  unfolding loopsOf
+  few-loops =
+      omega (arith, loops-are-counted (k .marks) (standing lines) lines-sound, tree-lines-count (k .marks) (standing lines) lines-sound, few-standing lines, good .whole)
+
+  pub report-length : length (reportOf (k .marks) (k .tolerance) lines) ≡ length (loopsOf (k .marks) lines) * 5
+  unfolding reportOf
+  report-length = omega (arith, rows-length (k .tolerance) (loopsOf (k .marks) lines))

@@ -2,7 +2,8 @@
 -- Assumes nothing.
 use mathlib.Core.Bool.{Bool, true, false, not, cond, _||_}
 use mathlib.Core.List.{List, [], _∷_, _++_}
-use Prim.Native.Nat.{ℕ, _+_, _-_, _*_}
+use mathlib.Core.Path.{_≡_}
+use Prim.Native.Nat.{ℕ, _+_, _-_, _*_, _≤_}
 use lib.Dec.{ltb}
 use lib.ListN.{length, take, drop, set, replicate}
 use lib.IntN.{ℤ, pos, natAbs}
@@ -81,3 +82,13 @@ rerunOf b t held lines report number difference =
 unfoldable pub withdrawOf : ℤ → ℤ → List ℤ → List ℤ → List ℤ → ℤ → Corrected
 unfolding correctTested testOf withdrawLines
 withdrawOf b t held lines report number = correctTested lines report number (withdrawLines lines number) (testOf b t held lines)
+
+-- before the report is brought up to date: it kept so many rows, and the book has no more now
+pub record Refresh (k : Book) (lines report : List ℤ) (before : ℕ) : Type 0 where
+  pub fewer : length (reportOf (k .marks) (k .tolerance) lines) ≤ before * 5
+  pub places : before * 5 ≤ length report
+
+-- and after: the rows of the book as it stands, zeros in vacated rows, the rest as it was
+pub record Refreshed (k : Book) (lines report report′ : List ℤ) (before : ℕ) (a : Answer) : Type 0 where
+  pub answer : a ≡ counted (k .marks) lines
+  pub report-is : report′ ≡ reportOf (k .marks) (k .tolerance) lines ++ replicate (before * 5 - length (reportOf (k .marks) (k .tolerance) lines)) (pos 0) ++ drop (before * 5) report

@@ -1,7 +1,16 @@
-// The public calls on a lent book.
+// The public calls on a lent book: survey, listing, not-checked list, re-run and withdrawal.
+ghost use mathlib.Core.Path.{_≡_};
+ghost use Rattle.survey.specs.Report.{refusal};
+ghost use Rattle.survey.specs.Survey.{surveyed, surveyOf};
+
+mod correct;
 mod kept;
 mod list;
+mod work;
 
+use book::Tested;
+
+// What survey, re-run and withdrawal answer.
 pub struct Answer {
     pub number: usize,
     pub place: usize,
@@ -9,8 +18,30 @@ pub struct Answer {
     pub pieces: usize,
 }
 
+// What a listing answers.
 pub struct Listed {
     pub number: usize,
     pub place: usize,
     pub entries: usize,
+}
+
+pub fn refuse(number: usize, place: usize) -> Answer
+    ensures { λ r. ⌜ r ≡ refusal number place ⌝ }
+{
+    Answer {
+        number,
+        place,
+        rows: 0,
+        pieces: 0,
+    }
+}
+
+// The loops of the book as rows. A refusal leaves the rows as they were.
+pub fn survey(b: i64, t: i64, held: &[i64], lines: &[i64], rows: &mut [i64]) -> Answer
+    ensures { λ r. ⌜ surveyed r (now (rows .exit)) ≡ surveyOf b t (now (held .entry)) (now (lines .entry)) (now (rows .entry)) ⌝ }
+{
+    match book::test(b, t, held, lines) {
+        Tested::Refused(r) => refuse(r.number, r.place),
+        Tested::Good(book) => work::survey_good(book, lines, rows),
+    }
 }

@@ -24,62 +24,48 @@ way-at t = and 3 way-kinds.ps (is 3 way-kinds.ps μ-way t) way.Pre
 abbrev way-below : ℕ → In 3 way-kinds.ps
 way-below t = and 3 way-kinds.ps (falls 3 way-kinds.ps _<_ μ-way t) way.Pre
 
--- src/lib.rt:142:15
 way-mul-key : (t : ℕ) → way-lts.Need-mul-key (way-below t, way.Post) (way-at t) way.Post
 way-mul-key t c = omega (arith, way-low (c .before .before .before .pre .1 .way))
 
--- src/lib.rt:142:15
 way-shared-slice-read-key :
     (t : ℕ) → way-lts.Need-shared-slice-read-key (way-below t, way.Post) (way-at t) way.Post
 way-shared-slice-read-key t c = omega (arith, way-low (c .before .before .before .before .pre .1 .way))
 
--- src/lib.rt:144:9
 way-returns : (t : ℕ) → way-lts.Need-returns (way-below t, way.Post) (way-at t) way.Post
 way-returns t c = λ hs w. walk-end w (omega arith) _ _
 
--- src/lib.rt:147:13
 way-mul-g : (t : ℕ) → way-lts.Need-mul-g (way-below t, way.Post) (way-at t) way.Post
 way-mul-g t c = search needs
 
--- src/lib.rt:147:13
 way-add-g : (t : ℕ) → way-lts.Need-add-g (way-below t, way.Post) (way-at t) way.Post
 way-add-g t c = search needs
 
--- src/lib.rt:147:13
 way-sub-g : (t : ℕ) → way-lts.Need-sub-g (way-below t, way.Post) (way-at t) way.Post
 way-sub-g t c = search needs
 
--- src/lib.rt:148:5
 way-mul-out : (t : ℕ) → way-lts.Need-mul-out (way-below t, way.Post) (way-at t) way.Post
 way-mul-out t c = search needs
 
--- src/lib.rt:148:5
 way-slice-write-out :
     (t : ℕ) → way-lts.Need-slice-write-out (way-below t, way.Post) (way-at t) way.Post
 way-slice-write-out t c = walk-room _ _ _ _ _ (λ e. omega arith) (c .before .before .before .before .before .pre .1)
 
--- src/lib.rt:149:25
 way-add-way : (t : ℕ) → way-lts.Need-add-way (way-below t, way.Post) (way-at t) way.Post
 way-add-way t c = search needs
 
--- src/lib.rt:149:32
 way-mul-way : (t : ℕ) → way-lts.Need-mul-way (way-below t, way.Post) (way-at t) way.Post
 way-mul-way t c = search needs
 
--- src/lib.rt:149:32
 way-shared-slice-read-way :
     (t : ℕ) → way-lts.Need-shared-slice-read-way (way-below t, way.Post) (way-at t) way.Post
 way-shared-slice-read-way t c = search needs
 
--- src/lib.rt:149:5
 way-way-requires : (t : ℕ) → way-lts.Need-way-requires (way-below t, way.Post) (way-at t) way.Post
 way-way-requires t c κs = (walk-falls _ _ _ _ _ (λ e. omega arith) (c .before .before .before .before .before .before .before .pre .1) t (c .before .before .before .before .before .before .before .pre .0), walk-next _ _ _ _ _ (λ e. omega arith) (c .before .before .before .before .before .before .before .pre .1))
 
--- src/lib.rt:138:1
 way-same-length : (t : ℕ) → way-lts.Need-same-length (way-below t, way.Post) (way-at t) way.Post
 way-same-length t c = simp length-set at (c .before .before .way .kept .1 .1 .0)
 
--- src/lib.rt:138:1
 way-returns-2 : (t : ℕ) → way-lts.Need-returns-2 (way-below t, way.Post) (way-at t) way.Post
 way-returns-2 t c = walk-put _ _ _ _ _ (λ e. omega arith) (c .before .before .way .ensures)
 

@@ -8,42 +8,33 @@ use Rattle.search.proofs.path.Lts as lts
 use Rattle.search.proofs.search.Reads as search-reads
 use Rattle.search.proofs.way.Reads as way-reads
 
--- src/lib.rt:170:8
 search-requires : tie.Need-search-requires
 search-requires c κs = let p = c .before .before .before .before .before .before .before .before .before .before .pre in (p .0 .nodes, (p .0 .heads, (p .0 .tips, (p .1 .0 .room, p .1 .1))))
 
--- src/lib.rt:171:9
 way-requires : tie.Need-way-requires
 way-requires c κs = let p = c .before .before .before .before .before .before .before .before .before .before .before .before .before .before .before .before .before .before .pre in
     let g = p .0 .given in
     path-leads _ _ _ _ _ _ _ g _ _ _ (p .1 .1 .r-ok) (omega (arith, p .1 .0 .room .bests)) (c .before .before .before .before .before .before .before .search .ensures (p .0 .sub) g) (c .before .before .if1 .taken) _ (p .0 .tips .tips) (p .1 .0 .outs)
 
--- src/lib.rt:171:9
 same-length : tie.Need-same-length
 same-length c = search needs
 
--- src/lib.rt:171:9
 same-length-2 : tie.Need-same-length-2
 same-length-2 c = search needs
 
--- src/lib.rt:171:9
 same-length-3 : tie.Need-same-length-3
 same-length-3 c = search needs
 
--- src/lib.rt:171:9
 returns : tie.Need-returns
 returns c = let p = c .before .before .before .before .before .before .before .before .before .before .before .before .before .before .before .before .before .before .before .before .before .pre in
     λ sub g. path-walked sub _ _ _ _ _ _ g _ _ _ (p .1 .1 .r-ok) (omega (arith, p .1 .0 .room .bests)) (c .before .before .before .before .before .before .before .before .before .before .search .ensures sub g) (c .before .before .before .before .before .if1 .taken) _ _ _ (c .before .before .way .ensures)
 
--- src/lib.rt:153:1
 same-length-4 : tie.Need-same-length-4
 same-length-4 c = search needs
 
--- src/lib.rt:153:1
 same-length-5 : tie.Need-same-length-5
 same-length-5 c = search needs
 
--- src/lib.rt:153:1
 returns-2 : tie.Need-returns-2
 returns-2 c = let p = c .before .before .before .before .before .before .before .before .before .before .before .before .before .before .before .before .pre in
     λ sub g. path-cut sub _ _ _ _ _ _ g _ _ _ (p .1 .1 .r-ok) (omega (arith, p .1 .0 .room .bests)) (c .before .before .before .before .before .search .ensures sub g) (c .if1 .left) _

@@ -21,57 +21,44 @@ Inv-loop head next far add tip best₀ seg₀ n cnt r to k₀ best seg k = (0 < 
 abbrev μ-loop : tie.MeasureT-loop
 μ-loop head next far add tip best₀ seg₀ n cnt r to k₀ best seg k = n - k
 
--- src/lib.rt:122:5
 begin-requires : tie.Need-begin-requires Inv-loop μ-loop
 begin-requires c κs = let p = c .before .before .before .before .before .before .before .before .before .pre in (p .0, (p .1 .0, (p .1 .1 .1 .0, p .1 .1 .1 .1 .r-ok)))
 
--- src/lib.rt:124:5
 loop-holds : tie.Need-loop-holds Inv-loop μ-loop
 loop-holds c = let p = c .before .before .before .before .before .before .before .before .before .before .before .before .before .before .pre in
     let b = c .before .before .before .before .begin .ensures in
     (omega arith, omega (arith, p .1 .1 .1 .1 .r-ok, p .1 .1 .1 .1 .to-ok, p .1 .1 .1 .1 .apart), b .offered .stage, refl, refl, λ sub g. begun-searching sub _ _ _ _ _ _ g _ _ _ _ (p .1 .1 .1 .1) b)
 
--- src/lib.rt:124:11
 add-loop : tie.Need-add-loop Inv-loop μ-loop
 add-loop c = omega arith
 
--- src/lib.rt:125:13
 turn-requires : tie.Need-turn-requires Inv-loop μ-loop
 turn-requires c κs = let p = c .before .before .before .before .before .before .before .before .before .before .before .before .before .before .before .before .before .before .pre in (p .0, (p .1 .0, (p .1 .1 .0, c .before .before .before .loop .inv .2)))
 
--- src/lib.rt:127:13
 same-length : tie.Need-same-length Inv-loop μ-loop
 same-length c = omega arith
 
--- src/lib.rt:127:13
 same-length-2 : tie.Need-same-length-2 Inv-loop μ-loop
 same-length-2 c = omega arith
 
--- src/lib.rt:127:13
 returns : tie.Need-returns Inv-loop μ-loop
 returns c = λ sub g. turned-none sub _ _ _ _ _ _ g _ _ _ _ _ _ _ _ (c .before .before .before .before .before .before .before .before .before .loop .inv .2) (omega (arith, c .before .before .before .before .before .before .before .before .before .before .before .before .before .before .before .before .before .before .before .before .before .before .before .before .pre .1 .1 .1 .0 .few)) (c .before .before .before .before .before .before .before .before .before .loop .inv .5 sub g) (c .before .before .before .before .before .turn .ensures) (omega arith) (omega arith)
 
--- src/lib.rt:130:13
 same-length-3 : tie.Need-same-length-3 Inv-loop μ-loop
 same-length-3 c = omega arith
 
--- src/lib.rt:130:13
 same-length-4 : tie.Need-same-length-4 Inv-loop μ-loop
 same-length-4 c = omega arith
 
--- src/lib.rt:130:13
 returns-2 : tie.Need-returns-2 Inv-loop μ-loop
 returns-2 c = λ sub g. turned-found sub _ _ _ _ _ _ g _ _ _ _ _ _ _ _ (c .before .before .before .before .before .before .before .before .before .before .loop .inv .2) (omega (arith, c .before .before .before .before .before .before .before .before .before .before .before .before .before .before .before .before .before .before .before .before .before .before .before .before .before .pre .1 .1 .1 .0 .few)) (c .before .before .before .before .before .before .before .before .before .before .loop .inv .5 sub g) (c .before .before .before .before .before .before .turn .ensures) (λ e. omega arith) (omega arith) (omega arith)
 
--- src/lib.rt:132:9
 add-k : tie.Need-add-k Inv-loop μ-loop
 add-k c = omega arith
 
--- src/lib.rt:124:5
 loop-less : tie.Need-loop-less Inv-loop μ-loop
 loop-less c = omega arith
 
--- src/lib.rt:124:5
 loop-again : tie.Need-loop-again Inv-loop μ-loop
 loop-again c = (
   omega arith,
@@ -82,15 +69,12 @@ loop-again c = (
   λ sub g. turned-more sub _ _ _ _ _ _ g _ _ _ _ _ _ _ _ (c .before .before .before .before .before .before .before .before .before .before .loop .inv .2) (omega (arith, c .before .before .before .before .before .before .before .before .before .before .before .before .before .before .before .before .before .before .before .before .before .before .before .before .before .pre .1 .1 .1 .0 .few)) (c .before .before .before .before .before .before .before .before .before .before .loop .inv .5 sub g) (c .before .before .before .before .before .before .turn .ensures) (λ e. omega arith) (λ e. omega arith),
 )
 
--- src/lib.rt:106:1
 same-length-5 : tie.Need-same-length-5 Inv-loop μ-loop
 same-length-5 c = omega arith
 
--- src/lib.rt:106:1
 same-length-6 : tie.Need-same-length-6 Inv-loop μ-loop
 same-length-6 c = omega arith
 
--- src/lib.rt:106:1
 returns-3 : tie.Need-returns-3 Inv-loop μ-loop
 returns-3 c = λ sub g. search-end sub _ _ _ _ _ _ g _ _ _ _ _ (c .before .loop .inv .5 sub g) (omega arith) refl
 

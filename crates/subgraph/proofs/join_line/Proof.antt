@@ -7,65 +7,50 @@ use Rattle.subgraph.proofs.join_line.Reads as reads
 use Rattle.subgraph.proofs.join_line.Lts as lts
 use Rattle.chains.proofs.join.Reads as join-reads
 
--- src/lib.rt:37:20
 mul-from : tie.Need-mul-from
 mul-from c = search needs
 
--- src/lib.rt:37:20
 add-from : tie.Need-add-from
 add-from c = search needs
 
--- src/lib.rt:37:16
 mul-from-2 : tie.Need-mul-from-2
 mul-from-2 c = search needs
 
--- src/lib.rt:37:16
 shared-slice-read-from : tie.Need-shared-slice-read-from
 shared-slice-read-from c = search needs
 
--- src/lib.rt:38:18
 mul-to : tie.Need-mul-to
 mul-to c = search needs
 
--- src/lib.rt:38:14
 mul-to-2 : tie.Need-mul-to-2
 mul-to-2 c = search needs
 
--- src/lib.rt:38:14
 shared-slice-read-to : tie.Need-shared-slice-read-to
 shared-slice-read-to c = search needs
 
--- src/lib.rt:49:9
 mul-join : tie.Need-mul-join
 mul-join c = search needs
 
--- src/lib.rt:49:9
 shared-slice-read-join : tie.Need-shared-slice-read-join
 shared-slice-read-join c = search needs
 
--- src/lib.rt:39:5
 join-requires : tie.Need-join-requires
 join-requires c κs = let p = c .before .before .before .before .before .before .before .before .before .before .before .before .before .pre in
     let j = c .before .before .before .before .before .before .before .before .before .before .before .before .before .args .number in
     (p .1 .1 .0, record { f-ok = p .0 .tip-ok (j * 2 + 1) (omega arith); t-ok = p .0 .tip-ok (j * 2) (omega arith); number = p .1 .1 .1; short = p .1 .0 .long-ok j (p .1 .1 .1) })
 
--- src/lib.rt:23:1
 same-length : tie.Need-same-length
 same-length c = search needs
 
--- src/lib.rt:23:1
 same-length-2 : tie.Need-same-length-2
 same-length-2 c = search needs
 
--- src/lib.rt:23:1
 same-length-3 : tie.Need-same-length-3
 same-length-3 c = search needs
 
--- src/lib.rt:23:1
 same-length-4 : tie.Need-same-length-4
 same-length-4 c = search needs
 
--- src/lib.rt:23:1
 returns : tie.Need-returns
 returns c = search needs
 

@@ -8,35 +8,27 @@ use Rattle.subgraph.proofs.lay_mark.Reads as reads
 use Rattle.subgraph.proofs.lay_mark.Lts as lts
 use Rattle.subgraph.proofs.join_line.Reads as join-line-reads
 
--- src/lib.rt:69:9
 returns : tie.Need-returns
 returns c = stayed (c .if1 .taken) refl refl refl refl refl
 
--- src/lib.rt:72:5
 join-line-requires : tie.Need-join-line-requires
 join-line-requires c κs = let p = c .before .before .before .before .before .before .before .before .before .before .before .pre in (p .0, (p .1 .0, (p .1 .1, omega arith)))
 
--- src/lib.rt:73:5
 add-result : tie.Need-add-result
 add-result c = search needs
 
--- src/lib.rt:54:1
 same-length : tie.Need-same-length
 same-length c = search needs
 
--- src/lib.rt:54:1
 same-length-2 : tie.Need-same-length-2
 same-length-2 c = search needs
 
--- src/lib.rt:54:1
 same-length-3 : tie.Need-same-length-3
 same-length-3 c = search needs
 
--- src/lib.rt:54:1
 same-length-4 : tie.Need-same-length-4
 same-length-4 c = search needs
 
--- src/lib.rt:54:1
 returns-2 : tie.Need-returns-2
 returns-2 c = joined (λ e. omega arith) refl (c .before .before .before .before .before .before .before .before .join-line .ensures)
 

@@ -22,73 +22,57 @@ Inv-loop tip long best order head₀ next₀ far₀ add₀ n cnt₀ k₀ head ne
 abbrev μ-loop : tie.MeasureT-loop
 μ-loop tip long best order head₀ next₀ far₀ add₀ n cnt₀ k₀ head next far add cnt k = n - k
 
--- src/lib.rt:91:5
 zero-requires : tie.Need-zero-requires Inv-loop μ-loop
 zero-requires c κs = search needs
 
--- src/lib.rt:94:5
 loop-holds : tie.Need-loop-holds Inv-loop μ-loop
 loop-holds c = let p = c .before .before .before .before .before .before .before .before .before .before .before .before .pre .1 .1 in
     let z = c .before .before .zero .ensures in
     (p .some-mark, omega arith, nodes-none _ _ _ _, heads-none _ _ (omega (arith, p .heads)) z, (refl, refl, refl, refl), λ q lines li ho. lay-start _ _ _ _ lines li _ _ ho _ _ _ _ z)
 
--- src/lib.rt:94:11
 add-loop : tie.Need-add-loop Inv-loop μ-loop
 add-loop c = search needs
 
--- src/lib.rt:104:18
 mul-lay-mark : tie.Need-mul-lay-mark Inv-loop μ-loop
 mul-lay-mark c = search needs
 
--- src/lib.rt:104:18
 shared-slice-read-lay-mark : tie.Need-shared-slice-read-lay-mark Inv-loop μ-loop
 shared-slice-read-lay-mark c = search needs
 
--- src/lib.rt:104:13
 mul-lay-mark-2 : tie.Need-mul-lay-mark-2 Inv-loop μ-loop
 mul-lay-mark-2 c = let p = c .before .before .before .before .before .before .before .before .before .before .before .before .before .before .before .before .before .before .before .pre .1 .1 in omega (arith, p .below (c .before .before .before .before .before .before .loop .k) (omega arith), p .bests)
 
--- src/lib.rt:104:13
 shared-slice-read-lay-mark-2 : tie.Need-shared-slice-read-lay-mark-2 Inv-loop μ-loop
 shared-slice-read-lay-mark-2 c = let p = c .before .before .before .before .before .before .before .before .before .before .before .before .before .before .before .before .before .before .before .before .pre .1 .1 in omega (arith, p .below (c .before .before .before .before .before .before .before .loop .k) (omega arith), p .bests)
 
--- src/lib.rt:95:9
 lay-mark-requires : tie.Need-lay-mark-requires Inv-loop μ-loop
 lay-mark-requires c κs = let p = c .before .before .before .before .before .before .before .before .before .before .before .before .before .before .before .before .before .before .before .before .pre in
     let v = c .before .before .before .before .before .before .before .loop .inv in
     (p .0, (p .1 .0, record { heads = v .3; nodes = v .2; nexts = omega (arith, v, p .1 .1 .nexts); ends = omega (arith, v, p .1 .1 .ends); adds = omega (arith, v, p .1 .1 .adds) }))
 
--- src/lib.rt:106:9
 add-k : tie.Need-add-k Inv-loop μ-loop
 add-k c = search needs
 
--- src/lib.rt:94:5
 loop-less : tie.Need-loop-less Inv-loop μ-loop
 loop-less c = search needs
 
--- src/lib.rt:94:5
 loop-again : tie.Need-loop-again Inv-loop μ-loop
 loop-again c = let v = c .before .before .before .before .before .before .before .before .before .before .before .before .before .before .before .before .loop .inv in
     let e = c .before .before .before .before .before .before .before .before .lay-mark .ensures in
     (omega arith, omega (arith, laid-high e, v), laid-nodes e (v .2), laid-heads e (v .3), (omega arith, omega arith, omega arith, omega arith), λ q lines li ho. laid-next _ _ _ _ lines li _ _ ho _ _ _ _ _ _ _ _ _ _ _ (omega arith) (v .5 q lines li ho) e)
 
--- src/lib.rt:77:1
 same-length : tie.Need-same-length Inv-loop μ-loop
 same-length c = search needs
 
--- src/lib.rt:77:1
 same-length-2 : tie.Need-same-length-2 Inv-loop μ-loop
 same-length-2 c = search needs
 
--- src/lib.rt:77:1
 same-length-3 : tie.Need-same-length-3 Inv-loop μ-loop
 same-length-3 c = search needs
 
--- src/lib.rt:77:1
 same-length-4 : tie.Need-same-length-4 Inv-loop μ-loop
 same-length-4 c = search needs
 
--- src/lib.rt:77:1
 returns : tie.Need-returns Inv-loop μ-loop
 returns c = let v = c .before .loop .inv in λ q lines li ho. lay-end _ _ _ _ lines li _ _ ho _ _ _ _ _ _ (c .before .before .before .before .before .before .before .before .before .before .before .before .before .before .pre .1 .1 .some-mark) (omega arith) (v .2) (v .3) (v .5 q lines li ho)
 

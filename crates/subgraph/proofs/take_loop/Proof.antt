@@ -8,107 +8,81 @@ use Rattle.subgraph.proofs.take_loop.Lts as lts
 use Rattle.search.proofs.path.Reads as path-reads
 use Rattle.subgraph.proofs.join_line.Reads as join-line-reads
 
--- src/lib.rt:137:20
 mul-from : tie.Need-mul-from
 mul-from c = omega (arith, takes-number (c .before .before .before .before .before .before .before .before .before .pre))
 
--- src/lib.rt:137:20
 add-from : tie.Need-add-from
 add-from c = omega (arith, takes-number (c .before .before .before .before .before .before .before .before .before .pre))
 
--- src/lib.rt:137:16
 mul-from-2 : tie.Need-mul-from-2
 mul-from-2 c = omega (arith, takes-number (c .before .before .before .before .before .before .before .before .before .pre))
 
--- src/lib.rt:137:16
 shared-slice-read-from : tie.Need-shared-slice-read-from
 shared-slice-read-from c = omega (arith, takes-number (c .before .before .before .before .before .before .before .before .before .before .pre), c .before .before .before .before .before .before .before .before .before .before .pre .tips .tips)
 
--- src/lib.rt:138:18
 mul-to : tie.Need-mul-to
 mul-to c = omega (arith, takes-number (c .before .before .before .before .before .before .before .before .before .before .pre))
 
--- src/lib.rt:138:14
 mul-to-2 : tie.Need-mul-to-2
 mul-to-2 c = omega (arith, takes-number (c .before .before .before .before .before .before .before .before .before .before .pre))
 
--- src/lib.rt:138:14
 shared-slice-read-to : tie.Need-shared-slice-read-to
 shared-slice-read-to c = omega (arith, takes-number (c .before .before .before .before .before .before .before .before .before .before .before .pre), c .before .before .before .before .before .before .before .before .before .before .before .pre .tips .tips)
 
--- src/lib.rt:139:9
 path-requires : tie.Need-path-requires
 path-requires c κs = let p = c .before .before .before .before .before .before .before .before .before .before .before .before .before .before .before .before .before .before .pre in (takes-held p, (p .rooms, takes-two p))
 
--- src/lib.rt:143:9
 same-length : tie.Need-same-length
 same-length c = search needs
 
--- src/lib.rt:143:9
 same-length-2 : tie.Need-same-length-2
 same-length-2 c = search needs
 
--- src/lib.rt:143:9
 same-length-3 : tie.Need-same-length-3
 same-length-3 c = search needs
 
--- src/lib.rt:143:9
 same-length-4 : tie.Need-same-length-4
 same-length-4 c = search needs
 
--- src/lib.rt:143:9
 same-length-5 : tie.Need-same-length-5
 same-length-5 c = search needs
 
--- src/lib.rt:143:9
 same-length-6 : tie.Need-same-length-6
 same-length-6 c = search needs
 
--- src/lib.rt:143:9
 same-length-7 : tie.Need-same-length-7
 same-length-7 c = search needs
 
--- src/lib.rt:143:9
 returns : tie.Need-returns
 returns c = λ q lines sub l tk. took-same lines sub l tk (c .before .before .before .before .before .before .before .path .ensures) (c .if1 .taken)
 
--- src/lib.rt:145:5
 join-line-requires : tie.Need-join-line-requires
 join-line-requires c κs = let p = c .before .before .before .before .before .before .before .before .before .before .before .before .before .before .before .before .before .before .before .before .before .before .before .before .before .before .before .before .before .before .pre in (p .tips, (p .longs, (takes-places p, takes-number p)))
 
--- src/lib.rt:148:16
 add-t18 : tie.Need-add-t18
 add-t18 c = omega (arith, c .before .before .before .before .before .before .before .before .before .before .before .before .before .before .before .before .before .before .before .before .before .before .before .before .before .before .before .before .before .before .before .before .before .before .before .before .before .before .before .pre .nexts, c .before .before .before .before .before .before .before .before .before .before .before .before .before .before .before .before .before .before .before .before .before .before .before .before .before .before .before .before .before .before .before .before .before .before .before .before .before .before .before .good)
 
--- src/lib.rt:120:1
 same-length-8 : tie.Need-same-length-8
 same-length-8 c = search needs
 
--- src/lib.rt:120:1
 same-length-9 : tie.Need-same-length-9
 same-length-9 c = search needs
 
--- src/lib.rt:120:1
 same-length-10 : tie.Need-same-length-10
 same-length-10 c = search needs
 
--- src/lib.rt:120:1
 same-length-11 : tie.Need-same-length-11
 same-length-11 c = search needs
 
--- src/lib.rt:120:1
 same-length-12 : tie.Need-same-length-12
 same-length-12 c = search needs
 
--- src/lib.rt:120:1
 same-length-13 : tie.Need-same-length-13
 same-length-13 c = search needs
 
--- src/lib.rt:120:1
 same-length-14 : tie.Need-same-length-14
 same-length-14 c = search needs
 
--- src/lib.rt:120:1
 returns-2 : tie.Need-returns-2
 returns-2 c = λ q lines sub l tk. took-more lines sub l tk (c .before .before .before .before .before .before .before .before .before .before .before .before .before .before .before .before .before .before .before .before .path .ensures) (λ e. omega arith) (c .before .before .before .before .before .before .before .before .join-line .ensures)
 

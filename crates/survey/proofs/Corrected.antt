@@ -1,0 +1,131 @@
+-- A tested book with one number of a standing line set: it stays good, and has no more rows.
+-- Assumes nothing.
+use mathlib.Core.Path.{_≡_, refl, sym, _∙_, ap, subst}
+use mathlib.Core.Bool.{Bool, true, false, _||_}
+use mathlib.Core.List.{List, List·Memᴰ}
+use Prim.Native.Nat.{ℕ, suc, _+_, _*_, _-_, _/_, _≤_, _<_}
+use native.Mathlib.Decide.{ℕ-discrete}
+use native.Mathlib.Omega.{arith}
+use lib.ListN.{length, getD, set, length-set, length-map}
+use lib.Seq.{getD-set-same, getD-set-other}
+use lib.IntN.{ℤ, pos, natAbs}
+use Rattle.laws.specs.Tests.{outZ, eqZ}
+use Rattle.laws.proofs.Tests.{or-left, or-right, eqZ-apart}
+use Rattle.laws.proofs.Size.{Between, between}
+use Rattle.book.specs.Limits.{mostDifference}
+use Rattle.book.specs.Line.{field, differenceAt, standingAt, lineCount}
+use Rattle.book.specs.Good.{GoodLine}
+use Rattle.book.specs.declared.Book.{Book}
+use Rattle.network.specs.Standing.{Line, standing}
+use Rattle.network.specs.Field.{HasLine, lineAt}
+use Rattle.network.specs.Redone.{redone, redonePass}
+use Rattle.network.specs.Without.{without}
+use Rattle.network.proofs.Corrected.{in-standing, rerun-sets-difference, withdrawal-sets-standing}
+use Rattle.loops.specs.Loops.{loops}
+use Rattle.loops.proofs.Rerun.{rerun-keeps-loops}
+use Rattle.loops.proofs.Withdrawal.{loops-never-grow}
+use Rattle.survey.specs.GoodLines.{GoodLines}
+use Rattle.survey.specs.Stands.{Stands, Sets, re-run, withdrawal}
+use Rattle.survey.specs.Report.{loopsOf, reportOf}
+use Rattle.survey.specs.Correction.{noLine, placeOf}
+use Rattle.survey.proofs.Sounding.{lines-sound, report-length}
+
+-- a line that is not refused stands
+pub stands-of : (lines : List ℤ) (number : ℤ) → noLine lines number ≡ false → Stands lines number (natAbs number - 1)
+unfolding noLine
+stands-of lines number e =
+    let out = outZ (pos 1) (pos (lineCount lines)) number in
+    let gone = eqZ (standingAt lines (natAbs number - 1)) (pos 0) in
+    let b = between 1 (lineCount lines) number (or-left out gone e) in
+    record {
+      its-number = b .is ∙ ap pos (omega (arith, b .low));
+      there = omega (arith, b .low, b .high);
+      not-withdrawn = eqZ-apart (standingAt lines (natAbs number - 1)) (pos 0) (or-right out gone e);
+    }
+
+-- where the number of a standing line's field is
+pub place-is : {lines : List ℤ} {number : ℤ} {i : ℕ} → Stands lines number i → (j : ℕ) → placeOf number j ≡ i * 5 + j
+place-is {number = number} {i = i} w j =
+    let z : natAbs number ≡ suc i = ap natAbs (w .its-number) in
+    omega arith
+
+has-line : {lines : List ℤ} {number : ℤ} {i : ℕ} → Stands lines number i → HasLine lines i
+has-line w = omega (arith, w .there)
+
+-- one number set leaves the other fields as they were
+module _ (b : ℕ) (lines : List ℤ) (i p : ℕ) (v : ℤ) (inside : i * 5 + p < length lines) (j : ℕ) (g : GoodLine b lines j) where
+  same : (n : ℕ) → (j * 5 + n ≡ i * 5 + p → ⊥) → field n (set lines (i * 5 + p) v) j ≡ field n lines j
+  same n h = getD-set-other lines (i * 5 + p) (j * 5 + n) v (pos 0) h
+
+  -- a difference inside its limit
+  pub rerun-good : p ≡ 2 → natAbs v ≤ mostDifference → GoodLine b (set lines (i * 5 + p) v) j
+  rerun-good e small = record {
+    from = rw (same 0 (λ z. omega arith)) (g .from);
+    to = rw (same 1 (λ z. omega arith)) (g .to);
+    apart = rw (same 0 (λ z. omega arith), same 1 (λ z. omega arith)) (g .apart);
+    difference = new (ℕ-discrete j i);
+    long = rw (same 3 (λ z. omega arith)) (g .long);
+    standing = rw (same 4 (λ z. omega arith)) (g .standing);
+  }
+    where
+      new : Dec (j ≡ i) → natAbs (differenceAt (set lines (i * 5 + p) v) j) ≤ mostDifference
+      new (yes q) = rw (q, ← e, getD-set-same lines (i * 5 + p) v (pos 0) inside) small
+      new (no h) = rw (same 2 (λ z. h (omega arith))) (g .difference)
+
+  -- a standing of 0
+  pub withdrawal-good : p ≡ 4 → v ≡ pos 0 → GoodLine b (set lines (i * 5 + p) v) j
+  withdrawal-good e zero-v = record {
+    from = rw (same 0 (λ z. omega arith)) (g .from);
+    to = rw (same 1 (λ z. omega arith)) (g .to);
+    apart = rw (same 0 (λ z. omega arith), same 1 (λ z. omega arith)) (g .apart);
+    difference = rw (same 2 (λ z. omega arith)) (g .difference);
+    long = rw (same 3 (λ z. omega arith)) (g .long);
+    standing = new (ℕ-discrete j i);
+  }
+    where
+      new : Dec (j ≡ i) → Between 0 1 (standingAt (set lines (i * 5 + p) v) j)
+      new (yes q) = rw (q, ← e, getD-set-same lines (i * 5 + p) v (pos 0) inside, zero-v) (record { is = refl; low = omega arith; high = omega arith })
+      new (no h) = rw (same 4 (λ z. h (omega arith))) (g .standing)
+
+module _ (k : Book) (lines : List ℤ) (good : GoodLines k lines) (number : ℤ) (i : ℕ) (stands : Stands lines number i) where
+  with-lines : (p : ℕ) (v : ℤ) → ((j : ℕ) → GoodLine (k .marks) lines j → GoodLine (k .marks) (set lines p v) j) → GoodLines k (set lines p v)
+  with-lines p v h = record {
+    a-mark = good .a-mark;
+    few-marks = good .few-marks;
+    small-tolerance = good .small-tolerance;
+    whole = length-set lines p v ∙ good .whole;
+    few = good .few;
+    each = λ j l. h j (good .each j l);
+  }
+
+  inside : (p : ℕ) → p < 5 → i * 5 + p < length lines
+  inside p h = omega (arith, stands .there)
+
+  -- the book stays good
+  pub corrected-good : (p : ℕ) (v : ℤ) → Sets p v → GoodLines k (set lines (placeOf number p) v)
+  corrected-good p v (re-run e small) =
+      rw (place-is stands p) (with-lines (i * 5 + p) v (λ j g. rerun-good (k .marks) lines i p v (inside p (omega (arith, e))) j g e small))
+  corrected-good p v (withdrawal e z) =
+      rw (place-is stands p) (with-lines (i * 5 + p) v (λ j g. withdrawal-good (k .marks) lines i p v (inside p (omega (arith, e))) j g e z))
+
+  -- the line itself, as a standing line
+  its-line : List·Memᴰ (lineAt (suc i) lines i) (standing lines)
+  its-line =
+      let g = good .each i (omega (arith, good .whole, stands .there)) in
+      in-standing lines i (lineAt (suc i) lines i) (record {
+        isThere = has-line stands;
+        beyond = 0;
+        stands = g .standing .is ∙ ap pos (one (natAbs (standingAt lines i)) (g .standing .high) (λ z. stands .not-withdrawn (g .standing .is ∙ ap pos z)));
+        its = refl;
+      })
+    where
+      one : (n : ℕ) → n ≤ 1 → (n ≡ 0 → ⊥) → n ≡ 1
+      one n h d = omega arith
+
+  -- and has no more loops
+  pub corrected-fewer : (p : ℕ) (v : ℤ) → Sets p v → length (loopsOf (k .marks) (set lines (placeOf number p) v)) ≤ length (loopsOf (k .marks) lines)
+  unfolding loopsOf
+  corrected-fewer p v (re-run e small) =
+      rw (place-is stands p, e, rerun-sets-difference lines i v (has-line stands), rerun-keeps-loops (suc i) v (k .marks) (standing lines), length-map) (omega arith)
+  corrected-fewer p v (withdrawal e z) =
+      rw (place-is stands p, e, z, withdrawal-sets-standing lines i (has-line stands)) (loops-never-grow (k .marks) (standing lines) (lines-sound k lines good) (lineAt (suc i) lines i) its-line)

@@ -1,0 +1,79 @@
+// Re-run and withdrawal of a line of a tested book.
+ghost use mathlib.Core.Path.{_≡_};
+ghost use Prim.Native.Nat.{_*_, _≤_};
+ghost use mathlib.Core.List.{_++_};
+ghost use lib.ListN.{length, set};
+ghost use Rattle.survey.specs.GoodLines.{GoodLines};
+ghost use Rattle.survey.specs.Stands.{Sets};
+ghost use Rattle.survey.specs.Kept.{keptOf};
+ghost use Rattle.survey.specs.Report.{counted, reportOf};
+ghost use Rattle.survey.specs.Correction.{noLine, placeOf, corrected, correctGood, Refresh, Refreshed};
+
+use book::line::Line;
+use book::Book;
+use crate::kept;
+use crate::work;
+use crate::Answer;
+
+// The lent report is the book's own, of so many rows; or it is another's.
+pub enum Kept {
+    Rows(usize),
+    Other,
+}
+
+// Whether no line of this number stands.
+fn no_line(lines: &[i64], number: i64) -> bool
+    ensures { λ r. ⌜ r ≡ noLine (now (lines .entry)) number ⌝ }
+{
+    let n = lines.len() / Line::WORDS;
+    if signed::outside(number, 1, signed::signed_count(n)) {
+        return true;
+    }
+    let at = (signed::magnitude(number) - 1) * Line::WORDS;
+    signed::same(lines[at + Line::STANDING], 0)
+}
+
+// Refusal 9, or the rows that the report keeps.
+fn kept_rows(book: Book, lines: &[i64], report: &[i64]) -> Kept
+    requires { ⌜ GoodLines book (now lines) ⌝ }
+    ensures { λ r. ⌜ r ≡ keptOf book (now (lines .entry)) (now (report .entry)) ⌝ }
+{
+    let mut rows = [0i64; 2560];
+    let a = work::survey_good(book, lines, &mut rows[..]);
+    let count = a.rows;
+    let words = count * work::ROW_WORDS;
+    if kept::differs(report, &rows[..words]) {
+        return Kept::Other;
+    }
+    Kept::Rows(count)
+}
+
+// The report becomes that of the book as it now stands; it kept so many rows before.
+fn refresh(book: Book, lines: &[i64], report: &mut [i64], before: usize) -> Answer
+    requires { ⌜ GoodLines book (now lines) ⌝ ∗ ⌜ Refresh book (now lines) (now report) before ⌝ }
+    ensures { λ r. ⌜ Refreshed book (now (lines .entry)) (now (report .entry)) (now (report .exit)) before r ⌝ }
+{
+    let mut rows = [0i64; 2560];
+    let a = work::survey_good(book, lines, &mut rows[..]);
+    let words = a.rows * work::ROW_WORDS;
+    kept::put(&rows[..words], report);
+    kept::vacate(report, words, before * work::ROW_WORDS);
+    a
+}
+
+// Refusals 8 and 9, or one number of the line is set and the report brought up to date.
+pub fn correct_good(book: Book, lines: &mut [i64], report: &mut [i64], number: i64, field: usize, value: i64) -> Answer
+    requires { ⌜ GoodLines book (now lines) ⌝ ∗ ⌜ Sets field value ⌝ }
+    ensures { λ r. ⌜ corrected r (now (lines .exit)) (now (report .exit)) ≡ correctGood book (now (lines .entry)) (now (report .entry)) number (set (now (lines .entry)) (placeOf number field) value) ⌝ }
+{
+    if no_line(lines, number) {
+        return crate::refuse(8, 0);
+    }
+    let kept = kept_rows(book, lines, report);
+    let Kept::Rows(before) = kept else {
+        return crate::refuse(9, 0);
+    };
+    let at = (signed::magnitude(number) - 1) * Line::WORDS + field;
+    lines[at] = value;
+    refresh(book, lines, report, before)
+}
