@@ -12,7 +12,6 @@ ghost use Rattle.chains.specs.Chains.{numberLimit, longest};
 ghost use Rattle.chains.specs.Listed.{Longs};
 ghost use Rattle.rows.specs.Sums.{lengthOf, riseAt, riseOf, verdictOf, rowOf, Gentle, HalfOk, Coded, RowAsked, loosest, steepest};
 ghost use Rattle.rows.specs.Turns.{Tables, NodesRoom, Due, RowTaken, RowsAsked};
-
 use book::line::Line;
 
 // The difference of a half in its sense.
@@ -71,7 +70,14 @@ pub fn verdict(misclosure: i64, t: usize, metres: usize) -> i64
 }
 
 // The five numbers of a row.
-pub fn write_row(out: &mut [i64], number: usize, count: usize, metres: usize, misclosure: i64, verdict: i64)
+pub fn write_row(
+    out: &mut [i64],
+    number: usize,
+    count: usize,
+    metres: usize,
+    misclosure: i64,
+    verdict: i64,
+)
     requires { ⌜ length (now out) ≡ 5 ⌝ ∗ ⌜ (number < 2 ^ 63) × (count < 2 ^ 63) × (metres < 2 ^ 63) ⌝ }
     ensures { λ _. ⌜ now (out .exit) ≡ pos number ∷ pos count ∷ pos metres ∷ misclosure ∷ verdict ∷ [] ⌝ }
 {
@@ -83,7 +89,15 @@ pub fn write_row(out: &mut [i64], number: usize, count: usize, metres: usize, mi
 }
 
 // The row of the loop of the closing line of this number, whose path stands in the first a places of path.
-pub fn row_of(lines: &[i64], long: &[u64], path: &[u64], out: &mut [i64], a: usize, number: usize, t: usize)
+pub fn row_of(
+    lines: &[i64],
+    long: &[u64],
+    path: &[u64],
+    out: &mut [i64],
+    a: usize,
+    number: usize,
+    t: usize,
+)
     requires { ⌜ RowAsked (now lines) (now long) (now path) a number t ⌝ ∗ ⌜ length (now out) ≡ 5 ⌝ }
     ensures { λ _. ⌜ now (out .exit) ≡ rowOf t (now (lines .entry)) (now (long .entry)) number (take a (now (path .entry))) ⌝ }
 {
@@ -115,7 +129,18 @@ pub fn row_turn(
     ensures { λ r. ⌜ RowTaken (now (lines .entry)) n cnt number t (now (tip .entry)) (now (head .entry)) (now (next .entry)) (now (far .entry)) (now (add .entry)) (now (head .exit)) (now (next .exit)) (now (far .exit)) (now (add .exit)) (now (out .exit)) r ⌝ }
 {
     let turn = subgraph::take_loop(
-        tip, long, head, next, far, add, best, seg, path, n, cnt, number,
+        tip,
+        long,
+        head,
+        next,
+        far,
+        add,
+        best,
+        seg,
+        path,
+        n,
+        cnt,
+        number,
     );
     let count = turn.count;
     row_of(lines, long, path, out, count, number, t);

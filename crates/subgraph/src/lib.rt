@@ -124,9 +124,7 @@ pub fn take_loop(
 {
     let from = tip[number * 2 + 1] as usize;
     let to = tip[number * 2] as usize;
-    let count = search::path(
-        head, next, far, add, tip, best, seg, out, n, cnt, from, to,
-    );
+    let count = search::path(head, next, far, add, tip, best, seg, out, n, cnt, from, to);
     if count == 1 {
         return Turn { count, nodes: cnt };
     }

@@ -52,6 +52,11 @@ place-is {number = number} {i = i} w j =
 has-line : {lines : List ℤ} {number : ℤ} {i : ℕ} → Stands lines number i → HasLine lines i
 has-line w = omega (arith, w .there)
 
+-- the field is one of a line's
+pub field-few : {p : ℕ} {v : ℤ} → Sets p v → p < 5
+field-few (re-run e small) = omega (arith, e)
+field-few (withdrawal e z) = omega (arith, e)
+
 -- one number set leaves the other fields as they were
 module _ (b : ℕ) (lines : List ℤ) (i p : ℕ) (v : ℤ) (inside : i * 5 + p < length lines) (j : ℕ) (g : GoodLine b lines j) where
   same : (n : ℕ) → (j * 5 + n ≡ i * 5 + p → ⊥) → field n (set lines (i * 5 + p) v) j ≡ field n lines j

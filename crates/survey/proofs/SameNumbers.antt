@@ -4,7 +4,9 @@ use Prim.Native.Nat.{ℕ, zero, suc, _+_, _≤_, _<_}
 use native.Mathlib.Numerals.{add-one}
 use native.Mathlib.Omega.{arith}
 use mathlib.Core.Path.{_≡_, refl, sym, _∙_, ap}
-use mathlib.Core.Bool.{Bool, true, false, not, cond}
+use mathlib.Core.Bool.{Bool, true, false, not, cond, true≢false}
+use lib.Dec.{ltb}
+use borrow.Author.Tests.{ltb-true, ltb-false}
 use mathlib.Core.List.{List, [], _∷_}
 use lib.IntN.{ℤ, pos}
 use lib.ListN.{length, take, drop, getD, length-take, drop-of-length-le}
@@ -28,6 +30,14 @@ module _ (report rows : List ℤ) where
   pub too-short : length report < length rows → true ≡ otherReport report rows
   unfolding otherReport
   too-short h = rw (short-differs (take (length rows) report) rows (simp length-take (omega arith)))
+
+  -- a report that does not differ is long enough
+  pub long-enough : otherReport report rows ≡ false → length rows ≤ length report
+  long-enough e = go (ltb (length report) (length rows)) refl
+    where
+      go : (t : Bool) → ltb (length report) (length rows) ≡ t → length rows ≤ length report
+      go true h = absurd (true≢false (too-short (ltb-true (length report) (length rows) h) ∙ e))
+      go false h = ltb-false (length report) (length rows) h
 
   -- what is left to compare decides
   pub record Compared (i : ℕ) : Type 0 where

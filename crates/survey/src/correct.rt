@@ -8,12 +8,11 @@ ghost use Rattle.survey.specs.Stands.{Sets};
 ghost use Rattle.survey.specs.Kept.{keptOf};
 ghost use Rattle.survey.specs.Report.{counted, reportOf};
 ghost use Rattle.survey.specs.Correction.{noLine, placeOf, corrected, correctGood, Refresh, Refreshed};
-
-use book::line::Line;
-use book::Book;
+use crate::Answer;
 use crate::kept;
 use crate::work;
-use crate::Answer;
+use book::Book;
+use book::line::Line;
 
 // The lent report is the book's own, of so many rows; or it is another's.
 pub enum Kept {
@@ -62,7 +61,14 @@ fn refresh(book: Book, lines: &[i64], report: &mut [i64], before: usize) -> Answ
 }
 
 // Refusals 8 and 9, or one number of the line is set and the report brought up to date.
-pub fn correct_good(book: Book, lines: &mut [i64], report: &mut [i64], number: i64, field: usize, value: i64) -> Answer
+pub fn correct_good(
+    book: Book,
+    lines: &mut [i64],
+    report: &mut [i64],
+    number: i64,
+    field: usize,
+    value: i64,
+) -> Answer
     requires { ⌜ GoodLines book (now lines) ⌝ ∗ ⌜ Sets field value ⌝ }
     ensures { λ r. ⌜ corrected r (now (lines .exit)) (now (report .exit)) ≡ correctGood book (now (lines .entry)) (now (report .entry)) number (set (now (lines .entry)) (placeOf number field) value) ⌝ }
 {

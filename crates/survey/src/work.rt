@@ -3,9 +3,8 @@ ghost use mathlib.Core.Path.{_≡_};
 ghost use Rattle.survey.specs.GoodLines.{GoodLines};
 ghost use Rattle.survey.specs.Survey.{surveyed, surveyGood};
 ghost use Rattle.survey.specs.Desk.{Desk};
-
-use book::Book;
 use crate::Answer;
+use book::Book;
 
 // Numbers of a report row.
 pub const ROW_WORDS: usize = 5;
@@ -36,7 +35,19 @@ fn survey_in(
     let q = book.lines + 1;
     prepare::plant_book(lines, tip, long, head, next, far, add, best, seg, order, n);
     let start = prepare::order_loops(
-        tip, long, head, next, far, add, best, order, rank, sort, close, n, q,
+        tip,
+        long,
+        head,
+        next,
+        far,
+        add,
+        best,
+        order,
+        rank,
+        sort,
+        close,
+        n,
+        q,
     );
     let count = start.count;
     if rows.len() < count * ROW_WORDS {
@@ -45,7 +56,22 @@ fn survey_in(
     let nodes = start.nodes;
     let t = book.tolerance;
     rows::write_rows(
-        lines, tip, long, close, head, next, far, add, best, seg, path, rows, n, nodes, count, t,
+        lines,
+        tip,
+        long,
+        close,
+        head,
+        next,
+        far,
+        add,
+        best,
+        seg,
+        path,
+        rows,
+        n,
+        nodes,
+        count,
+        t,
     );
     Answer {
         number: 0,

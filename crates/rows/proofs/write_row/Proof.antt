@@ -1,7 +1,5 @@
 use mir.Facts.{toZ-ofZ}
 use native.Mathlib.Omega.{arith}
-
-
 use lib.ListN.{length-set}
 use Rattle.laws.proofs.Signed.{stored}
 use Rattle.rows.proofs.Totals.{five}

@@ -46,10 +46,16 @@ shared-slice-read-row-turn c = omega (arith, c .before .before .before .before .
 
 row-turn-requires : tie.Need-row-turn-requires Inv-loop μ-loop
 row-turn-requires c κs = let p = c .before .before .before .before .before .before .before .before .before .before .before .before .before .before .before .before .before .before .before .before .before .pre in
-    let v = c .before .before .before .before .before .before .before .before .before .before .loop .inv in
-    (p .0, (record { nexts = omega (arith, v .1, p .1 .0 .nexts); ends = omega (arith, v .1, p .1 .0 .ends); adds = omega (arith, v .1, p .1 .0 .adds) },
-    (record { room = record { few = p .1 .1 .0 .room .few; bests = omega (arith, v .2, p .1 .1 .0 .room .bests); segs = omega (arith, v .2, p .1 .1 .0 .room .segs) }; outs = omega (arith, v .2, p .1 .1 .0 .outs) },
-    (simp (length-take, length-drop) (omega (arith, v .2, p .1 .1 .1 .outs)), rows-due (v .3) (omega (arith, p .1 .1 .1 .count-is)) _ refl))))
+    let v = c .before .before .before .before .before .before .before .before .before .before .loop .inv in (
+      p .0,
+      (
+        record { nexts = omega (arith, v .1, p .1 .0 .nexts); ends = omega (arith, v .1, p .1 .0 .ends); adds = omega (arith, v .1, p .1 .0 .adds) },
+        (
+          record { room = record { few = p .1 .1 .0 .room .few; bests = omega (arith, v .2, p .1 .1 .0 .room .bests); segs = omega (arith, v .2, p .1 .1 .0 .room .segs) }; outs = omega (arith, v .2, p .1 .1 .0 .outs) },
+          (simp (length-take, length-drop) (omega (arith, v .2, p .1 .1 .1 .outs)), rows-due (v .3) (omega (arith, p .1 .1 .1 .count-is)) _ refl),
+        ),
+      ),
+    )
 
 add-i : tie.Need-add-i Inv-loop μ-loop
 add-i c = omega (arith, c .before .before .before .before .before .before .before .before .before .before .before .before .before .before .before .before .before .before .before .before .before .before .before .before .before .before .loop .inv, c .before .before .before .before .before .before .before .before .before .before .before .before .before .before .before .before .before .before .before .before .before .before .before .before .before .before .before .before .before .before .before .before .before .before .before .before .before .fits .count)
@@ -59,9 +65,12 @@ loop-less c = omega arith
 
 loop-again : tie.Need-loop-again Inv-loop μ-loop
 loop-again c = let v = c .before .before .before .before .before .before .before .before .before .before .before .before .before .before .before .before .before .before .before .before .before .before .before .before .before .before .loop .inv in
-    let k = c .before .before .before .before .before .before .before .before .before .before .before .before .before .before .before .row-turn .kept in
-    (omega arith, (omega (arith, v .1, k), omega (arith, v .1, k), omega (arith, v .1, k), omega (arith, v .1, k)), (omega (arith, v .2, k), omega (arith, v .2, k), omega (arith, v .2, k), omega (arith, v .2, c .out .given .1)),
-    rows-next (v .3) (omega (arith, c .before .before .before .before .before .before .before .before .before .before .before .before .before .before .before .before .before .before .before .before .before .before .before .before .before .before .before .before .before .before .before .before .before .before .before .before .before .pre .1 .1 .1 .count-is)) refl _ (c .before .before .before .before .before .before .before .before .before .before .before .before .before .before .before .row-turn .ensures))
+    let k = c .before .before .before .before .before .before .before .before .before .before .before .before .before .before .before .row-turn .kept in (
+      omega arith,
+      (omega (arith, v .1, k), omega (arith, v .1, k), omega (arith, v .1, k), omega (arith, v .1, k)),
+      (omega (arith, v .2, k), omega (arith, v .2, k), omega (arith, v .2, k), omega (arith, v .2, c .out .given .1)),
+      rows-next (v .3) (omega (arith, c .before .before .before .before .before .before .before .before .before .before .before .before .before .before .before .before .before .before .before .before .before .before .before .before .before .before .before .before .before .before .before .before .before .before .before .before .before .pre .1 .1 .1 .count-is)) refl _ (c .before .before .before .before .before .before .before .before .before .before .before .before .before .before .before .row-turn .ensures),
+    )
 
 same-length : tie.Need-same-length Inv-loop μ-loop
 same-length c = omega arith

@@ -1,0 +1,90 @@
+use Prim.Native.Nat.{_+_, _*_, _-_}
+use lib.ListN.{getD}
+use mathlib.Core.Path.{_≡_, sym, _∙_}
+use native.Mathlib.Omega.{arith}
+use lib.IntN.{pos, natAbs}
+use Rattle.laws.specs.Tests.{outZ, eqZ}
+use Rattle.laws.proofs.Signed.{stored}
+use Rattle.laws.proofs.Tests.{or-here, or-next}
+use Rattle.laws.proofs.Size.{Between, between}
+use Rattle.book.specs.Line.{lineCount}
+use Rattle.survey.specs.Correction.{noLine}
+use borrow.Author.Needs.{needs}
+use Rattle.survey.proofs.correct.no_line.Statement.{statement}
+use Rattle.survey.proofs.correct.no_line.Tie as tie
+use Rattle.survey.proofs.correct.no_line.Reads as reads
+use Rattle.survey.proofs.correct.no_line.Lts as lts
+use Rattle.signed.proofs.magnitude.Reads as magnitude-reads
+use Rattle.signed.proofs.outside.Reads as outside-reads
+use Rattle.signed.proofs.same.Reads as same-reads
+use Rattle.signed.proofs.signed_count.Reads as signed-count-reads
+
+signed-count-requires : tie.Need-signed-count-requires
+signed-count-requires c κs = search needs
+
+outside-requires : tie.Need-outside-requires
+outside-requires c κs = search needs
+
+-- the flag that the code has is the definition's test
+flag : (c : tie.After-outside) → (let a = c .before .before .args in c .outside .result ≡ outZ (pos 1) (pos (lineCount (a .lines .now))) (a .number))
+flag c =
+    let n = c .before in
+    (rw (stored _ (n .signed-count .ok) (n .signed-count .ensures)) at (c .outside .ensures)) ∙ search needs
+
+-- there is a line of this number
+inside : (c : tie.Else1) → (let a = c .before .before .before .args in Between 1 (lineCount (a .lines .now)) (a .number))
+inside c = between 1 _ _ (sym (flag (c .before)) ∙ c .if1 .left)
+
+size : (c : tie.After-magnitude) → c .magnitude .result ≡ natAbs (c .before .before .before .before .args .number)
+size c = c .magnitude .ensures ∙ search needs
+
+returns : tie.Need-returns
+unfolding noLine
+returns c = or-here _ (flag (c .before)) (c .if1 .taken)
+
+magnitude-requires : tie.Need-magnitude-requires
+magnitude-requires c κs = search needs
+
+sub-at : tie.Need-sub-at
+sub-at c = let w = inside (c .before) in let m = size c in omega (arith, w .low)
+
+mul-at : tie.Need-mul-at
+mul-at c = let w = inside (c .before) in let m = size c in omega (arith, w .low, w .high)
+
+add-same : tie.Need-add-same
+add-same c = let w = inside (c .before) in let m = size c in omega (arith, w .low, w .high)
+
+mul-same : tie.Need-mul-same
+mul-same c = let w = inside (c .before) in let m = size c in omega (arith, w .low, w .high)
+
+shared-slice-copy-out-same : tie.Need-shared-slice-copy-out-same
+shared-slice-copy-out-same c = let w = inside (c .before) in let m = size c in omega (arith, w .low, w .high)
+
+same-requires : tie.Need-same-requires
+same-requires c κs = search needs
+
+-- the flag of a withdrawn line
+gone : (c : tie.After-same) → c .same .result ≡ eqZ (getD (c .before .before .before .before .before .before .args .lines .now) ((c .before .before .magnitude .result - 1) * 5 + 4) (pos 0)) (pos 0)
+gone c = c .same .ensures ∙ search needs
+
+returns-2 : tie.Need-returns-2
+unfolding noLine
+returns-2 c =
+    let e = c .before .before .before in
+    or-next (flag (e .before)) (e .if1 .left) (rw (size (c .before .before)) at (gone c))
+
+pub no-line-spec : {M : Type 1} → statement M
+no-line-spec =
+    tie.close
+    (tie.spec
+    signed-count-requires
+    outside-requires
+    returns
+    magnitude-requires
+    sub-at
+    mul-at
+    add-same
+    mul-same
+    shared-slice-copy-out-same
+    same-requires
+    returns-2)
