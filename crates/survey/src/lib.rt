@@ -2,6 +2,7 @@
 ghost use mathlib.Core.Path.{_≡_};
 ghost use Rattle.survey.specs.Report.{refusal};
 ghost use Rattle.survey.specs.Survey.{surveyed, surveyOf};
+ghost use Rattle.survey.specs.Correction.{corrected, rerunOf, withdrawOf};
 
 mod correct;
 mod kept;
@@ -9,6 +10,7 @@ mod list;
 mod work;
 
 use book::Tested;
+use book::line::Line;
 
 // What survey, re-run and withdrawal answer.
 pub struct Answer {
@@ -43,5 +45,36 @@ pub fn survey(b: i64, t: i64, held: &[i64], lines: &[i64], rows: &mut [i64]) -> 
     match book::test(b, t, held, lines) {
         Tested::Refused(r) => refuse(r.number, r.place),
         Tested::Good(book) => work::survey_good(book, lines, rows),
+    }
+}
+
+// The line's difference becomes the new one, and the kept report that of the book as it then stands. A refusal leaves lines and report as they were.
+pub fn rerun(
+    b: i64,
+    t: i64,
+    held: &[i64],
+    lines: &mut [i64],
+    report: &mut [i64],
+    line: i64,
+    difference: i64,
+) -> Answer
+    ensures { λ r. ⌜ corrected r (now (lines .exit)) (now (report .exit)) ≡ rerunOf b t (now (held .entry)) (now (lines .entry)) (now (report .entry)) line difference ⌝ }
+{
+    if Line::outside_difference(difference) {
+        return refuse(4, 0);
+    }
+    match book::test(b, t, held, lines) {
+        Tested::Refused(r) => refuse(r.number, r.place),
+        Tested::Good(book) => correct::correct_good(book, lines, report, line, Line::DIFFERENCE, difference),
+    }
+}
+
+// The line's standing becomes 0, and the kept report that of the book as it then stands. A refusal leaves lines and report as they were.
+pub fn withdraw(b: i64, t: i64, held: &[i64], lines: &mut [i64], report: &mut [i64], line: i64) -> Answer
+    ensures { λ r. ⌜ corrected r (now (lines .exit)) (now (report .exit)) ≡ withdrawOf b t (now (held .entry)) (now (lines .entry)) (now (report .entry)) line ⌝ }
+{
+    match book::test(b, t, held, lines) {
+        Tested::Refused(r) => refuse(r.number, r.place),
+        Tested::Good(book) => correct::correct_good(book, lines, report, line, Line::STANDING, 0),
     }
 }

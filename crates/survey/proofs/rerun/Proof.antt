@@ -1,0 +1,97 @@
+use mir.Facts.{toZ-ofZ}
+use mathlib.Core.Path.{_≡_, refl, sym, _∙_}
+use native.Mathlib.Omega.{arith}
+use Rattle.book.specs.Test.{testOf}
+use Rattle.book.proofs.Goods.{tested-good}
+use Rattle.survey.specs.Correction.{correctTested, rerunLines, rerunOf}
+use Rattle.survey.specs.Stands.{Sets, re-run}
+use Rattle.survey.proofs.Sounding.{good-lines}
+use Rattle.laws.proofs.Size.{size-within}
+use Rattle.book.specs.Line.{differenceOut}
+use borrow.Author.Needs.{needs}
+use Rattle.survey.proofs.rerun.Statement.{statement}
+use Rattle.survey.proofs.rerun.Tie as tie
+use Rattle.survey.proofs.rerun.Reads as reads
+use Rattle.survey.proofs.rerun.Lts as lts
+use Rattle.book.proofs.line.Line.outside_difference.Reads as outside-difference-reads
+use Rattle.book.proofs.test.Reads as test-reads
+use Rattle.survey.proofs.correct.correct_good.Reads as correct-good-reads
+use Rattle.survey.proofs.refuse.Reads as refuse-reads
+
+outside-difference-requires : tie.Need-outside-difference-requires
+outside-difference-requires c κs = search needs
+
+refuse-requires : tie.Need-refuse-requires
+refuse-requires c κs = search needs
+
+-- the flag that the code has is the definition's test
+flag : (c : tie.After-outside-difference) → c .outside-difference .result ≡ differenceOut (c .before .args .difference)
+flag c = c .outside-difference .ensures ∙ search needs
+
+returns : tie.Need-returns
+unfolding rerunOf
+returns c = rw (← (flag (c .before .before)), c .before .if1 .taken, c .refuse .ensures)
+
+test-requires : tie.Need-test-requires
+test-requires c κs = search needs
+
+enum-known-r : tie.Need-enum-known-r
+enum-known-r c = search needs
+
+refuse-requires-2 : tie.Need-refuse-requires-2
+refuse-requires-2 c κs = search needs
+
+enum-known-book : tie.Need-enum-known-book
+enum-known-book c = search needs
+
+-- what the test answered, at the numbers that were lent
+tested : (c : tie.After-test) → (let a = c .before .before .before .before .args in c .test .result ≡ testOf (a .b) (a .t) (a .held .now) (a .lines .now))
+tested c = c .test .ensures ∙ search needs
+
+-- the difference is inside its limit
+sets : (c : tie.Else1) → Sets 2 (c .before .before .args .difference)
+unfolding differenceOut
+sets c = re-run refl (size-within 99999999 _ (sym (flag (c .before)) ∙ c .if1 .left))
+
+correct-good-requires : tie.Need-correct-good-requires
+correct-good-requires c κs =
+    let g = c .before .before .before in
+    let a = c .before .before .before .before .before .before .before .before .before .args in
+    (good-lines _ _ _ _ _ (tested-good (a .b) (a .t) (a .held .now) (a .lines .now) (g .book .given .0 .0) (sym (tested (c .before .before .before .before .before)) ∙ g .book .given .1)), rw (toZ-ofZ (c .before .before .before .before .before .before .before .before .before .fits .difference)) (sets (c .before .before .before .before .before .before .before)))
+
+same-length : tie.Need-same-length
+same-length c = search needs
+
+returns-2 : tie.Need-returns-2
+unfolding rerunOf correctTested
+returns-2 c = rw (← (flag (c .before .before .before .before .before .before .before)), c .before .before .before .before .before .before .if1 .left, ← (tested (c .before .before .before .before)), c .before .before .r .given .1, c .refuse2 .ensures)
+
+same-length-2 : tie.Need-same-length-2
+same-length-2 c = search needs
+
+same-length-3 : tie.Need-same-length-3
+same-length-3 c = search needs
+
+returns-3 : tie.Need-returns-3
+unfolding rerunOf correctTested rerunLines
+returns-3 c =
+    let e = c .before .before .correct-good .ensures in
+    rw (← (flag (c .before .before .before .before .before .before .before .before .before .before .before)), c .before .before .before .before .before .before .before .before .before .before .if1 .left, ← (tested (c .before .before .before .before .before .before .before .before)), c .before .before .before .before .before .before .book .given .1) (e ∙ search needs)
+
+pub rerun-spec : {M : Type 1} → statement M
+rerun-spec =
+    tie.close
+    (tie.spec
+    outside-difference-requires
+    refuse-requires
+    returns
+    test-requires
+    enum-known-r
+    refuse-requires-2
+    enum-known-book
+    correct-good-requires
+    same-length
+    returns-2
+    same-length-2
+    same-length-3
+    returns-3)

@@ -1,0 +1,71 @@
+use mathlib.Core.Path.{_≡_, refl, sym, _∙_}
+use native.Mathlib.Omega.{arith}
+use Rattle.book.specs.Test.{testOf}
+use Rattle.book.proofs.Goods.{tested-good}
+use Rattle.survey.specs.Correction.{correctTested, withdrawLines, withdrawOf}
+use Rattle.survey.specs.Stands.{Sets, withdrawal}
+use Rattle.survey.proofs.Sounding.{good-lines}
+use borrow.Author.Needs.{needs}
+use Rattle.survey.proofs.withdraw.Statement.{statement}
+use Rattle.survey.proofs.withdraw.Tie as tie
+use Rattle.survey.proofs.withdraw.Reads as reads
+use Rattle.survey.proofs.withdraw.Lts as lts
+use Rattle.book.proofs.test.Reads as test-reads
+use Rattle.survey.proofs.correct.correct_good.Reads as correct-good-reads
+use Rattle.survey.proofs.refuse.Reads as refuse-reads
+
+test-requires : tie.Need-test-requires
+test-requires c κs = search needs
+
+enum-known-r : tie.Need-enum-known-r
+enum-known-r c = search needs
+
+refuse-requires : tie.Need-refuse-requires
+refuse-requires c κs = search needs
+
+enum-known-book : tie.Need-enum-known-book
+enum-known-book c = search needs
+
+-- what the test answered, at the numbers that were lent
+tested : (c : tie.After-test) → (let a = c .before .before .args in c .test .result ≡ testOf (a .b) (a .t) (a .held .now) (a .lines .now))
+tested c = c .test .ensures ∙ search needs
+
+correct-good-requires : tie.Need-correct-good-requires
+correct-good-requires c κs =
+    let g = c .before .before .before in
+    let a = c .before .before .before .before .before .before .before .args in
+    (good-lines _ _ _ _ _ (tested-good (a .b) (a .t) (a .held .now) (a .lines .now) (g .book .given .0 .0) (sym (tested (c .before .before .before .before .before)) ∙ g .book .given .1)), withdrawal refl refl)
+
+same-length : tie.Need-same-length
+same-length c = search needs
+
+returns : tie.Need-returns
+unfolding withdrawOf correctTested
+returns c = rw (← (tested (c .before .before .before .before)), c .before .before .r .given .1, c .refuse .ensures)
+
+same-length-2 : tie.Need-same-length-2
+same-length-2 c = search needs
+
+same-length-3 : tie.Need-same-length-3
+same-length-3 c = search needs
+
+returns-2 : tie.Need-returns-2
+unfolding withdrawOf correctTested withdrawLines
+returns-2 c =
+    let e = c .before .before .correct-good .ensures in
+    rw (← (tested (c .before .before .before .before .before .before .before .before)), c .before .before .before .before .before .before .book .given .1) (e ∙ search needs)
+
+pub withdraw-spec : {M : Type 1} → statement M
+withdraw-spec =
+    tie.close
+    (tie.spec
+    test-requires
+    enum-known-r
+    refuse-requires
+    enum-known-book
+    correct-good-requires
+    same-length
+    returns
+    same-length-2
+    same-length-3
+    returns-2)
