@@ -1,3 +1,4 @@
 pub mod Lines
 pub mod Counts
 pub mod Goods
+pub mod Passing

@@ -1,5 +1,5 @@
 -- Laws of `link` and `join`. Assumes nothing.
-use Prim.Native.Nat.{ℕ, zero, suc, _+_, _*_, _-_, _≤_, _<_}
+use Prim.Native.Nat.{ℕ, _+_, _*_, _-_, _≤_, _<_}
 use native.Mathlib.Omega.{arith}
 use native.Mathlib.Numerals.{add-one}
 use native.Mathlib.Decide.{ℕ-discrete}
@@ -9,7 +9,7 @@ use mathlib.Core.List.{List, List·Memᴰ, Memᴰ·cast}
 use lib.ListN.{length, getD, set, length-set}
 use lib.Seq.{getD-set-same, getD-set-other}
 use Rattle.network.specs.Standing.{Line}
-use Rattle.chains.specs.Chains.{On, here, later, Half, fore, aft, Nodes, Heads, Node, Chains, Has, Sound, AllSound, halves, sumLimit}
+use Rattle.chains.specs.Chains.{On, here, later, Half, fore, aft, Nodes, Heads, Chains, Has, AllSound, halves, sumLimit}
 use Rattle.chains.proofs.Halves.{on-split, on-below}
 use Rattle.chains.specs.Link.{Space, Linked, HNode, Holds, Fits, Places, Wider, Line4, Added}
 

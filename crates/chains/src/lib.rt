@@ -1,4 +1,5 @@
-// Chains of nodes: every line of a subgraph stands twice, in the chain of each of its ends.
+// Chains of nodes: every line of a subgraph stands twice, in the chain of each of its ends. A half is a line in one sense, by its number: twice
+// the line's number, one more against its sense.
 ghost use mathlib.Core.Path.{_≡_};
 ghost use Prim.Native.Nat.{ℕ, _+_, _*_, _<_, _≤_};
 ghost use lib.ListN.{length, getD};

@@ -1,14 +1,14 @@
 -- The book is drawn line by line, from the last to the first. Assumes nothing.
-use Prim.Native.Nat.{ℕ, zero, suc, _+_, _*_, _-_, _/_, _%_, _≤_, _<_}
+use Prim.Native.Nat.{ℕ, zero, suc, _+_, _*_, _-_, _/_, _≤_, _<_}
 use native.Mathlib.Omega.{arith}
-use native.Mathlib.Decide.{ℕ-discrete, decLt}
+use native.Mathlib.Decide.{ℕ-discrete}
 use mathlib.Core.Path.{_≡_, refl, sym, _∙_, ap, subst}
 use mathlib.Core.Logic.{_⊎_, inl, inr}
-use mathlib.Core.Bool.{Bool, true, false, true≢false, false≢true}
+use mathlib.Core.Bool.{true, false, true≢false, false≢true}
 use mathlib.Core.List.{List, [], _∷_, List·Memᴰ, List·Memᴰ·head, List·Memᴰ·tail, List·Memᴰ·not-nil}
 use lib.IntN.{ℤ, pos, negsuc, natAbs}
 use lib.ListN.{length, getD, set, take, drop, length-set, length-take, length-drop}
-use lib.Seq.{getD-set-same, getD-set-other, getD-take, getD-drop, set-out}
+use lib.Seq.{getD-set-same, getD-set-other, getD-take, getD-drop}
 use lib.Dec.{lit<}
 use native.Mathlib.Nat.{add-zero}
 use borrow.Author.Tests.{eqb-true, eq-eqb}
@@ -17,9 +17,9 @@ use Rattle.network.proofs.Standing.{rising-standing, standing-clause}
 use Rattle.laws.specs.Tests.{eqZ}
 use Rattle.laws.proofs.Size.{Between}
 use Rattle.book.specs.Good.{GoodLine}
-use Rattle.chains.specs.Chains.{Half, fore, aft, Nodes, Heads, Tips, Chains, Sound, AllSound, Given, halves, numberLimit, longest, least}
-use Rattle.chains.specs.Link.{Fits, Places, Wider, Line4, Added}
-use Rattle.chains.specs.Listed.{Longs, Listed}
+use Rattle.chains.specs.Chains.{Half, fore, aft, Nodes, Heads, Tips, Chains, Sound, AllSound, halves, numberLimit, longest}
+use Rattle.chains.specs.Link.{Fits, Wider, Added}
+use Rattle.chains.specs.Listed.{Longs}
 use Rattle.chains.proofs.Halves.{on-zero, half-no}
 use Rattle.draw.specs.Book.{Entry, Drew, withdrawn, drawn, Sheet, BookDrawn}
 
@@ -31,11 +31,6 @@ eq-of (pos a) (pos b) h = ap pos (eqb-true a b h)
 eq-of (pos a) (negsuc b) h = absurd (false≢true h)
 eq-of (negsuc a) (pos b) h = absurd (false≢true h)
 eq-of (negsuc a) (negsuc b) h = ap negsuc (eqb-true a b h)
-
-eqZ-refl : (z : ℤ) → eqZ z z ≡ true
-unfolding eqZ
-eqZ-refl (pos a) = eq-eqb a a refl
-eqZ-refl (negsuc a) = eq-eqb a a refl
 
 keep-out : (z : ℤ) (l : Line) (ls : List Line) → eqZ z (pos 0) ≡ true → keep z l ls ≡ ls
 unfolding keep

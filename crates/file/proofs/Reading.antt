@@ -40,11 +40,11 @@ module _ (file : List ℕ) (held lines : List ℤ) where
   GoodFile k = GoodBook k (pos (k .marks)) (pos (k .tolerance)) (heldOf file (k .held)) (linesOf file (k .held) (k .lines))
 
   -- as many entries as were read
-  held-entries : (h : ℕ) → heldCount (heldOf file h) ≡ h
+  pub held-entries : (h : ℕ) → heldCount (heldOf file h) ≡ h
   unfolding heldOf
   held-entries h = let l = entries-length Held file 13 h in omega arith
 
-  line-entries : (h n : ℕ) → lineCount (linesOf file h n) ≡ n
+  pub line-entries : (h n : ℕ) → lineCount (linesOf file h n) ≡ n
   unfolding linesOf
   line-entries h n = let l = entries-length Line file (13 + h * 10) n in omega arith
 

@@ -6,3 +6,5 @@ pub mod Sums
 pub mod Lists
 pub mod Floats
 pub mod Ring
+pub mod FirstBad
+pub mod Inside

@@ -63,7 +63,7 @@ unchecked-zero (k ∷ ks) (l ∷ ls) n h = go (runs n l) (checked n ls) refl h (
         ap₂ (λ (a b : ℤ). a +ℤ b) (ap (λ (z : ℤ). k *ℤ z) (passes-none l n (λ p i z. clash (runs-mem n l p i z) e)) ∙ *ℤ-zero k) (ih x)
 
 -- a line that is checked is run in one of the loops
-checked-by : (n : ℕ) (ls : List Loop) → checked n ls ≡ true → (lp : Loop) × List·Memᴰ lp ls × (runs n lp ≡ true)
+pub checked-by : (n : ℕ) (ls : List Loop) → checked n ls ≡ true → (lp : Loop) × List·Memᴰ lp ls × (runs n lp ≡ true)
 unfolding checked
 checked-by n [] h = absurd (false≢true h)
 checked-by n (l ∷ ls) h = go (or-true (runs n l) (checked n ls) h) (checked-by n ls)

@@ -8,3 +8,5 @@ pub mod Checked
 pub mod Row
 pub mod Rerun
 pub mod Withdrawal
+pub mod Ways
+pub mod Crossed

@@ -18,7 +18,7 @@ use Rattle.network.proofs.Descent.{clash}
 use Rattle.network.proofs.Enough.{shortest-unique}
 use Rattle.network.proofs.ClosingLines.{closing-line-stands}
 use Rattle.network.proofs.ShortestPath.{pass-line, walk-within, shortest-of-fewer}
-use Rattle.network.proofs.Pieces.{one-piece-more}
+use Rattle.network.proofs.Pieces.{one-piece-more, pieces-never-fewer}
 use Rattle.network.proofs.Subgraph.{in-only, of-only}
 use Rattle.network.proofs.Without.{in-without, of-without}
 use Rattle.network.proofs.Withdrawn.{not-withdrawn, one-fewer, sound-without, withdrawal-keeps-tree, withdrawal-keeps-closing-lines}
@@ -116,4 +116,15 @@ loops-never-grow b lines sound l stands = omega (
   loops-are-counted b (without (l .number) lines) (sound-without sound (l .number)),
   one-fewer lines (sound .rising) l stands,
   one-piece-more b lines sound l stands,
+)
+
+-- and at most one fewer
+pub at-most-one-loop-fewer : (b : ℕ) (lines : List Line) → Sound b lines → (l : Line) → List·Memᴰ l lines
+    → length (loops b lines) ≤ suc (length (loops b (without (l .number) lines)))
+at-most-one-loop-fewer b lines sound l stands = omega (
+  arith,
+  loops-are-counted b lines sound,
+  loops-are-counted b (without (l .number) lines) (sound-without sound (l .number)),
+  one-fewer lines (sound .rising) l stands,
+  pieces-never-fewer b lines sound l stands,
 )

@@ -6,3 +6,4 @@ pub mod Passes
 pub mod Checked
 pub mod Circuit
 pub mod Withdrawn
+pub mod Crossed

@@ -1,16 +1,16 @@
 -- The pieces: as many as marks that are the lowest of their piece; and withdrawing a line makes at most one more. Assumes nothing.
-use Prim.Native.Nat.{ℕ, suc, _≤_, _<_}
+use Prim.Native.Nat.{ℕ, zero, suc, _+_, _≤_, _<_}
 use native.Mathlib.Omega.{arith}
 use native.Mathlib.Decide.{ℕ-discrete}
 use mathlib.Core.Path.{_≡_, refl, sym, _∙_, ap, subst}
 use mathlib.Core.Logic.{_⊎_, inl, inr, _↔_}
-use mathlib.Core.Bool.{Bool, true, false}
+use mathlib.Core.Bool.{Bool, true, false, true≢false}
 use mathlib.Core.List.{List, [], _∷_, _++_, List·Memᴰ}
 use Rattle.network.specs.Standing.{Line}
 use Rattle.network.specs.Sound.{Sound}
 use Rattle.network.specs.Walk.{Ends, along, against, Pass, start, stop, Walk, here, step}
 use Rattle.network.specs.Tree.{tree, pieces}
-use Rattle.network.specs.Piece.{LowestOfPiece, rootAt, countTo}
+use Rattle.network.specs.Piece.{LowestOfPiece, rootAt, bit, countTo}
 use Rattle.network.specs.Without.{without}
 use Rattle.network.proofs.ClosingLines.{has-distance}
 use Rattle.network.proofs.Count.{unique}
@@ -18,9 +18,9 @@ use Rattle.network.proofs.Descent.{clash}
 use Rattle.network.proofs.Growth.{tree-grows}
 use Rattle.network.proofs.Roots.{count-one-more, pieces-are-roots, root-is-lowest, ToRoot, to-its-root}
 use Rattle.network.proofs.Shortest.{endsOf}
-use Rattle.network.proofs.Walks.{Way, walk-append, way-back}
+use Rattle.network.proofs.Walks.{Way, walk-append, way-back, walk-wider}
 use Rattle.network.proofs.Withdrawn.{sound-without}
-use Rattle.network.proofs.Without.{in-without}
+use Rattle.network.proofs.Without.{in-without, of-without}
 
 module _ (b : ℕ) (lines : List Line) (sound : Sound b lines) where
   -- a mark that is no root is joined with a lower one
@@ -130,4 +130,34 @@ module _ (b : ℕ) (lines : List Line) (sound : Sound b lines) (l : Line) (stand
         as-many-pieces-as-roots b few (sound-without sound (l .number)),
         as-many-pieces-as-roots b lines sound,
         count-one-more (rootAt (tree b few)) (rootAt (tree b lines)) b one-new-root,
+      )
+
+-- where every mark that passes f passes g, those of g are no fewer
+count-more : (f g : ℕ → Bool) (b : ℕ) → ((m : ℕ) → 0 < m → m ≤ b → f m ≡ true → g m ≡ true) → countTo f b ≤ countTo g b
+unfolding countTo
+count-more f g zero h = omega arith
+count-more f g (suc b) h = go (f (suc b)) (g (suc b)) refl refl (count-more f g b (λ m low le. h m low (omega arith)))
+  where
+    go : (x y : Bool) → f (suc b) ≡ x → g (suc b) ≡ y → countTo f b ≤ countTo g b → bit x + countTo f b ≤ bit y + countTo g b
+    go true true p q ih = omega arith
+    go true false p q ih = absurd (true≢false (sym (h (suc b) (omega arith) (omega arith) p) ∙ q))
+    go false true p q ih = omega arith
+    go false false p q ih = omega arith
+
+module _ (b : ℕ) (lines : List Line) (sound : Sound b lines) (l : Line) (stands : List·Memᴰ l lines) where
+  -- a mark that is the lowest of its piece is so with fewer lines
+  still-lowest : (m : ℕ) → LowestOfPiece lines m → LowestOfPiece (without (l .number) lines) m
+  still-lowest m h r low lt w x = h r low lt w (walk-wider (λ k i. of-without (l .number) lines k i) x)
+
+  -- withdrawing a line never joins pieces
+  pub pieces-never-fewer : pieces (tree b lines) ≤ pieces (tree b (without (l .number) lines))
+  pieces-never-fewer =
+      let few = without (l .number) lines in
+      let less = sound-without sound (l .number) in
+      omega (
+        arith,
+        as-many-pieces-as-roots b lines sound,
+        as-many-pieces-as-roots b few less,
+        count-more (rootAt (tree b lines)) (rootAt (tree b few)) b
+            (λ m low high e. root-exactly-if-lowest b few less m low high .1 (still-lowest m (root-exactly-if-lowest b lines sound m low high .0 e))),
       )

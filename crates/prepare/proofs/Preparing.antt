@@ -1,28 +1,24 @@
 -- The parts of what comes before the first loop together. Assumes nothing.
-use Prim.Native.Nat.{ℕ, zero, suc, _+_, _*_, _-_, _/_, _≤_, _<_}
+use Prim.Native.Nat.{ℕ, _+_, _-_, _/_, _≤_, _<_}
 use native.Mathlib.Omega.{arith}
-use mathlib.Core.Path.{_≡_, refl, sym, _∙_, ap}
+use mathlib.Core.Path.{_≡_, refl, _∙_}
 use mathlib.Core.List.{List, [], _∷_, List·Memᴰ, List·Memᴰ·head, List·Memᴰ·tail}
 use lib.IntN.{ℤ}
 use lib.ListN.{length}
-use Rattle.network.specs.Standing.{Line, standing}
+use Rattle.network.specs.Standing.{Line}
 use Rattle.network.specs.Tree.{tree, treeLines, pieces}
 use Rattle.network.specs.Closing.{closing}
 use Rattle.network.specs.Subgraph.{numbers}
 use Rattle.network.proofs.Descent.{Rising, then}
 use Rattle.network.proofs.Count.{Placed, tree-and-roots, size, closing-count}
-use Rattle.loops.specs.Loops.{loops}
 use Rattle.loops.proofs.Count.{loops-count}
-use Rattle.nearest.specs.Heap.{leafLimit}
-use Rattle.chains.specs.Chains.{Tips, numberLimit}
-use Rattle.chains.specs.Listed.{Longs, Listed}
-use Rattle.tree.specs.Plant.{Holding, Roomy}
-use Rattle.closing.specs.Order.{Known, Ready, Closed, Put}
+use Rattle.chains.specs.Listed.{Listed}
+use Rattle.closing.specs.Order.{Ready, Put}
 use Rattle.closing.proofs.Members.{length-numbers}
-use Rattle.subgraph.specs.Drawn.{Plot, TreeLaid, TreeDrawn}
+use Rattle.subgraph.specs.Drawn.{Plot, TreeDrawn}
 use Rattle.subgraph.proofs.Turns.{going-start, queue-start}
 use Rattle.draw.specs.Book.{Sheet}
-use Rattle.prepare.specs.Prepared.{Good, Chained, Soil, Orders, Started, Ordered}
+use Rattle.prepare.specs.Prepared.{Good, Chained, Orders, Started}
 
 pub sheet-of : {n : ℕ} {ls : List ℤ} {tip long head next fars add : List ℕ} → Good n ls → Chained n ls tip long head next fars add → Sheet n ls tip long head next fars add
 sheet-of g c = record {

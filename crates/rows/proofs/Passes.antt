@@ -4,7 +4,7 @@ use native.Mathlib.Omega.{arith}
 use native.Mathlib.Nat.{mul-add}
 use mathlib.Core.Path.{_≡_, refl, sym, _∙_, ap, ap₂, subst}
 use mathlib.Core.Bool.{Bool, true, false, cond}
-use mathlib.Core.List.{List, [], _∷_, _++_, List·Memᴰ, List·Memᴰ·head, List·Memᴰ·tail, List·Memᴰ·not-nil}
+use mathlib.Core.List.{List, [], _∷_, List·Memᴰ, List·Memᴰ·head, List·Memᴰ·tail, List·Memᴰ·not-nil}
 use mathlib.Core.Option.{Option, none, some}
 use lib.IntN.{ℤ, pos, negsuc, natAbs, negℤ, _+ℤ_}
 use lib.ListN.{length, getD, take, drop}
@@ -17,10 +17,9 @@ use Rattle.network.specs.Path.{Pass, pass, stop, wayLength, descent, onward, de
 use Rattle.network.proofs.Descent.{found}
 use Rattle.loops.specs.Loops.{Loop}
 use Rattle.loops.specs.Row.{signed, misclosure, lineAllows, allowances, total, within, verdict, row}
-use Rattle.chains.specs.Chains.{codeOf, codes, Sound, halves, numberLimit, longest}
+use Rattle.chains.specs.Chains.{codeOf, codes, halves}
 use Rattle.chains.specs.Listed.{Listed}
-use Rattle.rows.specs.Sums.{lengthOf, riseAt, riseOf, verdictOf, rowOf, HalfOk, Coded}
-use Rattle.rows.proofs.Totals.{rise-fore}
+use Rattle.rows.specs.Sums.{lengthOf, riseAt, riseOf, verdictOf, rowOf, HalfOk}
 
 -- ---- a standing line's difference stands in the book
 

@@ -3,19 +3,19 @@ use Prim.Native.Nat.{ℕ, zero, suc, _+_, _*_, _-_, _/_, _%_, _≤_, _<_}
 use native.Mathlib.Omega.{arith}
 use native.Mathlib.Numerals.{add-one}
 use native.Mathlib.Nat.{mul-le-mul}
-use mathlib.Core.Path.{_≡_, refl, sym, _∙_, ap, subst}
+use mathlib.Core.Path.{_≡_, refl, sym, _∙_, ap}
 use mathlib.Core.List.{List, [], _∷_}
-use mathlib.Core.Bool.{true, false}
-use lib.Dec.{eqb, leb}
+use lib.Dec.{eqb}
 use borrow.Author.Tests.{eq-eqb, ne-eqb, le-leb, lt-leb}
 use lib.IntN.{ℤ, pos, natAbs, negℤ, _+ℤ_, _-ℤ_, +ℤ-assoc, +ℤ-idl, +ℤ-idr}
 use Rattle.laws.proofs.Tests.{cond-ind}
 use Rattle.laws.proofs.Size.{size-neg}
+use Rattle.nearest.specs.Heap.{leafLimit}
 use Rattle.chains.specs.Chains.{longest}
 use lib.ListN.{length, getD, take, drop, set, length-take}
 use Rattle.laws.proofs.Lists.{filled}
 use lib.Seq.{drop-cons, getD-take}
-use Rattle.rows.specs.Sums.{lengthOf, riseAt, riseOf, verdictOf, rowOf, Gentle, HalfOk, steepest, loosest}
+use Rattle.rows.specs.Sums.{lengthOf, riseAt, riseOf, verdictOf, rowOf, Gentle, HalfOk, steepest, loosest, squareLimit}
 
 -- the way from place j on begins with what stands at j
 rest-of : (out : List ℕ) (a j : ℕ) → a ≤ length out → j < a → drop j (take a out) ≡ getD out j 0 ∷ drop (j + 1) (take a out)
@@ -72,14 +72,14 @@ rise-aft ls h e = rw (ne-eqb (h % 2) 0 e) (sym (+ℤ-idl (negℤ (getD ls ((h / 
 
 -- ---- the verdict
 
-pub allow : (t len : ℕ) → t ≤ loosest → len ≤ 1000 * longest → t * t * len ≤ 1000 * 1000 * (1000 * longest)
+pub allow : (t len : ℕ) → t ≤ loosest → len ≤ leafLimit * longest → t * t * len ≤ loosest * loosest * (leafLimit * longest)
 allow t len ht hl = mul-le-mul (mul-le-mul ht ht) hl
 
-pub verdict-big : (t : ℕ) (m : ℤ) (len size : ℕ) → t ≤ loosest → len ≤ 1000 * longest → size ≡ natAbs m → 2147483648 ≤ size → verdictOf t m len ≡ pos 1
+pub verdict-big : (t : ℕ) (m : ℤ) (len size : ℕ) → t ≤ loosest → len ≤ leafLimit * longest → size ≡ natAbs m → squareLimit ≤ size → verdictOf t m len ≡ pos 1
 unfolding verdictOf
 verdict-big t m len size ht hl e h =
     let a = allow t len ht hl in
-    let q : 2147483648 * 2147483648 ≤ size * size = mul-le-mul h h in
+    let q : squareLimit * squareLimit ≤ size * size = mul-le-mul h h in
     rw (← e, lt-leb (size * size) (10 * (t * t * len)) (omega arith))
 
 pub verdict-within : (t : ℕ) (m : ℤ) (len size : ℕ) → size ≡ natAbs m → size * size ≤ 10 * (t * t * len) → verdictOf t m len ≡ pos 0

@@ -1,28 +1,27 @@
 -- Rows are written as the loops take their turns. Assumes nothing.
-use Prim.Native.Nat.{ℕ, zero, suc, _+_, _*_, _-_, _/_, _≤_, _<_}
+use Prim.Native.Nat.{ℕ, _+_, _*_, _-_, _/_, _≤_, _<_}
 use native.Mathlib.Omega.{arith}
 use mathlib.Core.Path.{_≡_, refl, sym, _∙_, ap, ap₂, subst}
 use mathlib.Core.Bool.{true}
 use mathlib.Core.List.{List, [], _∷_, _++_, List·Memᴰ, append-assoc, append-nil}
 use lib.IntN.{ℤ}
 use lib.ListN.{length, getD, take, drop, length-append}
-use lib.Seq.{sets, length-sets, getD-take}
+use lib.Seq.{length-sets, getD-take}
 use borrow.Rule.Slice.PartMut.{putMid}
-use Rattle.network.specs.Standing.{Line, standing}
+use Rattle.network.specs.Standing.{standing}
 use Rattle.network.specs.Path.{Pass, pass, shortest}
 use Rattle.network.specs.Subgraph.{only}
 use Rattle.loops.specs.Loops.{Loop, loops, loopsFrom}
 use Rattle.loops.specs.Row.{row, rows}
 use Rattle.loops.proofs.Basis.{of-only}
 use Rattle.chains.specs.Chains.{codes}
-use Rattle.chains.specs.Listed.{Listed}
 use Rattle.search.specs.Front.{Rooms, Written}
-use Rattle.subgraph.specs.Turn.{Taking, Takes, Took, Taken, Going}
+use Rattle.subgraph.specs.Turn.{Taking, Takes, Took, Taken}
 use Rattle.subgraph.proofs.Turns.{Next, going-turn, going-next, going-more}
 use Rattle.laws.proofs.Lists.{pour}
-use Rattle.rows.specs.Sums.{HalfOk, Coded, RowAsked, rowOf}
+use Rattle.rows.specs.Sums.{HalfOk, RowAsked, rowOf}
 use Rattle.rows.specs.Turns.{Tables, NodesRoom, Due, RowDone, RowTaken, RowsAsked, RowsAt}
-use Rattle.rows.proofs.Passes.{path-lines, row-is, closing-ok, codes-ok, codes-count, path-taken}
+use Rattle.rows.proofs.Passes.{path-lines, row-is, closing-ok, codes-ok, path-taken}
 
 module _ {ls : List ℤ} {n cnt number t : ℕ} {tip long head next fars add : List ℕ} (tb : Tables ls n t tip long) (d : Due ls n cnt number tip head next fars add) where
   x : Next n (standing ls) tip (d .close) (d .i) cnt head next fars add (d .going)

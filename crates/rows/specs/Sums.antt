@@ -6,6 +6,7 @@ use mathlib.Core.List.{List, [], _∷_}
 use lib.IntN.{ℤ, pos, natAbs, negℤ, _+ℤ_}
 use lib.ListN.{length, getD}
 use lib.Dec.{eqb, leb}
+use Rattle.nearest.specs.Heap.{leafLimit}
 use Rattle.chains.specs.Chains.{halves, numberLimit}
 use Rattle.chains.specs.Listed.{Longs}
 
@@ -15,6 +16,10 @@ steepest = 100000000
 
 abbrev pub loosest : ℕ
 loosest = 1000
+
+-- a size from which a misclosure is over without squaring
+abbrev pub squareLimit : ℕ
+squareLimit = 2147483648
 
 -- the length of a way
 unfoldable pub lengthOf : List ℕ → List ℕ → ℕ
@@ -55,7 +60,7 @@ pub record HalfOk (ls : List ℤ) (h : ℕ) : Type 0 where
 -- the first a places of out are halves of lines of ls
 pub record Coded (ls : List ℤ) (out : List ℕ) (a : ℕ) : Type 0 where
   pub places : a ≤ length out
-  pub few : a < 1000
+  pub few : a < leafLimit
   pub ok : (j : ℕ) → j < a → HalfOk ls (getD out j 0)
 
 -- what a row asks for

@@ -8,6 +8,7 @@ use lib.ListN.{length, getD, drop}
 use Rattle.network.specs.Standing.{standing}
 use Rattle.loops.specs.Loops.{Loop, loops}
 use Rattle.loops.specs.Row.{row, rows}
+use Rattle.nearest.specs.Heap.{leafLimit}
 use Rattle.chains.specs.Chains.{Tips, numberLimit}
 use Rattle.chains.specs.Listed.{Longs, Listed}
 use Rattle.search.specs.Front.{Rooms}
@@ -16,7 +17,7 @@ use Rattle.rows.specs.Sums.{Gentle, loosest}
 
 -- what does not change from turn to turn: the book, its tables, the tolerance
 pub record Tables (ls : List ℤ) (n t : ℕ) (tip long : List ℕ) : Type 0 where
-  pub few : n < 1000
+  pub few : n < leafLimit
   pub gentle : Gentle ls
   pub tolerance : t ≤ loosest
   pub tips : Tips n tip

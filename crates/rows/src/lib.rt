@@ -8,11 +8,19 @@ ghost use Rattle.network.specs.Standing.{standing};
 ghost use Rattle.loops.specs.Loops.{loops};
 ghost use Rattle.loops.specs.Row.{rows};
 ghost use Rattle.search.specs.Front.{Rooms};
+ghost use Rattle.nearest.specs.Heap.{leafLimit};
 ghost use Rattle.chains.specs.Chains.{numberLimit, longest};
 ghost use Rattle.chains.specs.Listed.{Longs};
 ghost use Rattle.rows.specs.Sums.{lengthOf, riseAt, riseOf, verdictOf, rowOf, Gentle, HalfOk, Coded, RowAsked, loosest, steepest};
 ghost use Rattle.rows.specs.Turns.{Tables, NodesRoom, Due, RowTaken, RowsAsked};
+
 use book::line::Line;
+
+// "A report row is five numbers."
+pub const ROW: usize = 5;
+
+// A size from which a misclosure is over without squaring.
+pub const SQUARE_LIMIT: usize = 2147483648;
 
 // The difference of a half in its sense.
 pub fn half_rise(lines: &[i64], h: usize) -> i64
@@ -56,11 +64,11 @@ pub fn way_rise(lines: &[i64], out: &[u64], a: usize) -> i64
 
 // 0 where the misclosure is within the allowable, 1 where it is over. A size of 2 to the 31st or more is over in any case; below it the square fits.
 pub fn verdict(misclosure: i64, t: usize, metres: usize) -> i64
-    requires { ⌜ t ≤ loosest ⌝ ∗ ⌜ metres ≤ 1000 * longest ⌝ }
+    requires { ⌜ t ≤ loosest ⌝ ∗ ⌜ metres ≤ leafLimit * longest ⌝ }
     ensures { λ r. ⌜ r ≡ verdictOf t misclosure metres ⌝ }
 {
     let size = signed::magnitude(misclosure);
-    if 2147483648 <= size {
+    if SQUARE_LIMIT <= size {
         return 1;
     }
     if size * size <= 10 * (t * t * metres) {
@@ -172,7 +180,7 @@ pub fn write_rows(
     let mut cnt = nodes;
     let mut i = 0;
     while i < count {
-        let at = i * 5;
+        let at = i * ROW;
         cnt = row_turn(
             lines,
             tip,
@@ -184,7 +192,7 @@ pub fn write_rows(
             best,
             seg,
             path,
-            &mut out[at..at + 5],
+            &mut out[at..at + ROW],
             n,
             cnt,
             close[i] as usize,

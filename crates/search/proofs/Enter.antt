@@ -1,27 +1,25 @@
 -- The state of a search, mark by mark. Assumes nothing.
-use Prim.Native.Nat.{ℕ, zero, suc, _+_, _*_, _-_, _/_, _%_, _≤_, _<_}
+use Prim.Native.Nat.{ℕ, _+_, _*_, _-_, _%_, _≤_, _<_}
 use native.Mathlib.Omega.{arith}
 use native.Mathlib.Decide.{ℕ-discrete}
 use mathlib.Core.Path.{_≡_, refl, sym, _∙_, ap, ap₂, subst}
 use mathlib.Core.Logic.{_⊎_, inl, inr}
-use mathlib.Core.Bool.{Bool, true, false}
-use mathlib.Core.List.{List, [], _∷_, List·Memᴰ, List·Memᴰ·head, List·Memᴰ·tail}
+use mathlib.Core.List.{List, _∷_, List·Memᴰ}
 use mathlib.Core.Option.{Option, none, some}
-use lib.ListN.{length, getD, set}
-use lib.Dec.{eqb}
-use borrow.Author.Tests.{eqb-true, eqb-false, eq-eqb, ne-eqb}
+use lib.ListN.{getD}
+use borrow.Author.Tests.{eq-eqb, ne-eqb}
 use Rattle.network.specs.Standing.{Line}
-use Rattle.network.specs.Tree.{Entry, entry, Tree, Candidate, candidate, distance, score, far, lowest, firstOut, next, step, grow}
-use Rattle.network.proofs.Grown.{Ends, along, against, Scored, scored, score-of, After, new, old, after, keeps, IsLowest, lowest-none, lowest-some, lineOf, scoreOf, ByLine, Grown, grown, Stepped, line, root, stop, stepped}
-use Rattle.network.proofs.Shortest.{same, never, turn, last, frontier, rising}
+use Rattle.network.specs.Tree.{Entry, entry, Tree, Candidate, candidate, distance, score, far, lowest, next, step}
+use Rattle.network.proofs.Grown.{scored, score-of, After, new, old, after, keeps, IsLowest, lowest-none, lowest-some, line}
+use Rattle.network.proofs.Shortest.{same, never}
 use Rattle.network.proofs.Descent.{Rising}
 use Rattle.network.proofs.Without.{lowest-first}
 use Rattle.nearest.specs.Heap.{Heap, Changed}
 use Rattle.nearest.specs.Heap as hp
 use Rattle.nearest.proofs.Laws.{root-least, root-leaf}
-use Rattle.chains.specs.Chains.{Half, fore, aft, flip, On, Node, Has, Chains, Sound, AllSound, halves}
+use Rattle.chains.specs.Chains.{Half, fore, aft, Has, Chains, AllSound, halves}
 use Rattle.chains.proofs.Halves.{half-ends, ends-half, half-low, half-no, half-ok}
-use Rattle.search.specs.Front.{Stage, Moved, still, moved, Relaxed, came, By, Key, Keyed, Offer, Front, Nothing, Rest, limit}
+use Rattle.search.specs.Front.{Moved, still, moved, Relaxed, came, By, Key, Offer, Front, Nothing, Rest, limit}
 use Rattle.search.specs.Front as f
 
 -- ---- the lowest candidate, by what it is

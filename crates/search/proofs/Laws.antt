@@ -1,5 +1,5 @@
 -- Laws of `offer` and `relax`. Assumes nothing.
-use Prim.Native.Nat.{ℕ, zero, suc, _+_, _*_, _-_, _/_, _%_, _≤_, _<_}
+use Prim.Native.Nat.{ℕ, suc, _+_, _*_, _-_, _≤_, _<_}
 use native.Mathlib.Omega.{arith}
 use native.Mathlib.Decide.{ℕ-discrete}
 use mathlib.Core.Path.{_≡_, refl, sym, _∙_, ap, subst}
@@ -7,11 +7,11 @@ use mathlib.Core.Logic.{_⊎_, inl, inr}
 use mathlib.Core.List.{List}
 use lib.ListN.{length, getD, set, length-set}
 use lib.Seq.{getD-set-same, getD-set-other}
-use Rattle.nearest.specs.Heap.{far, Heap, Changed, leafLimit}
+use Rattle.nearest.specs.Heap.{far, Changed, leafLimit}
 use Rattle.nearest.proofs.Laws.{cleared}
 use Rattle.chains.specs.Chains.{On, here, later, Nodes}
 use Rattle.chains.proofs.Halves.{on-zero, on-split}
-use Rattle.search.specs.Front.{Over, Stage, Offered, kept, fell, Moved, still, moved, Relaxed}
+use Rattle.search.specs.Front.{Stage, Offered, kept, fell, Moved, still, moved, Relaxed}
 
 -- ---- offer
 

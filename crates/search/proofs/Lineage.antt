@@ -1,26 +1,22 @@
 -- The way back by the lines by which marks came in is the shortest path of the definition. Assumes nothing.
-use Prim.Native.Nat.{ℕ, zero, suc, _+_, _*_, _-_, _/_, _%_, _≤_, _<_}
+use Prim.Native.Nat.{ℕ, zero, suc, _-_, _≤_}
 use native.Mathlib.Omega.{arith}
-use native.Mathlib.Decide.{ℕ-discrete}
-use mathlib.Core.Path.{_≡_, refl, sym, _∙_, ap, ap₂, subst}
-use mathlib.Core.Logic.{_⊎_, inl, inr}
+use mathlib.Core.Path.{_≡_, refl, sym, _∙_, ap, subst}
 use mathlib.Core.Bool.{Bool, true, false}
-use mathlib.Core.List.{List, [], _∷_, List·Memᴰ, List·Memᴰ·head, List·Memᴰ·tail, List·Memᴰ·eq-of-singleton, Memᴰ·cast}
+use mathlib.Core.List.{List, [], _∷_, List·Memᴰ, Memᴰ·cast}
 use mathlib.Core.Option.{Option, none, some, Option·some-injective, Option·some-ne-none, Option·none-ne-some}
-use lib.ListN.{length, getD, set}
+use lib.ListN.{length}
 use lib.Dec.{eqb}
-use borrow.Author.Tests.{eqb-true, eqb-false, eq-eqb, ne-eqb}
+use borrow.Author.Tests.{eq-eqb, ne-eqb}
 use Rattle.network.specs.Standing.{Line}
-use Rattle.network.specs.Tree.{Entry, entry, Tree, Candidate, candidate, distance, score, lowest, grow}
-use Rattle.network.specs.Path.{Pass, pass, start, stop, down, descent, onward, descend, orZero, shortest}
+use Rattle.network.specs.Tree.{Entry, Tree, distance, grow}
+use Rattle.network.specs.Path.{Pass, start, shortest}
 use Rattle.network.specs.Path as path
-use Rattle.network.proofs.Grown.{Ends, along, against, Scored, scored, score-of, After, new, old, after, keeps, ByLine, ByRoot, Grown, grown, Stepped, line, root, stepped, isNew}
+use Rattle.network.proofs.Grown.{Ends, along, against, After, new, old, after, keeps, Stepped, line, root, stepped, isNew}
 use Rattle.network.proofs.Grown as gr
-use Rattle.network.proofs.Shortest.{same, never, turn, last, rising, frontier}
-use Rattle.network.proofs.Descent.{Rising, Long, Down, down-true, down-of, found, none-found, first-found, passOf}
-use Rattle.network.proofs.Without.{lowest-first}
-use Rattle.chains.specs.Chains.{Half, fore, aft, flip, codeOf, codes, Sound, AllSound}
-use Rattle.search.specs.Front.{came, back, backOf, otherOf, viaOf, orPath, lineage}
+use Rattle.network.proofs.Shortest.{never}
+use Rattle.chains.specs.Chains.{Half, fore, aft, flip, codeOf, Sound, AllSound}
+use Rattle.search.specs.Front.{came, back, otherOf, viaOf, orPath, lineage}
 use Rattle.chains.proofs.Halves.{half-ends}
 use Rattle.search.proofs.Enter.{came-new, came-old}
 

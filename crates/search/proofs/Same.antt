@@ -1,25 +1,24 @@
 -- The way back by the lines by which marks came in is what the definition's descent gives. Assumes nothing.
-use Prim.Native.Nat.{ℕ, zero, suc, _+_, _*_, _-_, _≤_, _<_}
+use Prim.Native.Nat.{ℕ, zero, suc, _+_, _-_, _≤_, _<_}
 use native.Mathlib.Omega.{arith}
-use mathlib.Core.Path.{_≡_, refl, sym, _∙_, ap, ap₂, subst}
+use mathlib.Core.Path.{_≡_, refl, sym, _∙_, ap, subst}
 use mathlib.Core.Logic.{_⊎_, inl, inr}
 use mathlib.Core.Bool.{Bool, true, false}
 use mathlib.Core.List.{List, [], _∷_, List·Memᴰ, List·Memᴰ·head, List·Memᴰ·eq-of-singleton, Memᴰ·cast}
-use mathlib.Core.Option.{Option, none, some, Option·some-injective, Option·some-ne-none, Option·none-ne-some}
-use lib.ListN.{length}
+use mathlib.Core.Option.{Option, none, some}
 use lib.Dec.{eqb}
 use borrow.Author.Tests.{eq-eqb, ne-eqb}
 use Rattle.network.specs.Standing.{Line}
-use Rattle.network.specs.Tree.{Entry, entry, Tree, Candidate, candidate, distance, score, far, lowest, firstOut, step, grow}
+use Rattle.network.specs.Tree.{Entry, entry, Tree, Candidate, distance, score, far, lowest, firstOut, step, grow}
 use Rattle.network.specs.Tree as tr
-use Rattle.network.specs.Path.{Pass, pass, start, stop, end, down, descent, onward, descend, orZero, shortest}
-use Rattle.network.proofs.Grown.{Ends, Scored, scored, score-of, After, new, old, after, keeps, lowest-none, lowest-some, firstOut-some, ByLine, ByRoot, Grown, grown, Stepped, line, root, stepped, isNew}
+use Rattle.network.specs.Path.{Pass, start, stop, down, descent, onward, descend, orZero, shortest}
+use Rattle.network.proofs.Grown.{Ends, Scored, scored, score-of, After, new, old, after, keeps, lowest-some, firstOut-some, grown, Stepped, line, root, stepped, isNew}
 use Rattle.network.proofs.Grown as gr
 use Rattle.network.proofs.Shortest.{same, never, turn, last, rising, endsOf}
 use Rattle.network.proofs.Descent.{Rising, Long, Down, down-true, down-of, Found, found, none-found, first-found}
 use Rattle.network.proofs.Without.{lowest-first}
-use Rattle.chains.specs.Chains.{Half, Sound, AllSound}
-use Rattle.search.specs.Front.{back, backOf, otherOf, viaOf, orPath, lineage}
+use Rattle.chains.specs.Chains.{Sound, AllSound}
+use Rattle.search.specs.Front.{back, backOf, otherOf, viaOf, lineage}
 use Rattle.search.proofs.Lineage.{lineage-new, lineage-old}
 
 stop-back : (t : Bool) (l : Line) → stop (backOf t l) ≡ otherOf t l

@@ -1,26 +1,23 @@
 -- A search from one mark goes as the tree with that mark as its only root grows. Assumes nothing.
-use Prim.Native.Nat.{ℕ, zero, suc, _+_, _*_, _-_, _/_, _%_, _≤_, _<_}
+use Prim.Native.Nat.{ℕ, zero, suc, _+_, _*_, _-_, _%_, _≤_, _<_}
 use native.Mathlib.Omega.{arith}
 use native.Mathlib.Numerals.{add-one}
-use native.Mathlib.Decide.{ℕ-discrete}
-use mathlib.Core.Path.{_≡_, refl, sym, _∙_, ap, ap₂, subst}
-use mathlib.Core.Logic.{_⊎_, inl, inr}
+use mathlib.Core.Path.{_≡_, refl, sym, _∙_, ap, subst}
+use mathlib.Core.Logic.{inl}
 use mathlib.Core.Bool.{Bool, true, false}
-use mathlib.Core.List.{List, [], _∷_, List·Memᴰ, List·Memᴰ·head, List·Memᴰ·tail}
+use mathlib.Core.List.{List, [], _∷_, List·Memᴰ}
 use mathlib.Core.Option.{Option, none, some}
-use lib.ListN.{length, getD, set, length-set}
-use lib.Dec.{eqb}
-use borrow.Author.Tests.{eq-eqb, ne-eqb}
+use lib.ListN.{length, getD, set}
 use lib.Seq.{getD-set-same, getD-set-other}
 use Rattle.network.specs.Standing.{Line}
-use Rattle.network.specs.Tree.{Entry, entry, Tree, Candidate, candidate, distance, score, far, lowest, firstOut, firstOf, next, step, grow}
-use Rattle.network.proofs.Grown.{Ends, Scored, scored, After, new, old, after, keeps, lowest-some, ByLine, Grown, grown, Stepped, line, root, stop, stepped}
-use Rattle.network.proofs.Shortest.{same, never, turn, last, frontier, rising}
-use Rattle.nearest.specs.Heap.{Heap, Changed, leafLimit}
+use Rattle.network.specs.Tree.{Entry, entry, Tree, Candidate, candidate, distance, score, far, lowest, firstOut, next, step, grow}
+use Rattle.network.proofs.Grown.{scored, After, new, old, after, keeps, lowest-some, ByLine, Grown, grown, Stepped, line, root, stop, stepped}
+use Rattle.network.proofs.Shortest.{same, never, turn, frontier, rising}
+use Rattle.nearest.specs.Heap.{Changed, leafLimit}
 use Rattle.nearest.specs.Heap as hp
 use Rattle.nearest.proofs.Laws.{cleared}
-use Rattle.chains.specs.Chains.{Half, flip, Chains, Sound, AllSound, Tips, Given, halves, longest}
-use Rattle.search.specs.Front.{Stage, Relaxed, came, Key, Keyed, Front, Nothing, Rest, Begun, Two, top, lead, Turned, more, found, nothing, limit, Outcome, reached, cut-off}
+use Rattle.chains.specs.Chains.{Half, flip, AllSound, Tips, Given, halves, longest}
+use Rattle.search.specs.Front.{Stage, Relaxed, Key, Keyed, Front, Nothing, Rest, Begun, Two, top, lead, Turned, more, found, nothing, limit, Outcome, reached, cut-off}
 use Rattle.search.specs.Front as f
 use Rattle.search.proofs.Laws.{stage-close}
 use Rattle.chains.proofs.Halves.{half-ends, half-flip, half-low-end}

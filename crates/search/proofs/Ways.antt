@@ -1,18 +1,18 @@
 -- The way back, written out. Assumes nothing.
-use Prim.Native.Nat.{ℕ, zero, suc, _+_, _*_, _-_, _/_, _%_, _≤_, _<_}
+use Prim.Native.Nat.{ℕ, zero, suc, _+_, _-_, _/_, _%_, _≤_, _<_}
 use native.Mathlib.Omega.{arith}
 use native.Mathlib.Numerals.{add-one}
 use mathlib.Core.Path.{_≡_, refl, sym, _∙_, ap, ap₂, subst}
-use mathlib.Core.Bool.{Bool, true, false, true≢false, false≢true}
+use mathlib.Core.Bool.{Bool, true, false, true≢false}
 use mathlib.Core.List.{List, [], _∷_, List·Memᴰ, List·Memᴰ·eq-of-singleton}
 use mathlib.Core.Option.{Option, none, some, Option·some-ne-none}
 use lib.ListN.{length, getD, set, length-set}
 use lib.Seq.{sets}
 use lib.Dec.{eqb}
 use Rattle.network.specs.Standing.{Line}
-use Rattle.network.specs.Tree.{Entry, Tree, distance, grow}
+use Rattle.network.specs.Tree.{Tree, distance, grow}
 use Rattle.network.specs.Path.{Pass, shortest}
-use Rattle.chains.specs.Chains.{flip, codes, codeOf, AllSound, Given, halves, least}
+use Rattle.chains.specs.Chains.{flip, codes, AllSound, Given, halves, least}
 use Rattle.chains.proofs.Halves.{half-ok}
 use Rattle.search.specs.Front.{came, orBy, back, viaOf, orPath, lineage, By, Key, Keyed, Way, rooted, onward, Leads, Put, Walked, Written, Outcome, reached, cut-off}
 use Rattle.search.specs.Front as f

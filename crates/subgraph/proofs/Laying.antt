@@ -4,24 +4,22 @@ use native.Mathlib.Omega.{arith}
 use native.Mathlib.Numerals.{add-one}
 use mathlib.Core.Path.{_≡_, refl, sym, _∙_, ap, subst}
 use mathlib.Core.Logic.{_⊎_, inl, inr}
-use mathlib.Core.List.{List, [], _∷_, _++_, List·Memᴰ, List·Memᴰ·head, List·Memᴰ·tail, List·Memᴰ·not-nil, List·Memᴰ·eq-of-singleton, Memᴰ·append-left, Memᴰ·append-right, List·Memᴰ·append-cases, Memᴰ·cast}
+use mathlib.Core.List.{List, [], _∷_, List·Memᴰ, List·Memᴰ·head, List·Memᴰ·not-nil, List·Memᴰ·eq-of-singleton, Memᴰ·append-left, Memᴰ·append-right, List·Memᴰ·append-cases, Memᴰ·cast}
 use mathlib.Core.Option.{Option, none, some, Option·some-injective, Option·some-ne-none, Option·none-ne-some}
 use lib.ListN.{length, getD, length-append}
 use Rattle.network.specs.Standing.{Line}
-use Rattle.network.specs.Tree.{Entry, Tree, distance, grow, marks, tree, treeLines, lines1}
-use Rattle.network.specs.Subgraph.{isIn, only, numbers}
-use Rattle.network.proofs.Descent.{Rising}
-use Rattle.network.proofs.Count.{unique}
+use Rattle.network.specs.Tree.{Tree, grow, marks, tree, treeLines, lines1}
+use Rattle.network.specs.Subgraph.{only, numbers}
 use Rattle.loops.proofs.Basis.{in-only, nos-isIn}
-use Rattle.chains.specs.Chains.{Half, fore, aft, On, Nodes, Heads, Tips, Chains, Sound, AllSound, halves, numberLimit, longest, least}
-use Rattle.chains.specs.Link.{Fits, Places, Wider, Line4, Added}
-use Rattle.chains.specs.Listed.{Longs, Listed}
+use Rattle.chains.specs.Chains.{Half, fore, aft, Nodes, Heads, Chains, halves}
+use Rattle.chains.specs.Link.{Wider}
+use Rattle.chains.specs.Listed.{Listed}
 use Rattle.chains.proofs.Halves.{on-zero}
-use Rattle.search.specs.Front.{By, Key, Keyed}
+use Rattle.search.specs.Front.{By, Key}
 use Rattle.search.specs.Front as f
-use Rattle.tree.specs.Plant.{Entered, Holding, Below}
-use Rattle.tree.proofs.Entries.{Enters, enters-line, sized, enters-at, later, EntryOf, in-at, order-of, came-of}
-use Rattle.subgraph.specs.Drawn.{Drawn, Joined, Laid, stayed, joined, Plot, TreeDrawn}
+use Rattle.tree.specs.Plant.{Holding}
+use Rattle.tree.proofs.Entries.{Enters, enters-line, enters-at, later, EntryOf, in-at, order-of, came-of}
+use Rattle.subgraph.specs.Drawn.{Joined, Laid, stayed, joined, TreeDrawn}
 use Rattle.subgraph.proofs.Only.{only-numbers}
 
 -- ---- what the chains hold goes by members alone

@@ -1,5 +1,5 @@
 -- One loop's turn after the other. Assumes nothing.
-use Prim.Native.Nat.{ℕ, zero, suc, _+_, _*_, _-_, _≤_, _<_}
+use Prim.Native.Nat.{ℕ, suc, _+_, _*_, _-_, _≤_, _<_}
 use native.Mathlib.Omega.{arith}
 use native.Mathlib.Numerals.{add-one}
 use mathlib.Core.Path.{_≡_, refl, sym, _∙_, ap, subst}
@@ -17,8 +17,8 @@ use Rattle.network.proofs.Count.{unique, Placed, tree-and-roots, size, grows, c
 use Rattle.network.proofs.Closers.{closing-line}
 use Rattle.loops.specs.Loops.{Loop, added, loopsFrom, loops}
 use Rattle.loops.proofs.Basis.{in-only, of-only, rising-only}
-use Rattle.chains.specs.Chains.{Half, fore, aft, Nodes, Heads, Tips, Chains, Given, numberLimit}
-use Rattle.chains.specs.Link.{Places, Wider, Added}
+use Rattle.chains.specs.Chains.{fore, aft, Tips, Given, numberLimit}
+use Rattle.chains.specs.Link.{Places, Wider}
 use Rattle.chains.specs.Listed.{Listed}
 use Rattle.search.specs.Front.{Two, Held, Pathed, Written}
 use Rattle.subgraph.specs.Drawn.{Drawn, Joined, TreeDrawn}

@@ -5,3 +5,4 @@ pub mod SameNumbers
 pub mod Halves
 pub mod Keeping
 pub mod Corrected
+pub mod Places

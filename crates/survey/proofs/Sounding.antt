@@ -75,3 +75,7 @@ module _ (k : Book) (lines : List ℤ) (good : GoodLines k lines) where
   pub report-length : length (reportOf (k .marks) (k .tolerance) lines) ≡ length (loopsOf (k .marks) lines) * 5
   unfolding reportOf
   report-length = omega (arith, rows-length (k .tolerance) (loopsOf (k .marks) lines))
+
+-- so are those of a book that passes the test
+pub good-sound : (k : Book) (b t : ℤ) (held lines : List ℤ) → GoodBook k b t held lines → Sound (k .marks) (standing lines)
+good-sound k b t held lines good = lines-sound k lines (good-lines k b t held lines good)

@@ -1,10 +1,10 @@
 -- When a mark enters, and by which line. Assumes nothing.
-use Prim.Native.Nat.{ℕ, zero, suc, _+_, _*_, _-_, _/_, _%_, _≤_, _<_}
+use Prim.Native.Nat.{ℕ, zero, suc, _+_, _-_, _≤_, _<_}
 use native.Mathlib.Omega.{arith}
 use native.Mathlib.Decide.{decLt}
 use mathlib.Core.Path.{_≡_, refl, sym, _∙_, ap, subst}
 use mathlib.Core.Logic.{_⊎_, inl, inr}
-use mathlib.Core.List.{List, [], _∷_, List·Memᴰ, Memᴰ·cast}
+use mathlib.Core.List.{List, _∷_, List·Memᴰ, Memᴰ·cast}
 use mathlib.Core.Option.{Option, none, some, Option·some-injective, Option·some-ne-none}
 use lib.ListN.{length, getD}
 use Rattle.network.specs.Standing.{Line}
@@ -13,7 +13,7 @@ use Rattle.network.proofs.Grown.{After, new, old, after, keeps, ByLine, ByRoot,
 use Rattle.network.proofs.Shortest.{never}
 use Rattle.network.proofs.Flow.{entered}
 use Rattle.network.proofs.Count.{Placed, one-each, all-marks}
-use Rattle.chains.specs.Chains.{Sound, AllSound}
+use Rattle.chains.specs.Chains.{AllSound}
 use Rattle.search.specs.Front.{came}
 use Rattle.search.proofs.Enter.{came-new, came-old}
 use Rattle.tree.specs.Plant.{Entered, enters}

@@ -1,27 +1,26 @@
 -- The tree of all pieces goes as the definition's. Assumes nothing.
-use Prim.Native.Nat.{ℕ, zero, suc, _+_, _*_, _-_, _/_, _%_, _≤_, _<_}
+use Prim.Native.Nat.{ℕ, zero, suc, _+_, _*_, _-_, _%_, _≤_, _<_}
 use native.Mathlib.Omega.{arith}
 use native.Mathlib.Numerals.{add-one}
 use native.Mathlib.Decide.{ℕ-discrete, decLt}
 use mathlib.Core.Path.{_≡_, refl, sym, _∙_, ap, subst}
 use mathlib.Core.Logic.{_⊎_, inl, inr}
-use mathlib.Core.Bool.{Bool, true, false}
 use mathlib.Core.List.{List, [], _∷_, List·Memᴰ}
 use mathlib.Core.Option.{Option, none, some}
-use lib.ListN.{length, getD, set, length-set}
+use lib.ListN.{length, getD, set}
 use lib.Seq.{getD-set-same, getD-set-other, set-out}
 use Rattle.network.specs.Standing.{Line}
-use Rattle.network.specs.Tree.{Entry, entry, Tree, Candidate, candidate, distance, score, far, lowest, firstOut, firstOf, step, grow, upTo, marks, tree}
+use Rattle.network.specs.Tree.{Entry, entry, Tree, Candidate, candidate, distance, far, lowest, firstOut, firstOf, step, grow, upTo, marks, tree}
 use Rattle.network.specs.Tree as tr
-use Rattle.network.proofs.Grown.{Scored, scored, score-of, After, new, old, after, keeps, lowest-none, lowest-some, ByLine, Grown, grown, Stepped, line, root, stepped, isNew}
+use Rattle.network.proofs.Grown.{scored, score-of, After, new, old, after, keeps, lowest-none, lowest-some, ByLine, Stepped, line, root, stepped, isNew}
 use Rattle.network.proofs.Grown as gr
 use Rattle.network.proofs.Shortest.{same, never, turn}
 use Rattle.network.proofs.Count.{Placed, one-each}
-use Rattle.nearest.specs.Heap.{Heap, Changed, leafLimit}
+use Rattle.nearest.specs.Heap.{Changed, leafLimit}
 use Rattle.nearest.specs.Heap as hp
 use Rattle.nearest.proofs.Laws.{cleared}
-use Rattle.chains.specs.Chains.{Half, fore, aft, flip, Chains, Sound, AllSound, Tips, Given, halves}
-use Rattle.search.specs.Front.{Stage, Relaxed, Key, Keyed, Offer, Front, Nothing, Rest, limit, top, lead, Turned, more, found, nothing}
+use Rattle.chains.specs.Chains.{Half, flip, Tips, Given, halves}
+use Rattle.search.specs.Front.{Stage, Relaxed, Key, Offer, Front, Nothing, limit, top, lead, Turned, more, found, nothing}
 use Rattle.search.specs.Front as f
 use Rattle.chains.proofs.Halves.{half-ends, half-flip, half-low-end}
 use Rattle.search.proofs.Enter.{far-half, step-some, Pop, pop-none, pop-some, came-new, front-enter, front-relaxed}

@@ -1,9 +1,5 @@
-use Prim.Native.Nat.{ℕ, zero, suc, _+_, _-_, _*_, _/_, _%_, _≤_, _<_}
+use Prim.Native.Nat.{_-_}
 use borrow.Author.Needs.{needs}
-use native.Mathlib.Omega.{arith}
-use mathlib.Core.Path.{_≡_, refl, sym, _∙_, ap}
-use mathlib.Core.Logic.{_⊎_, inl, inr}
-use lib.ListN.{length, getD, set, length-set}
 use Rattle.chains.proofs.Laws.{join-added}
 use Rattle.chains.proofs.join.Statement.{statement}
 use Rattle.chains.proofs.join.Tie as tie

@@ -1,12 +1,10 @@
-use Prim.Native.Nat.{ℕ, _+_, _-_, _<_, _≤_}
+use Prim.Native.Nat.{ℕ, _-_, _<_, _≤_}
 use native.Mathlib.Omega.{arith}
-use mathlib.Core.Path.{_≡_, refl}
+use mathlib.Core.Path.{_≡_}
 use lib.ListN.{length, getD, length-set}
 use Rattle.chains.proofs.Laws.{zero-next}
 use Rattle.chains.proofs.zero.Statement.{statement}
 use Rattle.chains.proofs.zero.Tie as tie
-use Rattle.chains.proofs.zero.Reads as reads
-use Rattle.chains.proofs.zero.Lts as lts
 
 abbrev Inv-loop : tie.InvT-loop
 Inv-loop a₀ n i₀ a i = (i ≤ n) × (length a ≡ length a₀) × ((j : ℕ) → j < i → getD a j 0 ≡ 0)
@@ -14,35 +12,27 @@ Inv-loop a₀ n i₀ a i = (i ≤ n) × (length a ≡ length a₀) × ((j : ℕ)
 abbrev μ-loop : tie.MeasureT-loop
 μ-loop a₀ n i₀ a i = n - i
 
--- src/lib.rt:16:5
 loop-holds : tie.Need-loop-holds Inv-loop μ-loop
 loop-holds c = omega arith
 
--- src/lib.rt:17:9
 mul-a : tie.Need-mul-a Inv-loop μ-loop
 mul-a c = omega arith
 
--- src/lib.rt:17:9
 slice-write-a : tie.Need-slice-write-a Inv-loop μ-loop
 slice-write-a c = omega arith
 
--- src/lib.rt:18:9
 add-i : tie.Need-add-i Inv-loop μ-loop
 add-i c = omega arith
 
--- src/lib.rt:16:5
 loop-less : tie.Need-loop-less Inv-loop μ-loop
 loop-less c = omega arith
 
--- src/lib.rt:16:5
 loop-again : tie.Need-loop-again Inv-loop μ-loop
 loop-again c = (omega arith, simp length-set (c .before .loop .inv .1), zero-next (c .before .loop .a) (c .before .loop .i) (omega arith) (c .before .loop .inv .2))
 
--- src/lib.rt:11:1
 same-length : tie.Need-same-length Inv-loop μ-loop
 same-length c = omega arith
 
--- src/lib.rt:11:1
 returns : tie.Need-returns Inv-loop μ-loop
 returns c = λ j h. c .before .loop .inv .2 j (omega arith)
 

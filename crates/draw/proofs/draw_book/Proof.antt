@@ -1,15 +1,10 @@
-use Prim.Native.Nat.{_≤_, _<_, _/_, _-_, _*_}
-use borrow.Author.Needs.{needs}
+use Prim.Native.Nat.{_≤_, _/_, _-_}
 use native.Mathlib.Omega.{arith}
 use mathlib.Core.Path.{_≡_, refl}
 use lib.ListN.{length}
 use Rattle.draw.proofs.Drawing.{DrawingAt, draw-start, entry-asked, draw-turn, draw-end}
 use Rattle.draw.proofs.draw_book.Statement.{statement}
 use Rattle.draw.proofs.draw_book.Tie as tie
-use Rattle.draw.proofs.draw_book.Reads as reads
-use Rattle.draw.proofs.draw_book.Lts as lts
-use Rattle.chains.proofs.zero.Reads as zero-reads
-use Rattle.draw.proofs.draw_line.Reads as draw-line-reads
 
 abbrev Inv-loop : tie.InvT-loop
 Inv-loop lines tip₀ long₀ head₀ next₀ far₀ add₀ n cnt₀ j₀ tip long head next far add cnt j = (j ≤ length lines / 5) × ((length tip ≡ length tip₀) × (length long ≡ length long₀) × (length head ≡ length head₀)) × ((length next ≡ length next₀) × (length far ≡ length far₀) × (length add ≡ length add₀)) × DrawingAt n lines j cnt tip long head next far add
@@ -17,65 +12,50 @@ Inv-loop lines tip₀ long₀ head₀ next₀ far₀ add₀ n cnt₀ j₀ tip lo
 abbrev μ-loop : tie.MeasureT-loop
 μ-loop lines tip₀ long₀ head₀ next₀ far₀ add₀ n cnt₀ j₀ tip long head next far add cnt j = j
 
--- src/lib.rt:58:5
 zero-requires : tie.Need-zero-requires Inv-loop μ-loop
 zero-requires c κs = c .before .before .before .before .before .before .before .pre .tips
 
--- src/lib.rt:59:5
 zero-requires-2 : tie.Need-zero-requires-2 Inv-loop μ-loop
 zero-requires-2 c κs = c .before .before .before .before .before .before .before .before .before .before .before .pre .longs
 
--- src/lib.rt:60:5
 zero-requires-3 : tie.Need-zero-requires-3 Inv-loop μ-loop
 zero-requires-3 c κs = c .before .before .before .before .before .before .before .before .before .before .before .before .before .before .before .pre .heads
 
--- src/lib.rt:63:5
 loop-holds : tie.Need-loop-holds Inv-loop μ-loop
 loop-holds c = let p = c .before .before .before .before .before .before .before .before .before .before .before .before .before .before .before .before .before .before .pre in
     (omega arith, (refl, refl, refl), (refl, refl, refl), draw-start _ _ (c .before .before .before .before .before .before .before .before .before .before .zero .last .0) (c .before .before .before .before .before .before .zero2 .last .0) (c .before .before .zero3 .last .0) _ _ _ (p .some-mark) (omega (arith, p .tips)) (omega (arith, p .longs)) (omega (arith, p .heads)) (c .before .before .before .before .before .before .before .before .before .before .zero .ensures) (c .before .before .before .before .before .before .zero2 .ensures) (c .before .before .zero3 .ensures))
 
--- src/lib.rt:64:19
 sub-at : tie.Need-sub-at Inv-loop μ-loop
 sub-at c = omega arith
 
--- src/lib.rt:64:18
 mul-at : tie.Need-mul-at Inv-loop μ-loop
 mul-at c = omega arith
 
--- src/lib.rt:66:24
 add-draw-line : tie.Need-add-draw-line Inv-loop μ-loop
 add-draw-line c = omega arith
 
--- src/lib.rt:66:13
 mul-draw-line : tie.Need-mul-draw-line Inv-loop μ-loop
 mul-draw-line c = omega arith
 
--- src/lib.rt:66:13
 sub-draw-line : tie.Need-sub-draw-line Inv-loop μ-loop
 sub-draw-line c = omega arith
 
--- src/lib.rt:66:13
 part-draw-line-start : tie.Need-part-draw-line-start Inv-loop μ-loop
 part-draw-line-start c = omega arith
 
--- src/lib.rt:66:13
 part-draw-line-end : tie.Need-part-draw-line-end Inv-loop μ-loop
 part-draw-line-end c = omega arith
 
--- src/lib.rt:65:9
 draw-line-requires : tie.Need-draw-line-requires Inv-loop μ-loop
 draw-line-requires c κs = let v = c .before .before .before .before .before .before .before .before .loop .inv in
     entry-asked _ _ _ _ _ _ _ _ _ _ _ _ _ _ _ _ (omega arith) (v .0) (c .before .before .before .before .before .before .before .before .before .before .before .before .before .before .before .before .before .before .before .before .before .before .before .before .before .before .before .pre) (v .3) (v .2 .0) (v .2 .1) (v .2 .2)
 
--- src/lib.rt:77:9
 sub-j : tie.Need-sub-j Inv-loop μ-loop
 sub-j c = omega arith
 
--- src/lib.rt:63:5
 loop-less : tie.Need-loop-less Inv-loop μ-loop
 loop-less c = omega arith
 
--- src/lib.rt:63:5
 loop-again : tie.Need-loop-again Inv-loop μ-loop
 loop-again c = let v = c .before .before .before .before .before .before .before .before .before .before .before .before .before .before .before .before .before .before .before .before .before .loop .inv in (
   omega arith,
@@ -84,31 +64,24 @@ loop-again c = let v = c .before .before .before .before .before .before .before
   draw-turn _ _ _ _ _ _ _ _ _ _ _ _ _ _ _ _ (omega arith) (v .0) (c .before .before .before .before .before .before .before .before .before .before .before .before .before .before .before .before .before .before .before .before .before .before .before .before .before .before .before .before .before .before .before .before .before .before .before .before .before .before .before .before .pre) (v .3) _ _ _ _ _ _ _ (c .before .before .before .before .before .before .before .before .before .before .before .before .draw-line .ensures),
 )
 
--- src/lib.rt:45:1
 same-length : tie.Need-same-length Inv-loop μ-loop
 same-length c = omega arith
 
--- src/lib.rt:45:1
 same-length-2 : tie.Need-same-length-2 Inv-loop μ-loop
 same-length-2 c = omega arith
 
--- src/lib.rt:45:1
 same-length-3 : tie.Need-same-length-3 Inv-loop μ-loop
 same-length-3 c = omega arith
 
--- src/lib.rt:45:1
 same-length-4 : tie.Need-same-length-4 Inv-loop μ-loop
 same-length-4 c = omega arith
 
--- src/lib.rt:45:1
 same-length-5 : tie.Need-same-length-5 Inv-loop μ-loop
 same-length-5 c = omega arith
 
--- src/lib.rt:45:1
 same-length-6 : tie.Need-same-length-6 Inv-loop μ-loop
 same-length-6 c = omega arith
 
--- src/lib.rt:45:1
 returns : tie.Need-returns Inv-loop μ-loop
 returns c = draw-end _ _ _ _ _ _ _ _ _ _ (c .before .before .before .before .before .before .before .before .before .before .before .before .before .before .before .before .before .before .before .before .pre .few) (omega arith) (c .before .loop .inv .3)
 

@@ -1,128 +1,93 @@
 use Rattle.draw.proofs.Drawing.{entry-fits, drew-is}
 use native.Mathlib.Omega.{arith}
-use Prim.Native.Nat.{_*_}
-use mathlib.Core.Path.{_≡_, refl, sym, _∙_}
-use lib.IntN.{pos, natAbs}
-use lib.ListN.{getD, length-set}
-use Rattle.laws.specs.Tests.{eqZ}
+use mathlib.Core.Path.{refl, sym, _∙_}
+use lib.ListN.{length-set}
 use Rattle.laws.proofs.Signed.{back}
 use Rattle.laws.proofs.Size.{not-negative}
 use Rattle.draw.specs.Book.{withdrawn}
 use borrow.Author.Needs.{needs}
 use Rattle.draw.proofs.draw_line.Statement.{statement}
 use Rattle.draw.proofs.draw_line.Tie as tie
-use Rattle.draw.proofs.draw_line.Reads as reads
-use Rattle.draw.proofs.draw_line.Lts as lts
-use Rattle.chains.proofs.join.Reads as join-reads
-use Rattle.signed.proofs.index.Reads as index-reads
-use Rattle.signed.proofs.same.Reads as same-reads
 
--- src/lib.rt:20:21
 shared-slice-copy-out-same : tie.Need-shared-slice-copy-out-same
 shared-slice-copy-out-same c = search needs
 
--- src/lib.rt:20:8
 same-requires : tie.Need-same-requires
 same-requires c κs = search needs
 
--- src/lib.rt:21:9
 returns : tie.Need-returns
 returns c = withdrawn (sym (c .before .same .ensures ∙ search needs) ∙ c .if1 .taken) refl refl refl refl refl refl refl
 
--- src/lib.rt:23:30
 shared-slice-copy-out-index : tie.Need-shared-slice-copy-out-index
 shared-slice-copy-out-index c = search needs
 
--- src/lib.rt:23:9
 index-requires : tie.Need-index-requires
 index-requires c κs = rw (back _ (c .index-arg .given)) (not-negative (c .before .before .before .before .before .before .before .before .before .before .pre .good .from))
 
--- src/lib.rt:24:28
 shared-slice-copy-out-index-2 : tie.Need-shared-slice-copy-out-index-2
 shared-slice-copy-out-index-2 c = search needs
 
--- src/lib.rt:24:9
 index-requires-2 : tie.Need-index-requires-2
 index-requires-2 c κs = rw (back _ (c .index-arg2 .given)) (not-negative (c .before .before .before .before .before .before .before .before .before .before .before .before .pre .good .to))
 
--- src/lib.rt:25:32
 shared-slice-copy-out-index-3 : tie.Need-shared-slice-copy-out-index-3
 shared-slice-copy-out-index-3 c = search needs
 
--- src/lib.rt:25:9
 index-requires-3 : tie.Need-index-requires-3
 index-requires-3 c κs = rw (back _ (c .index-arg3 .given)) (not-negative (c .before .before .before .before .before .before .before .before .before .before .before .before .before .before .pre .good .long))
 
--- src/lib.rt:26:9
 mul-tip : tie.Need-mul-tip
 mul-tip c = search needs
 
--- src/lib.rt:26:5
 mul-tip-2 : tie.Need-mul-tip-2
 mul-tip-2 c = search needs
 
--- src/lib.rt:26:5
 slice-write-tip : tie.Need-slice-write-tip
 slice-write-tip c = search needs
 
--- src/lib.rt:27:9
 mul-tip-3 : tie.Need-mul-tip-3
 mul-tip-3 c = search needs
 
--- src/lib.rt:27:9
 add-tip : tie.Need-add-tip
 add-tip c = search needs
 
--- src/lib.rt:27:5
 mul-tip-4 : tie.Need-mul-tip-4
 mul-tip-4 c = search needs
 
--- src/lib.rt:27:5
 slice-write-tip-2 : tie.Need-slice-write-tip-2
 slice-write-tip-2 c = simp length-set (omega (arith, c .before .before .before .before .before .before .before .before .before .before .before .before .before .before .before .pre .tips, c .before .before .before .before .before .before .before .before .before .before .before .before .before .before .before .pre .number-ok))
 
--- src/lib.rt:28:5
 mul-long : tie.Need-mul-long
 mul-long c = search needs
 
--- src/lib.rt:28:5
 slice-write-long : tie.Need-slice-write-long
 slice-write-long c = search needs
 
--- src/lib.rt:29:5
 join-requires : tie.Need-join-requires
 join-requires c κs = let p = c .before .before .before .before .before .before .before .before .before .before .before .before .before .before .before .before .before .before .before .pre in
     (p .places, entry-fits p (c .before .before .before .before .before .before .before .before .index .result) (c .before .before .before .before .before .before .index2 .result) (c .before .before .before .before .index3 .result) (c .before .before .before .before .before .before .before .before .index .ensures ∙ search needs) (c .before .before .before .before .before .before .index2 .ensures ∙ search needs) (c .before .before .before .before .index3 .ensures ∙ search needs))
 
--- src/lib.rt:41:5
 add-result : tie.Need-add-result
 add-result c = omega (arith, c .before .before .before .before .before .before .before .before .before .before .before .before .before .before .before .before .before .before .before .before .before .before .before .before .before .before .before .before .pre .places .nexts, c .before .before .before .before .before .before .before .before .before .before .before .before .before .before .before .before .before .before .before .before .before .before .before .before .before .before .before .before .good)
 
--- src/lib.rt:5:1
 same-length : tie.Need-same-length
 same-length c = search needs
 
--- src/lib.rt:5:1
 same-length-2 : tie.Need-same-length-2
 same-length-2 c = search needs
 
--- src/lib.rt:5:1
 same-length-3 : tie.Need-same-length-3
 same-length-3 c = search needs
 
--- src/lib.rt:5:1
 same-length-4 : tie.Need-same-length-4
 same-length-4 c = search needs
 
--- src/lib.rt:5:1
 same-length-5 : tie.Need-same-length-5
 same-length-5 c = search needs
 
--- src/lib.rt:5:1
 same-length-6 : tie.Need-same-length-6
 same-length-6 c = search needs
 
--- src/lib.rt:5:1
 returns-2 : tie.Need-returns-2
 returns-2 c = drew-is (c .before .before .before .before .before .before .before .before .before .before .before .before .before .before .before .before .before .index .result) (c .before .before .before .before .before .before .before .before .before .before .before .before .before .before .before .index2 .result) (c .before .before .before .before .before .before .before .before .before .before .before .before .before .index3 .result) (c .before .before .before .before .before .before .before .before .before .before .before .before .before .before .before .before .before .index .ensures ∙ search needs) (c .before .before .before .before .before .before .before .before .before .before .before .before .before .before .before .index2 .ensures ∙ search needs) (c .before .before .before .before .before .before .before .before .before .before .before .before .before .index3 .ensures ∙ search needs) (sym (c .before .before .before .before .before .before .before .before .before .before .before .before .before .before .before .before .before .before .before .before .same .ensures ∙ search needs) ∙ c .before .before .before .before .before .before .before .before .before .before .before .before .before .before .before .before .before .before .before .if1 .left) (c .before .before .before .before .before .before .before .before .join .ensures)
 

@@ -1,58 +1,41 @@
-use native.Mathlib.Omega.{arith}
 use Rattle.prepare.proofs.Preparing.{ready-of, plot-of, half-nodes, started}
 use borrow.Author.Needs.{needs}
 use Rattle.prepare.proofs.order_loops.Statement.{statement}
 use Rattle.prepare.proofs.order_loops.Tie as tie
-use Rattle.prepare.proofs.order_loops.Reads as reads
-use Rattle.prepare.proofs.order_loops.Lts as lts
-use Rattle.closing.proofs.closing_lines.Reads as closing-lines-reads
-use Rattle.subgraph.proofs.lay_tree.Reads as lay-tree-reads
 
--- src/lib.rt:51:9
 closing-lines-requires : tie.Need-closing-lines-requires
 closing-lines-requires c κs = ready-of (c .before .before .before .before .before .before .before .before .before .before .before .before .before .before .pre)
 
--- src/lib.rt:52:9
 lay-tree-requires : tie.Need-lay-tree-requires
 lay-tree-requires c κs = let p = c .before .before .before .before .before .before .before .before .before .before .before .before .before .before .before .before .before .before .before .before .before .before .before .before .before .pre in (p .tips, (p .longs, plot-of p))
 
--- src/lib.rt:56:17
 sub-t30 : tie.Need-sub-t30
 sub-t30 c = search needs
 
--- src/lib.rt:56:17
 sub-t32 : tie.Need-sub-t32
 sub-t32 c = let p = c .before .before .before .before .before .before .before .before .before .before .before .before .before .before .before .before .before .before .before .before .before .before .before .before .before .before .before .before .before .before .before .before .before .before .pre in half-nodes _ _ _ _ (p .some-mark) (p .some-line) (p .lines) (p .listed) _ _ _ _ _ _ _ _ (p .closes) (c .before .before .before .before .before .before .before .before .before .before .before .before .before .before .before .before .before .before .before .closing-lines .ensures (p .lines) (p .listed) (p .holding)) (c .before .before .before .before .before .before .before .before .lay-tree .ensures _ (p .lines) (p .listed) (p .holding))
 
--- src/lib.rt:33:1
 same-length : tie.Need-same-length
 same-length c = search needs
 
--- src/lib.rt:33:1
 same-length-2 : tie.Need-same-length-2
 same-length-2 c = search needs
 
--- src/lib.rt:33:1
 same-length-3 : tie.Need-same-length-3
 same-length-3 c = search needs
 
--- src/lib.rt:33:1
 same-length-4 : tie.Need-same-length-4
 same-length-4 c = search needs
 
--- src/lib.rt:33:1
 same-length-5 : tie.Need-same-length-5
 same-length-5 c = search needs
 
--- src/lib.rt:33:1
 same-length-6 : tie.Need-same-length-6
 same-length-6 c = search needs
 
--- src/lib.rt:33:1
 same-length-7 : tie.Need-same-length-7
 same-length-7 c = search needs
 
--- src/lib.rt:33:1
 returns : tie.Need-returns
 returns c = let p = c .before .before .before .before .before .before .before .before .before .before .before .before .before .before .before .before .before .before .before .before .before .before .before .before .before .before .before .before .before .before .before .before .before .before .pre in λ lines li ho. started _ _ _ _ (p .some-mark) (p .some-line) lines li _ _ _ _ _ _ _ _ (p .closes) (c .before .before .before .before .before .before .before .before .before .before .before .before .before .before .before .before .before .before .before .closing-lines .ensures lines li ho) (c .before .before .before .before .before .before .before .before .lay-tree .ensures _ lines li ho)
 

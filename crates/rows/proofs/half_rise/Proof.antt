@@ -5,9 +5,6 @@ use Rattle.rows.proofs.Totals.{difference-of, rise-fore, rise-aft}
 use borrow.Author.Needs.{needs}
 use Rattle.rows.proofs.half_rise.Statement.{statement}
 use Rattle.rows.proofs.half_rise.Tie as tie
-use Rattle.rows.proofs.half_rise.Reads as reads
-use Rattle.rows.proofs.half_rise.Lts as lts
-use Rattle.signed.proofs.sub.Reads as sub-reads
 
 sub-d : tie.Need-sub-d
 sub-d c = search needs

@@ -1,6 +1,6 @@
-use Prim.Native.Nat.{_≤_, _*_}
+use Prim.Native.Nat.{_≤_}
 use native.Mathlib.Omega.{arith}
-use mathlib.Core.Path.{_≡_, _∙_}
+use mathlib.Core.Path.{_∙_}
 use lib.IntN.{natAbs}
 use lib.ListN.{length-take}
 use Rattle.laws.proofs.Signed.{back, stored}
@@ -9,14 +9,6 @@ use Rattle.rows.proofs.Totals.{rise-size, row-made}
 use borrow.Author.Needs.{needs}
 use Rattle.rows.proofs.row_of.Statement.{statement}
 use Rattle.rows.proofs.row_of.Tie as tie
-use Rattle.rows.proofs.row_of.Reads as reads
-use Rattle.rows.proofs.row_of.Lts as lts
-use Rattle.rows.proofs.half_rise.Reads as half-rise-reads
-use Rattle.rows.proofs.verdict.Reads as verdict-reads
-use Rattle.rows.proofs.way_length.Reads as way-length-reads
-use Rattle.rows.proofs.way_rise.Reads as way-rise-reads
-use Rattle.rows.proofs.write_row.Reads as write-row-reads
-use Rattle.signed.proofs.add.Reads as add-reads
 
 mul-metres : tie.Need-mul-metres
 mul-metres c = search needs

@@ -1,12 +1,7 @@
-use native.Mathlib.Omega.{arith}
 use Rattle.rows.proofs.Turning.{takes-of, row-asked, row-done}
 use borrow.Author.Needs.{needs}
 use Rattle.rows.proofs.row_turn.Statement.{statement}
 use Rattle.rows.proofs.row_turn.Tie as tie
-use Rattle.rows.proofs.row_turn.Reads as reads
-use Rattle.rows.proofs.row_turn.Lts as lts
-use Rattle.rows.proofs.row_of.Reads as row-of-reads
-use Rattle.subgraph.proofs.take_loop.Reads as take-loop-reads
 
 take-loop-requires : tie.Need-take-loop-requires
 take-loop-requires c κs = let p = c .before .before .before .before .before .before .before .before .before .before .before .before .before .before .before .before .pre in takes-of (p .0) (p .1 .1 .1 .1) (p .1 .0) (p .1 .1 .0)

@@ -2,13 +2,11 @@ use Prim.Native.Nat.{_*_, _≤_}
 use native.Mathlib.Nat.{mul-le-mul, le-of-lt}
 use native.Mathlib.Omega.{arith}
 use mathlib.Core.Path.{sym, _∙_}
+use Rattle.rows.specs.Sums.{loosest, squareLimit}
 use Rattle.rows.proofs.Totals.{allow, verdict-big, verdict-within, verdict-over}
 use borrow.Author.Needs.{needs}
 use Rattle.rows.proofs.verdict.Statement.{statement}
 use Rattle.rows.proofs.verdict.Tie as tie
-use Rattle.rows.proofs.verdict.Reads as reads
-use Rattle.rows.proofs.verdict.Lts as lts
-use Rattle.signed.proofs.magnitude.Reads as magnitude-reads
 
 magnitude-requires : tie.Need-magnitude-requires
 magnitude-requires c κs = search needs
@@ -17,10 +15,10 @@ returns : tie.Need-returns
 returns c = let s = c .before .before in sym (verdict-big _ _ _ (c .before .magnitude .result) (s .pre .0) (s .pre .1) (c .before .magnitude .ensures ∙ search needs) (omega arith))
 
 mul-if2 : tie.Need-mul-if2
-mul-if2 c = let a = c .before .magnitude .result in let q : a * a ≤ 2147483648 * 2147483648 = mul-le-mul (le-of-lt (c .if1 .left)) (le-of-lt (c .if1 .left)) in omega arith
+mul-if2 c = let a = c .before .magnitude .result in let q : a * a ≤ squareLimit * squareLimit = mul-le-mul (le-of-lt (c .if1 .left)) (le-of-lt (c .if1 .left)) in omega arith
 
 mul-if2-2 : tie.Need-mul-if2-2
-mul-if2-2 c = let s = c .before .before in let q : s .args .t * s .args .t ≤ 1000 * 1000 = mul-le-mul (s .pre .0) (s .pre .0) in omega arith
+mul-if2-2 c = let s = c .before .before in let q : s .args .t * s .args .t ≤ loosest * loosest = mul-le-mul (s .pre .0) (s .pre .0) in omega arith
 
 mul-if2-3 : tie.Need-mul-if2-3
 mul-if2-3 c = let s = c .before .before in omega (arith, allow (s .args .t) (s .args .metres) (s .pre .0) (s .pre .1))

@@ -1,15 +1,12 @@
 use Prim.Native.Nat.{_+_, _*_, _≤_, _-_, _/_}
-use borrow.Author.Needs.{needs}
 use native.Mathlib.Omega.{arith}
-use mathlib.Core.Path.{_≡_, refl}
+use mathlib.Core.Path.{_≡_}
 use lib.ListN.{take, drop, getD}
 use Rattle.chains.specs.Chains.{longest}
 use Rattle.rows.specs.Sums.{lengthOf}
 use Rattle.rows.proofs.Totals.{length-next, length-end}
 use Rattle.rows.proofs.way_length.Statement.{statement}
 use Rattle.rows.proofs.way_length.Tie as tie
-use Rattle.rows.proofs.way_length.Reads as reads
-use Rattle.rows.proofs.way_length.Lts as lts
 
 abbrev Inv-loop : tie.InvT-loop
 Inv-loop lines long out a sum₀ j₀ sum j = (j ≤ a) × (sum + lengthOf long (drop j (take a out)) ≡ lengthOf long (take a out)) × (sum ≤ j * longest)

@@ -1,11 +1,10 @@
 use lib.IntN.{+ℤ-idl}
 use Rattle.rows.proofs.Totals.{rise-size}
 use Prim.Native.Nat.{_+_, _*_, _≤_, _-_}
-use borrow.Author.Needs.{needs}
 use native.Mathlib.Omega.{arith}
-use mathlib.Core.Path.{_≡_, refl, _∙_}
+use mathlib.Core.Path.{_≡_}
 use lib.IntN.{natAbs, _+ℤ_}
-use lib.ListN.{take, drop, getD}
+use lib.ListN.{take, drop}
 use mir.Syntax.{w64}
 use mir.Val.{toZ}
 use Rattle.laws.proofs.Signed.{back, stored}
@@ -14,10 +13,6 @@ use Rattle.rows.specs.Sums.{riseOf, steepest}
 use Rattle.rows.proofs.Totals.{rise-next, rise-end}
 use Rattle.rows.proofs.way_rise.Statement.{statement}
 use Rattle.rows.proofs.way_rise.Tie as tie
-use Rattle.rows.proofs.way_rise.Reads as reads
-use Rattle.rows.proofs.way_rise.Lts as lts
-use Rattle.rows.proofs.half_rise.Reads as half-rise-reads
-use Rattle.signed.proofs.add.Reads as add-reads
 
 abbrev Inv-loop : tie.InvT-loop
 Inv-loop lines out a sum₀ j₀ sum j = (j ≤ a) × (toZ w64 sum +ℤ riseOf lines (drop j (take a out)) ≡ riseOf lines (take a out)) × (natAbs (toZ w64 sum) ≤ j * steepest)

@@ -6,9 +6,6 @@ use Rattle.rows.proofs.Totals.{five}
 use borrow.Author.Needs.{needs}
 use Rattle.rows.proofs.write_row.Statement.{statement}
 use Rattle.rows.proofs.write_row.Tie as tie
-use Rattle.rows.proofs.write_row.Reads as reads
-use Rattle.rows.proofs.write_row.Lts as lts
-use Rattle.signed.proofs.signed_count.Reads as signed-count-reads
 
 signed-count-requires : tie.Need-signed-count-requires
 signed-count-requires c κs = search needs

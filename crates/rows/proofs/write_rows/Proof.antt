@@ -1,14 +1,11 @@
 use Prim.Native.Nat.{_≤_, _-_}
 use native.Mathlib.Omega.{arith}
-use mathlib.Core.Path.{_≡_, refl, _∙_}
+use mathlib.Core.Path.{_≡_, refl}
 use lib.ListN.{length, length-take, length-drop}
 use Rattle.rows.specs.Turns.{RowsAt}
 use Rattle.rows.proofs.Turning.{rows-start, rows-due, rows-next, rows-end}
 use Rattle.rows.proofs.write_rows.Statement.{statement}
 use Rattle.rows.proofs.write_rows.Tie as tie
-use Rattle.rows.proofs.write_rows.Reads as reads
-use Rattle.rows.proofs.write_rows.Lts as lts
-use Rattle.rows.proofs.row_turn.Reads as row-turn-reads
 
 abbrev Inv-loop : tie.InvT-loop
 Inv-loop lines tip long close head₀ next₀ far₀ add₀ best₀ seg₀ path₀ out₀ n nodes count t cnt₀ i₀ head next far add best seg path out cnt i =

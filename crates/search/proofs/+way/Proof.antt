@@ -1,4 +1,3 @@
-use mathlib.Core.Path.{_≡_, subst}
 use lib.ListN.{length-set}
 use Rattle.chains.specs.Chains.{halves}
 use Prim.Native.Nat.{_/_}

@@ -1,15 +1,8 @@
-use Prim.Native.Nat.{ℕ, zero, suc, _+_, _-_, _*_, _/_, _%_, _≤_, _<_}
+use Prim.Native.Nat.{_-_}
 use borrow.Author.Needs.{needs}
 use native.Mathlib.Omega.{arith}
-use mathlib.Core.Path.{_≡_, refl, sym, _∙_, ap}
-use mathlib.Core.Logic.{_⊎_, inl, inr}
-use lib.ListN.{length, getD, set, length-set}
-use mathlib.Core.List.{List}
-use borrow.Author.Tests.{ltb-true, ltb-false, eqb-true, eqb-false}
-use Rattle.network.specs.Standing.{Line}
-use Rattle.chains.specs.Chains.{Nodes, Given}
-use Rattle.search.specs.Front.{Stage, Begun, Turned, more, found, nothing, Outcome}
-use Rattle.search.proofs.Laws.{stage-start, stage-close}
+use lib.ListN.{length-set}
+use Rattle.search.proofs.Laws.{stage-start}
 use Rattle.search.proofs.begin.Statement.{statement}
 use Rattle.search.proofs.begin.Tie as tie
 

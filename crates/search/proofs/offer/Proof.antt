@@ -1,14 +1,9 @@
-use Prim.Native.Nat.{ℕ, zero, suc, _+_, _-_, _*_, _/_, _%_, _≤_, _<_}
+use Prim.Native.Nat.{_-_}
 use borrow.Author.Needs.{needs}
 use native.Mathlib.Omega.{arith}
-use mathlib.Core.Path.{_≡_, refl, sym, _∙_, ap}
-use mathlib.Core.Logic.{_⊎_, inl, inr}
-use lib.ListN.{length, getD, set, length-set}
-use borrow.Author.Tests.{ltb-true, ltb-false}
-use Rattle.chains.specs.Chains.{Nodes}
-use Rattle.search.specs.Front.{Stage, Offered, kept, fell, Relaxed}
-use Rattle.chains.specs.Chains.{Nodes}
-use Rattle.search.specs.Front.{Stage, Offered, kept, fell, Relaxed}
+use mathlib.Core.Path.{refl}
+use Rattle.search.specs.Front.{kept, fell}
+use Rattle.search.specs.Front.{kept, fell}
 use Rattle.search.proofs.offer.Statement.{statement}
 use Rattle.search.proofs.offer.Tie as tie
 

@@ -3,10 +3,6 @@ use Rattle.search.proofs.Ways.{path-leads, path-walked, path-cut}
 use borrow.Author.Needs.{needs}
 use Rattle.search.proofs.path.Statement.{statement}
 use Rattle.search.proofs.path.Tie as tie
-use Rattle.search.proofs.path.Reads as reads
-use Rattle.search.proofs.path.Lts as lts
-use Rattle.search.proofs.search.Reads as search-reads
-use Rattle.search.proofs.way.Reads as way-reads
 
 search-requires : tie.Need-search-requires
 search-requires c κs = let p = c .before .before .before .before .before .before .before .before .before .before .pre in (p .0 .nodes, (p .0 .heads, (p .0 .tips, (p .1 .0 .room, p .1 .1))))

@@ -1,16 +1,10 @@
-use Prim.Native.Nat.{ℕ, zero, suc, _+_, _-_, _*_, _/_, _%_, _≤_, _<_}
+use Prim.Native.Nat.{_-_, _≤_}
 use borrow.Author.Needs.{needs}
 use native.Mathlib.Omega.{arith}
-use mathlib.Core.Path.{_≡_, refl, sym, _∙_, ap}
-use mathlib.Core.Logic.{_⊎_, inl, inr}
-use lib.ListN.{length, getD, set, length-set}
-use borrow.Author.Tests.{ltb-true, ltb-false}
-use Rattle.chains.specs.Chains.{Nodes}
-use Rattle.search.specs.Front.{Stage, Offered, kept, fell, Relaxed}
+use mathlib.Core.Path.{_≡_, refl}
+use lib.ListN.{length}
 use Rattle.search.proofs.Laws.{Relaxing, relax-start, relax-turn, relax-end}
-use Rattle.chains.specs.Chains.{Nodes}
-use Rattle.search.specs.Front.{Stage, Offered, kept, fell, Relaxed}
-use Rattle.search.proofs.Laws.{Relaxing, relax-start, relax-next, relax-end}
+use Rattle.search.proofs.Laws.{Relaxing, relax-start, relax-end}
 use Rattle.search.proofs.relax.Statement.{statement}
 use Rattle.search.proofs.relax.Tie as tie
 

@@ -1,5 +1,4 @@
-use Prim.Native.Nat.{ℕ, zero, suc, _+_, _-_, _*_, _/_, _%_, _≤_, _<_}
-use borrow.Author.Needs.{needs}
+use Prim.Native.Nat.{_-_, _<_}
 use native.Mathlib.Omega.{arith}
 use mathlib.Core.Path.{_≡_, refl}
 use lib.ListN.{length}
@@ -10,10 +9,6 @@ use Rattle.search.specs.Front.{Stage}
 use Rattle.search.proofs.Searched.{Searching, begun-searching, turned-more, turned-none, turned-found, turned-any, search-end}
 use Rattle.search.proofs.search.Statement.{statement}
 use Rattle.search.proofs.search.Tie as tie
-use Rattle.search.proofs.search.Reads as reads
-use Rattle.search.proofs.search.Lts as lts
-use Rattle.search.proofs.begin.Reads as begin-reads
-use Rattle.search.proofs.turn.Reads as turn-reads
 
 abbrev Inv-loop : tie.InvT-loop
 Inv-loop head next far add tip best₀ seg₀ n cnt r to k₀ best seg k = (0 < k) × (k < n) × Stage n best seg × (length best ≡ length best₀) × (length seg ≡ length seg₀) × ((sub : List Line) (g : Given sub n head next far add tip) → Searching sub n head next far add tip g r to k best seg)

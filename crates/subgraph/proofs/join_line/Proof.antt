@@ -3,9 +3,6 @@ use native.Mathlib.Omega.{arith}
 use borrow.Author.Needs.{needs}
 use Rattle.subgraph.proofs.join_line.Statement.{statement}
 use Rattle.subgraph.proofs.join_line.Tie as tie
-use Rattle.subgraph.proofs.join_line.Reads as reads
-use Rattle.subgraph.proofs.join_line.Lts as lts
-use Rattle.chains.proofs.join.Reads as join-reads
 
 mul-from : tie.Need-mul-from
 mul-from c = search needs

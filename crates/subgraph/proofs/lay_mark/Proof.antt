@@ -4,9 +4,6 @@ use Rattle.subgraph.specs.Drawn.{stayed, joined}
 use borrow.Author.Needs.{needs}
 use Rattle.subgraph.proofs.lay_mark.Statement.{statement}
 use Rattle.subgraph.proofs.lay_mark.Tie as tie
-use Rattle.subgraph.proofs.lay_mark.Reads as reads
-use Rattle.subgraph.proofs.lay_mark.Lts as lts
-use Rattle.subgraph.proofs.join_line.Reads as join-line-reads
 
 returns : tie.Need-returns
 returns c = stayed (c .if1 .taken) refl refl refl refl refl

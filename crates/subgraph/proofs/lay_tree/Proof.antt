@@ -1,4 +1,4 @@
-use Prim.Native.Nat.{ℕ, _+_, _*_, _-_, _<_, _≤_}
+use Prim.Native.Nat.{ℕ, _*_, _-_, _<_, _≤_}
 use borrow.Author.Needs.{needs}
 use native.Mathlib.Omega.{arith}
 use mathlib.Core.Path.{_≡_, refl}
@@ -12,9 +12,6 @@ use Rattle.tree.specs.Plant.{Holding}
 use Rattle.subgraph.proofs.Laying.{LayingAt, lay-start, laid-next, lay-end, heads-none, nodes-none, laid-nodes, laid-heads, laid-high}
 use Rattle.subgraph.proofs.lay_tree.Statement.{statement}
 use Rattle.subgraph.proofs.lay_tree.Tie as tie
-use Rattle.subgraph.proofs.lay_tree.Reads as reads
-use Rattle.subgraph.proofs.lay_tree.Lts as lts
-use Rattle.subgraph.proofs.lay_mark.Reads as lay-mark-reads
 
 abbrev Inv-loop : tie.InvT-loop
 Inv-loop tip long best order head₀ next₀ far₀ add₀ n cnt₀ k₀ head next far add cnt k = (k < n) × (cnt ≤ 2 * k) × Nodes n cnt next far add × Heads n cnt head × ((length head ≡ length head₀) × (length next ≡ length next₀) × (length far ≡ length far₀) × (length add ≡ length add₀)) × ((q : ℕ) (lines : List Line) (li : Listed lines n q tip long) (ho : Holding (tree (n - 1) lines) best order tip) → LayingAt n q tip long lines li best order ho k cnt head next far add)

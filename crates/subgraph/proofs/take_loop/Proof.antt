@@ -3,10 +3,6 @@ use Rattle.subgraph.proofs.Turns.{takes-held, takes-two, takes-number, 
 use borrow.Author.Needs.{needs}
 use Rattle.subgraph.proofs.take_loop.Statement.{statement}
 use Rattle.subgraph.proofs.take_loop.Tie as tie
-use Rattle.subgraph.proofs.take_loop.Reads as reads
-use Rattle.subgraph.proofs.take_loop.Lts as lts
-use Rattle.search.proofs.path.Reads as path-reads
-use Rattle.subgraph.proofs.join_line.Reads as join-line-reads
 
 mul-from : tie.Need-mul-from
 mul-from c = omega (arith, takes-number (c .before .before .before .before .before .before .before .before .before .pre))

@@ -1,18 +1,8 @@
-use Prim.Native.Nat.{ℕ, zero, suc, _+_, _-_, _*_, _/_, _%_, _≤_, _<_}
-use borrow.Author.Needs.{needs}
+use Prim.Native.Nat.{ℕ, _-_, _≤_, _<_}
 use native.Mathlib.Omega.{arith}
-use mathlib.Core.Path.{_≡_, refl, sym, _∙_, ap}
-use mathlib.Core.Logic.{_⊎_, inl, inr}
-use lib.ListN.{length, getD, set, length-set}
-use mathlib.Core.List.{List}
-use borrow.Author.Tests.{eqb-true, eqb-false}
-use Rattle.network.specs.Standing.{Line}
+use mathlib.Core.Path.{_≡_}
+use lib.ListN.{getD}
 use Rattle.nearest.specs.Heap as hp
-use Rattle.chains.specs.Chains.{Given}
-use Rattle.search.specs.Front.{Stage}
-use Rattle.search.proofs.Laws.{stage-set}
-use Rattle.search.proofs.Searched.{turned-any}
-use Rattle.tree.specs.Plant.{FirstFar, Sprouted, by-line, by-root, ended}
 use Rattle.tree.proofs.Laws.{first-next}
 use Rattle.tree.proofs.first_far.Statement.{statement}
 use Rattle.tree.proofs.first_far.Tie as tie

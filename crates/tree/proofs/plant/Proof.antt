@@ -1,4 +1,4 @@
-use Prim.Native.Nat.{ℕ, _+_, _-_, _*_, _≤_, _<_}
+use Prim.Native.Nat.{_-_, _≤_, _<_}
 use borrow.Author.Needs.{needs}
 use native.Mathlib.Omega.{arith}
 use mathlib.Core.Path.{_≡_, refl}
@@ -11,11 +11,6 @@ use Rattle.tree.specs.Plant.{Below}
 use Rattle.tree.proofs.Laws.{Planting, plant-start, plant-end, sprouted-next, sprouted-high, sprouted-below, sprouted-stage, stage-clear}
 use Rattle.tree.proofs.plant.Statement.{statement}
 use Rattle.tree.proofs.plant.Tie as tie
-use Rattle.tree.proofs.plant.Reads as reads
-use Rattle.tree.proofs.plant.Lts as lts
-use Rattle.chains.proofs.zero.Reads as zero-reads
-use Rattle.nearest.proofs.clear.Reads as clear-reads
-use Rattle.tree.proofs.sprout.Reads as sprout-reads
 
 abbrev Inv-loop : tie.InvT-loop
 Inv-loop head next far add tip best₀ seg₀ order₀ n cnt root₀ k₀ best seg order root k = (k < n) × (root ≤ n) × Stage n best seg × (length best ≡ length best₀) × (length seg ≡ length seg₀) × (length order ≡ length order₀) × Below n order × ((lines : List Line) (g : Given lines n head next far add tip) → Planting lines n head next far add tip g k best seg order root)
@@ -23,23 +18,18 @@ Inv-loop head next far add tip best₀ seg₀ order₀ n cnt root₀ k₀ best s
 abbrev μ-loop : tie.MeasureT-loop
 μ-loop head next far add tip best₀ seg₀ order₀ n cnt root₀ k₀ best seg order root k = n - k
 
--- src/lib.rt:72:5
 zero-requires : tie.Need-zero-requires Inv-loop μ-loop
 zero-requires c κs = search needs
 
--- src/lib.rt:73:5
 clear-requires : tie.Need-clear-requires Inv-loop μ-loop
 clear-requires c κs = search needs
 
--- src/lib.rt:74:25
 mul-clear : tie.Need-mul-clear Inv-loop μ-loop
 mul-clear c = search needs
 
--- src/lib.rt:74:5
 clear-requires-2 : tie.Need-clear-requires-2 Inv-loop μ-loop
 clear-requires-2 c κs = search needs
 
--- src/lib.rt:77:5
 loop-holds : tie.Need-loop-holds Inv-loop μ-loop
 loop-holds c = let p = c .before .before .before .before .before .before .before .before .before .before .before .before .before .before .before .before .before .before .before .before .pre .1 .1 .1 in
     let z = c .before .before .before .before .before .before .before .before .before .before .zero .ensures in
@@ -55,24 +45,19 @@ loop-holds c = let p = c .before .before .before .before .before .before .before
       λ lines g. plant-start lines _ _ _ _ _ _ g (c .before .before .before .before .before .before .clear .last .0) (c .before .before .clear2 .last .0) _ (a .1) (λ i h. b .1 i (omega arith)),
     )
 
--- src/lib.rt:77:11
 add-loop : tie.Need-add-loop Inv-loop μ-loop
 add-loop c = search needs
 
--- src/lib.rt:78:9
 sprout-requires : tie.Need-sprout-requires Inv-loop μ-loop
 sprout-requires c κs = let p = c .before .before .before .before .before .before .before .before .before .before .before .before .before .before .before .before .before .before .before .before .before .before .before .before .before .pre in
     (p .0, (p .1 .0, (p .1 .1 .0, (c .before .before .before .before .loop .inv .2, (c .before .before .before .before .loop .inv .1, omega (arith, p .1 .1 .1 .orders, c .before .before .before .before .loop .inv))))))
 
--- src/lib.rt:81:9
 add-k : tie.Need-add-k Inv-loop μ-loop
 add-k c = search needs
 
--- src/lib.rt:77:5
 loop-less : tie.Need-loop-less Inv-loop μ-loop
 loop-less c = omega arith
 
--- src/lib.rt:77:5
 loop-again : tie.Need-loop-again Inv-loop μ-loop
 loop-again c = let v = c .before .before .before .before .before .before .before .before .before .before .before .loop .inv in
     let e = c .before .before .before .before .before .before .sprout .ensures in
@@ -87,19 +72,15 @@ loop-again c = let v = c .before .before .before .before .before .before .before
       λ lines g. sprouted-next lines _ _ _ _ _ _ g _ _ _ _ _ (v .2) (v .7 lines g) (omega (arith, p .1 .1 .1 .room .few)) (omega arith) (omega (arith, v, p .1 .1 .1 .orders)) _ _ _ _ e,
     )
 
--- src/lib.rt:57:1
 same-length : tie.Need-same-length Inv-loop μ-loop
 same-length c = omega arith
 
--- src/lib.rt:57:1
 same-length-2 : tie.Need-same-length-2 Inv-loop μ-loop
 same-length-2 c = omega arith
 
--- src/lib.rt:57:1
 same-length-3 : tie.Need-same-length-3 Inv-loop μ-loop
 same-length-3 c = omega arith
 
--- src/lib.rt:57:1
 returns : tie.Need-returns Inv-loop μ-loop
 returns c = (λ lines g. plant-end lines _ _ _ _ _ _ g _ _ _ _ _ (c .before .loop .inv .7 lines g) (omega arith), c .before .loop .inv .6)
 

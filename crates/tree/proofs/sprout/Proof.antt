@@ -8,100 +8,73 @@ use Rattle.tree.specs.Plant.{by-line, by-root, ended}
 use borrow.Author.Needs.{needs}
 use Rattle.tree.proofs.sprout.Statement.{statement}
 use Rattle.tree.proofs.sprout.Tie as tie
-use Rattle.tree.proofs.sprout.Reads as reads
-use Rattle.tree.proofs.sprout.Lts as lts
-use Rattle.search.proofs.relax.Reads as relax-reads
-use Rattle.search.proofs.turn.Reads as turn-reads
-use Rattle.tree.proofs.first_far.Reads as first-far-reads
 
--- src/lib.rt:42:9
 turn-requires : tie.Need-turn-requires
 turn-requires c κs = search needs
 
--- src/lib.rt:44:9
 mul-order : tie.Need-mul-order
 mul-order c = search needs
 
--- src/lib.rt:44:9
 slice-write-order : tie.Need-slice-write-order
 slice-write-order c = search needs
 
--- src/lib.rt:45:9
 same-length : tie.Need-same-length
 same-length c = search needs
 
--- src/lib.rt:45:9
 same-length-2 : tie.Need-same-length-2
 same-length-2 c = search needs
 
--- src/lib.rt:45:9
 same-length-3 : tie.Need-same-length-3
 same-length-3 c = search needs
 
--- src/lib.rt:45:9
 returns : tie.Need-returns
 returns c = by-line (c .before .before .before .before .before .turn .result) (c .before .before .before .before .before .turn .ensures) (λ e. omega arith) refl refl
 
--- src/lib.rt:47:9
 first-far-requires : tie.Need-first-far-requires
 first-far-requires c κs = search needs
 
--- src/lib.rt:49:9
 mul-best : tie.Need-mul-best
 mul-best c = search needs
 
--- src/lib.rt:49:9
 slice-write-best : tie.Need-slice-write-best
 slice-write-best c = search needs
 
--- src/lib.rt:50:58
 mul-relax : tie.Need-mul-relax
 mul-relax c = search needs
 
--- src/lib.rt:50:58
 shared-slice-read-relax : tie.Need-shared-slice-read-relax
 shared-slice-read-relax c = search needs
 
--- src/lib.rt:50:9
 relax-requires : tie.Need-relax-requires
 relax-requires c κs = let p = c .before .before .before .before .before .before .before .before .before .before .before .before .before .before .before .before .before .before .before .before .before .before .pre in
     let st = turned-any _ _ _ _ _ _ _ _ _ _ _ _ (p .1 .1 .1 .0) (p .1 .1 .0) (c .before .before .before .before .before .before .before .before .before .before .before .turn .ensures) in
     let lt : c .before .before .before .before .first-far .result < c .before .before .before .before .before .before .before .before .before .before .before .before .before .before .before .before .before .before .before .before .before .before .args .n = omega arith in
     (p .0, (stage-set _ _ _ _ st lt, (p .1 .0 .head-ok _ lt, omega arith)))
 
--- src/lib.rt:51:9
 mul-order-2 : tie.Need-mul-order-2
 mul-order-2 c = omega (arith, c .before .before .before .before .before .before .before .before .before .before .before .before .before .before .before .before .before .before .before .before .before .before .before .before .before .before .before .pre .1 .1 .1 .1, c .before .before .before .before .before .before .before .before .before .before .before .before .before .before .before .before .before .before .before .before .before .before .before .before .before .before .before .good)
 
--- src/lib.rt:51:9
 slice-write-order-2 : tie.Need-slice-write-order-2
 slice-write-order-2 c = c .before .before .before .before .before .before .before .before .before .before .before .before .before .before .before .before .before .before .before .before .before .before .before .before .before .before .before .pre .1 .1 .1 .1 .1
 
--- src/lib.rt:25:1
 same-length-4 : tie.Need-same-length-4
 same-length-4 c = omega (arith, length-set (c .before .before .before .before .before .before .before .before .before .before .before .before .before .before .before .before .turn .last .1 .1 .1 .1 .1 .0) (c .before .before .before .before .before .before .before .before .before .first-far .result) 0)
 
--- src/lib.rt:25:1
 same-length-5 : tie.Need-same-length-5
 same-length-5 c = search needs
 
--- src/lib.rt:25:1
 same-length-6 : tie.Need-same-length-6
 same-length-6 c = search needs
 
--- src/lib.rt:25:1
 returns-2 : tie.Need-returns-2
 returns-2 c = by-root (c .before .before .before .before .before .before .before .before .before .before .before .before .before .before .before .before .turn .result) (c .before .before .before .before .before .before .before .before .before .before .before .before .before .before .before .before .turn .last .1 .1 .1 .1 .1 .0) (c .before .before .before .before .before .before .before .before .before .before .before .before .before .before .before .before .turn .last .1 .1 .1 .1 .1 .1 .0) (c .before .before .before .before .before .before .before .before .before .before .before .before .before .before .before .before .turn .ensures) (omega arith) (c .before .before .before .before .before .before .before .before .before .first-far .ensures) (omega arith) (c .before .before .before .before .relax .ensures) refl
 
--- src/lib.rt:25:1
 same-length-7 : tie.Need-same-length-7
 same-length-7 c = search needs
 
--- src/lib.rt:25:1
 same-length-8 : tie.Need-same-length-8
 same-length-8 c = search needs
 
--- src/lib.rt:25:1
 returns-3 : tie.Need-returns-3
 returns-3 c = ended (c .before .before .before .before .before .before .before .before .turn .result) (c .before .before .before .before .before .before .before .before .turn .ensures) (omega arith) (c .before .first-far .ensures) (omega arith) refl
 

@@ -1,0 +1,142 @@
+-- The whole adjustment: start, pieces without a held mark, sweeps and answer, joined.
+-- Assumes nothing.
+use Prim.Native.Nat.{ℕ, zero, suc, _+_, _*_, _-_, _≤_, _<_}
+use native.Mathlib.Omega.{arith}
+use mathlib.Core.Path.{_≡_, refl, sym, _∙_, ap, subst}
+use mathlib.Core.Bool.{Bool, true, false, not}
+use mathlib.Core.List.{List, [], _∷_, List·Memᴰ}
+use mathlib.Core.Option.{Option, none, some}
+use lib.ListN.{length, getD}
+use lib.Seq.{ext-getD}
+use lib.IntN.{ℤ, pos, natAbs, _-ℤ_}
+use borrow.Author.Tests.{not-false}
+use Rattle.laws.proofs.Scans.{none-bad}
+use Rattle.book.specs.Limits.{mostHeldHeight, mostDifference}
+use Rattle.network.specs.Standing.{Line, standing}
+use Rattle.network.specs.Tree.{Entry, Tree, tree}
+use Rattle.network.proofs.Grown.{treeLine}
+use Rattle.network.proofs.Count.{size, grows}
+use Rattle.adjust.specs.Sights.{Sight, sightsOf}
+use Rattle.adjust.specs.Sweeps.{Swept, still, moved, visit, sweep, Settled, settled, unsettled, onward, settleFrom, maxSweeps, settle}
+use Rattle.adjust.specs.Start.{Rooted, heldHeight, isSome, isHeld, rootedBy, rootOf, unheldPiece, startOf}
+use Rattle.adjust.specs.Adjusted.{Adjusted, adjusted, refused, ended, unlessUnheld, startHeights, adjustment}
+use Rattle.adjust.specs.Table.{Working, flags, endedAt}
+use Rattle.adjust.specs.Along.{Entered, rooting, Placing, optional, Given, Known, Lent, Raised}
+use Rattle.adjust.specs.Answers.{answer, endAnswer, answered}
+use Rattle.adjust.specs.declared.sweeps.AdjustAnswer.{AdjustAnswer}
+use Rattle.adjust.specs.declared.sweeps.End.{End}
+use Rattle.adjust.specs.declared.sweeps.End.the-variants as end
+use Rattle.adjust.proofs.Best.{Sound}
+use Rattle.adjust.proofs.Fair.{fair-lines, fairs-sound}
+use Rattle.adjust.proofs.Joining.{Named, named, rooting-is}
+use Rattle.adjust.proofs.Starting.{is-some, start-working, apart-most, optional-some}
+use Rattle.adjust.proofs.Promises.{start-length, start-height}
+
+-- the same marks held, the same sweeps
+module _ (f : ℕ → List Sight) (p q : ℕ → Bool) where
+  sweep-held : (hs : List ℤ) (k : ℕ) → ((m : ℕ) → 0 < m → m ≤ k → p m ≡ q m) → sweep f p hs k ≡ sweep f q hs k
+  unfolding sweep
+  sweep-held hs zero e = refl
+  sweep-held hs (suc k) e =
+      ap (λ (s : Swept). visit (p (suc k)) (f (suc k)) (suc k) s) (sweep-held hs k (λ m l u. e m l (omega arith)))
+      ∙ ap (λ (t : Bool). visit t (f (suc k)) (suc k) (sweep f q hs k)) (e (suc k) (omega arith) (omega arith))
+
+  onward-held : (s : Swept) (n : ℕ) (more less : List ℤ → Settled) → ((hs : List ℤ) → more hs ≡ less hs) → onward s n more ≡ onward s n less
+  onward-held (still hs) n more less e = refl
+  onward-held (moved hs) n more less e = e hs
+  onward-held (Swept.outside m) n more less e = refl
+
+  from-held : (b : ℕ) → ((m : ℕ) → 0 < m → m ≤ b → p m ≡ q m) → (k n : ℕ) (hs : List ℤ) → settleFrom f p b k n hs ≡ settleFrom f q b k n hs
+  unfolding settleFrom
+  from-held b e zero n hs = refl
+  from-held b e (suc k) n hs =
+      ap (λ (s : Swept). onward s n (λ gs. settleFrom f p b k (suc n) gs)) (sweep-held hs b e)
+      ∙ onward-held (sweep f q hs b) n (λ gs. settleFrom f p b k (suc n) gs) (λ gs. settleFrom f q b k (suc n) gs) (λ gs. from-held b e k (suc n) gs)
+
+  settle-held : (b : ℕ) → ((m : ℕ) → 0 < m → m ≤ b → p m ≡ q m) → (hs : List ℤ) → settle f p b hs ≡ settle f q b hs
+  unfolding settle
+  settle-held b e hs = from-held b e maxSweeps 0 hs
+
+-- an end of the sweeps as an answer
+pub end-answer : (e : End) (hs : List ℤ) → answered (endAnswer e) hs ≡ ended (endedAt e hs)
+end-answer (end.Settled n) hs = refl
+end-answer (end.Outside m) hs = refl
+end-answer end.Unsettled hs = refl
+
+module _ (lines held : List ℤ) (order came : List ℕ) (b n h : ℕ) (lent : Lent lines held order came b n h) (entered : Entered order came (tree b (standing lines)))
+    (flagged : List Bool) (own : List ℤ) (root : List ℕ) (over : List ℤ) (g : Given (heldHeight held) flagged own b mostHeldHeight) (p : Placing (rooting lines order came b) root over b b) where
+  pub known : Known flagged own root over b
+  known = record { few = lent .few; flagged = g .flagged; owned = g .heighted; small = g .size; spotted = p .spotted }
+
+  sound : Sound b (standing lines)
+  sound = fairs-sound (fair-lines lines b n (lent .linesGood))
+
+  marks-in : length (tree b (standing lines)) ≡ b
+  marks-in = size b (standing lines) (sound .placed)
+
+  at-tree : (m : ℕ) → rooting lines order came b m ≡ rootedBy (tree b (standing lines)) m
+  at-tree m =
+      ap (λ (k : ℕ). rooting lines order came k m) (sym marks-in)
+      ∙ rooting-is lines order came n (tree b (standing lines)) entered (λ e i l q. named lines b n (lent .linesGood) l (treeLine (standing lines) (grows b (standing lines) (sound .placed)) e i l q)) m
+
+  places : Placing (rootedBy (tree b (standing lines))) root over b b
+  places = record { spotted = p .spotted; place = λ v l. p .place v l ∙ at-tree (suc v) }
+
+  held-flags : (m : ℕ) → 0 < m → m ≤ b → flags flagged m ≡ isHeld held m
+  unfolding isHeld
+  held-flags m l u =
+      let e : suc (m - 1) ≡ m = omega arith in
+      sym (is-some (getD flagged (m - 1) false) (getD own (m - 1) (pos 0))) ∙ ap isSome (g .is (m - 1) (omega arith) ∙ ap (heldHeight held) e)
+
+  module _ (z : List ℤ) (r : ℕ) (raised : Raised flagged own root over z b r) where
+    is-unheld : r ≡ unheldPiece (rootedBy (tree b (standing lines))) (heldHeight held) b
+    is-unheld = raised (rootedBy (tree b (standing lines))) (heldHeight held) places g .0
+
+    -- 11
+    pub unheld-answer : (a : AdjustAnswer) (hs : List ℤ) → 0 < r → a ≡ answer 11 r 0 → answered a hs ≡ adjustment b held lines
+    unfolding adjustment
+    unheld-answer a hs l e = ap (λ (x : AdjustAnswer). answered x hs) e ∙ by r is-unheld l
+      where
+        by : (k : ℕ) → k ≡ unheldPiece (rootedBy (tree b (standing lines))) (heldHeight held) b → 0 < k
+            → refused 11 k ≡ unlessUnheld (unheldPiece (rootedBy (tree b (standing lines))) (heldHeight held) b) (λ _. ended (settle (sightsOf (standing lines)) (isHeld held) b (startHeights b held lines)))
+        by zero q l = absurd (omega arith)
+        by (suc k) q l = ap (λ (m : ℕ). unlessUnheld m (λ _. ended (settle (sightsOf (standing lines)) (isHeld held) b (startHeights b held lines)))) q
+
+    module _ (none-unheld : r ≡ 0) where
+      long : length z ≡ b
+      long = raised (rootedBy (tree b (standing lines))) (heldHeight held) places g .2
+
+      each : (v : ℕ) → v < b → getD z v (pos 0) ≡ startOf (rootedBy (tree b (standing lines))) (heldHeight held) b (suc v)
+      each = raised (rootedBy (tree b (standing lines))) (heldHeight held) places g .1 none-unheld
+
+      begun : z ≡ startHeights b held lines
+      begun =
+          ext-getD (pos 0) z (startHeights b held lines) (long ∙ sym (start-length b held lines))
+          (λ i l.
+          let k : i < b = omega (arith, long) in
+          let e : suc i - 1 ≡ i = omega arith in
+          each i k ∙ sym (start-height b held lines (suc i) (omega arith) k) ∙ ap (λ (x : ℕ). getD (startHeights b held lines) x (pos 0)) e)
+
+      all-held : (v : ℕ) → v < b → isSome (rootOf (rootedBy (tree b (standing lines))) (heldHeight held) b (suc v)) ≡ true
+      unfolding unheldPiece
+      all-held v l = not-false (isSome (rootOf (rootedBy (tree b (standing lines))) (heldHeight held) b (suc v))) (none-bad (λ i. not (isSome (rootOf (rootedBy (tree b (standing lines))) (heldHeight held) b (suc i)))) b (sym is-unheld ∙ none-unheld) v l)
+
+      small : (m : ℕ) (y : ℤ) → 0 < m → m ≤ b → heldHeight held m ≡ some y → natAbs y ≤ mostHeldHeight
+      small m y l u e =
+          let k : suc (m - 1) ≡ m = omega arith in
+          let w : getD own (m - 1) (pos 0) ≡ y = optional-some (getD flagged (m - 1) false) (getD own (m - 1) (pos 0)) y (g .is (m - 1) (omega arith) ∙ ap (heldHeight held) k ∙ e) in
+          rw (← w) (g .size (m - 1))
+
+      near : (m q : ℕ) → natAbs (rootedBy (tree b (standing lines)) m .over -ℤ rootedBy (tree b (standing lines)) q .over) ≤ b * mostDifference
+      near m q = rw (← at-tree m, ← at-tree q) (apart-most lines order came b n (lent .linesGood) (lent .growth .lines) b (omega arith) m q)
+
+      pub working : Working z b
+      working = start-working b (lent .few) (rootedBy (tree b (standing lines))) (heldHeight held) small near z long each all-held
+
+      -- the sweeps, from the start
+      pub settled-answer : (a : AdjustAnswer) (e : End) (hs : List ℤ) → a ≡ endAnswer e → endedAt e hs ≡ settle (sightsOf (standing lines)) (flags flagged) b z → answered a hs ≡ adjustment b held lines
+      unfolding adjustment
+      settled-answer a e hs ea es =
+          ap (λ (x : AdjustAnswer). answered x hs) ea ∙ end-answer e hs
+          ∙ ap ended (es ∙ settle-held (sightsOf (standing lines)) (flags flagged) (isHeld held) b held-flags z ∙ ap (settle (sightsOf (standing lines)) (isHeld held) b) begun)
+          ∙ ap (λ (m : ℕ). unlessUnheld m (λ _. ended (settle (sightsOf (standing lines)) (isHeld held) b (startHeights b held lines)))) (sym none-unheld ∙ is-unheld)

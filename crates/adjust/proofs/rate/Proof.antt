@@ -1,0 +1,79 @@
+use mathlib.Core.Path.{_≡_, sym, _∙_}
+use lib.ListN.{length}
+use lib.IntN.{pos}
+use mir.Facts.{toZ-ofZ}
+use Rattle.laws.specs.Tests.{eqZ}
+use Rattle.laws.proofs.Signed.{stored}
+use Rattle.book.specs.Test.{testOf}
+use Rattle.adjust.proofs.Rating.{lines-of, marks-of, rate-four, rate-refused, rate-good}
+use borrow.Author.Needs.{needs}
+use Rattle.adjust.proofs.rate.Statement.{statement}
+use Rattle.adjust.proofs.rate.Tie as tie
+
+count-read : (c : tie.After-same) → (let s = c .before .before in eqZ (pos (length (s .args .heights .now))) (s .args .b) ≡ c .same .result)
+count-read c =
+    let s = c .before .before in
+    let k = c .before .signed-count in
+    sym (c .same .ensures ∙ rw (stored (k .result) (k .ok) (k .ensures), toZ-ofZ (s .fits .b)))
+
+test-read : (c : tie.After-test) → (let s = c .before .before .before .before in testOf (s .args .b) (s .args .t) (s .args .held .now) (s .args .lines .now) ≡ c .test .result)
+test-read c = let s = c .before .before .before .before in sym (c .test .ensures ∙ rw (toZ-ofZ (s .fits .b), toZ-ofZ (s .fits .t)))
+
+signed-count-requires : tie.Need-signed-count-requires
+signed-count-requires c κs = search needs
+
+same-requires : tie.Need-same-requires
+same-requires c κs = search needs
+
+test-requires : tie.Need-test-requires
+test-requires c κs = search needs
+
+enum-known-tested : tie.Need-enum-known-tested
+enum-known-tested c = search needs
+
+refuse-requires : tie.Need-refuse-requires
+refuse-requires c κs = search needs
+
+enum-known-tested-2 : tie.Need-enum-known-tested-2
+enum-known-tested-2 c = search needs
+
+good-rate-requires : tie.Need-good-rate-requires
+good-rate-requires c κs =
+    let s = c .before .before .before .before .before .before .before in
+    let k = c .before .tested2 .given in
+    let e = test-read (c .before .before .before) ∙ k .1 in
+    (lines-of (s .args .b) (s .args .t) (s .args .held .now) (s .args .lines .now) (k .0 .0) e, marks-of (s .args .b) (s .args .t) (s .args .held .now) (s .args .lines .now) (k .0 .0) e (length (s .args .heights .now)) (count-read (c .before .before .before .before .before) ∙ c .before .before .before .before .if1 .taken))
+
+returns : tie.Need-returns
+returns c =
+    let s = c .before .before .before .before .before .before .before .before in
+    let k = c .before .before .tested .given in
+    rate-refused (s .args .b) (s .args .t) (s .args .held .now) (s .args .lines .now) (s .args .heights .now) (s .args .line) (c .refuse .result) (count-read (c .before .before .before .before .before .before) ∙ c .before .before .before .before .before .if1 .taken) (k .0 .0) (test-read (c .before .before .before .before) ∙ k .1) (c .refuse .ensures)
+
+returns-2 : tie.Need-returns-2
+returns-2 c =
+    let s = c .before .before .before .before .before .before .before .before in
+    let k = c .before .before .tested2 .given in
+    rate-good (s .args .b) (s .args .t) (s .args .held .now) (s .args .lines .now) (s .args .heights .now) (s .args .line) (c .good-rate .result) (count-read (c .before .before .before .before .before .before) ∙ c .before .before .before .before .before .if1 .taken) (k .0 .0) (test-read (c .before .before .before .before) ∙ k .1) (c .good-rate .ensures ∙ rw (toZ-ofZ (s .fits .line)))
+
+refuse-requires-2 : tie.Need-refuse-requires-2
+refuse-requires-2 c κs = search needs
+
+returns-3 : tie.Need-returns-3
+returns-3 c = let s = c .before .before .before .before in rate-four (s .args .b) (s .args .t) (s .args .held .now) (s .args .lines .now) (s .args .heights .now) (s .args .line) (c .refuse2 .result) (count-read (c .before .before) ∙ c .before .if1 .left) (c .refuse2 .ensures)
+
+pub rate-spec : {M : Type 1} → statement M
+rate-spec =
+    tie.close
+    (tie.spec
+    signed-count-requires
+    same-requires
+    test-requires
+    enum-known-tested
+    refuse-requires
+    enum-known-tested-2
+    good-rate-requires
+    returns
+    returns-2
+    refuse-requires-2
+    returns-3)

@@ -1,0 +1,11 @@
+pub mod Sights
+pub mod Nearest
+pub mod Sweeps
+pub mod Start
+pub mod Table
+pub mod Chains
+pub mod Along
+pub mod Squares
+pub mod Adjusted
+pub mod Rates
+pub mod Answers

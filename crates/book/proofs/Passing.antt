@@ -1,0 +1,59 @@
+-- A book inside every limit passes the test. Assumes nothing.
+use mathlib.Core.Path.{_≡_}
+use mathlib.Core.Bool.{false}
+use mathlib.Core.List.{List}
+use Prim.Native.Nat.{ℕ, _/_, _%_}
+use native.Mathlib.Omega.{arith}
+use lib.ListN.{length}
+use lib.IntN.{ℤ, pos}
+use borrow.Author.Tests.{eq-eqb, le-ltb}
+use Rattle.laws.specs.Tests.{outN, eqZ}
+use Rattle.book.specs.Limits.{mostMarks, mostLines, mostHeld, mostTolerance}
+use Rattle.book.specs.Height.{heldHeightOut}
+use Rattle.book.specs.Held.{markAt, heightAt, heldOut, heldBefore, heldBad, firstBadHeld}
+use Rattle.book.specs.Line.{fromAt, toAt, differenceAt, differenceOut, lineFault, lineBad, firstBadLine}
+use Rattle.book.specs.Test.{bookOut, torn, testOf}
+use Rattle.book.specs.Good.{GoodLine, GoodHeld, GoodBook}
+use Rattle.book.specs.declared.Book.{Book}
+use Rattle.book.specs.declared.Tested.the-variants.{Good}
+use Rattle.laws.proofs.FirstBad.{none-first, none-any}
+use Rattle.laws.proofs.Inside.{inside, between-inside, size-inside, apart-eqZ}
+
+-- a line inside its limits has no fault
+pub line-passes : (b : ℕ) (lines : List ℤ) (i : ℕ) → GoodLine b lines i → lineBad (pos b) lines i ≡ false
+unfolding lineBad lineFault differenceOut
+line-passes b lines i g =
+    rw (between-inside (g .from), between-inside (g .to), apart-eqZ (fromAt lines i) (toAt lines i) (g .apart), size-inside 99999999 (differenceAt lines i) (g .difference), between-inside (g .long), between-inside (g .standing))
+
+-- a held entry inside its limits is not bad
+pub held-passes : (b : ℕ) (held : List ℤ) (i : ℕ) → GoodHeld b held i → heldBad (pos b) held i ≡ false
+unfolding heldBad heldOut heldHeightOut heldBefore
+held-passes b held i g =
+    rw (between-inside (g .mark), size-inside 9999999999 (heightAt held i) (g .height), none-any (λ j. eqZ (markAt held j) (markAt held i)) i (λ j l. apart-eqZ (markAt held j) (markAt held i) (g .once j l)))
+
+-- a book inside every limit passes the test
+pub good-passes : (k : Book) (b t : ℤ) (held lines : List ℤ) → GoodBook k b t held lines → testOf b t held lines ≡ Good k
+unfolding testOf torn bookOut outN firstBadHeld firstBadLine
+good-passes k b t held lines g =
+    rw (
+      eq-eqb (length held % 2) 0 (omega (arith, g .whole-held)),
+      eq-eqb (length lines % 5) 0 (omega (arith, g .whole-lines)),
+      h,
+      n,
+      g .marks,
+      g .tolerance,
+      inside 1 mostMarks (k .marks) (g .a-mark) (g .few-marks),
+      inside 1 mostTolerance (k .tolerance) (g .a-tolerance) (g .small-tolerance),
+      le-ltb (k .held) 0 (omega arith),
+      le-ltb mostHeld (k .held) (g .few-held),
+      le-ltb (k .lines) 0 (omega arith),
+      le-ltb mostLines (k .lines) (g .few-lines),
+      none-first (heldBad (pos (k .marks)) held) (k .held) (λ i l. held-passes (k .marks) held i (g .each-held i l)),
+      none-first (lineBad (pos (k .marks)) lines) (k .lines) (λ i l. line-passes (k .marks) lines i (g .each-line i l)),
+    )
+  where
+    h : length held / 2 ≡ k .held
+    h = omega (arith, g .whole-held)
+
+    n : length lines / 5 ≡ k .lines
+    n = omega (arith, g .whole-lines)

@@ -1,0 +1,13 @@
+pub mod Rules
+pub mod BookRules
+pub mod Refusals
+pub mod Meanings
+pub mod Done
+pub mod Named
+pub mod OneAnswer
+pub mod TheLoops
+pub mod Reported
+pub mod CorrectedBook
+pub mod Corrections
+pub mod StillStands
+pub mod ShutOut

@@ -1,0 +1,95 @@
+-- Demand 1, the inputs that it names: "a line from a mark to itself, a report that is not this book's"; and a faulty book at every call. (A damaged file: the
+-- reader's table, Refusals.antt.) Assumes nothing.
+use mathlib.Core.Path.{_≡_, refl, sym, _∙_}
+use mathlib.Core.Bool.{Bool, true, false, cond, _||_, true≢false}
+use mathlib.Core.List.{List, _++_}
+use Prim.Native.Nat.{ℕ, zero, suc, _≤_, _<_}
+use native.Mathlib.Decide.{decLe}
+use native.Mathlib.Omega.{arith}
+use lib.Dec.{ltb}
+use lib.ListN.{length, drop}
+use lib.IntN.{ℤ, pos, natAbs}
+use borrow.Author.Tests.{lt-ltb}
+use Rattle.laws.specs.Tests.{outZ, eqZ}
+use Rattle.laws.proofs.Tests.{eqZ-same}
+use Rattle.laws.proofs.Scans.{none-bad}
+use Rattle.laws.proofs.Inside.{size-inside}
+use Rattle.book.specs.Limits.{mostDifference, leastLength, mostLength}
+use Rattle.book.specs.Held.{firstBadHeld}
+use Rattle.book.specs.Line.{fromAt, toAt, differenceAt, lengthAt, standingAt, lineCount, differenceOut, lineFault, lineBad, firstBadLine}
+use Rattle.book.specs.Test.{refused, testOf}
+use Rattle.book.specs.declared.Book.{Book}
+use Rattle.book.specs.declared.Tested.the-variants.{Good}
+use Rattle.survey.specs.Report.{reportOf, refusal}
+use Rattle.survey.specs.Survey.{surveyTested, surveyOf}
+use Rattle.survey.specs.Listing.{listingTested, listingOf}
+use Rattle.survey.specs.NotChecked.{notCheckedTested, notCheckedOf}
+use Rattle.survey.specs.Correction.{corrected, otherReport, correctGood, correctTested, rerunOf, withdrawOf}
+use Rattle.demands.specs.Tables.{bookFault}
+use Rattle.demands.specs.Calls.{SameAtEveryCall}
+use Rattle.demands.specs.Corrections.{Stands}
+use Rattle.demands.proofs.Rules.{byRules}
+use Rattle.demands.proofs.Meanings.{line-exactly-if-stands, line-place-is-first, report-exactly-if-rows}
+use Rattle.demands.proofs.BookRules.{test-by-rules}
+
+-- ---- a faulty book
+
+-- a book that the test refuses gets the same refusal from every call
+pub faulty-book-same-at-every-call : (b t : ℤ) (held lines : List ℤ) (number place : ℕ) → testOf b t held lines ≡ refused number place → SameAtEveryCall b t held lines number place
+unfolding surveyOf surveyTested listingOf listingTested notCheckedOf notCheckedTested withdrawOf rerunOf correctTested differenceOut
+faulty-book-same-at-every-call b t held lines number place e = record {
+  survey = λ out. rw e;
+  listing-of = λ loop out. rw e;
+  not-checked = λ out. rw e;
+  withdrawal = λ report line. rw e;
+  re-run = λ report line difference small. rw (size-inside 99999999 difference small, e);
+}
+
+-- ---- a faulty line
+
+module _ (b t : ℤ) (held lines : List ℤ) (no-four : bookFault b t held lines ≡ false) (no-six : firstBadHeld b held ≡ 0) where
+  -- where 4 and 6 do not apply, a faulty line is refused with 7, at it or at a faulty line before it
+  pub faulty-line-is-refused : (i : ℕ) → i < lineCount lines → lineBad b lines i ≡ true → (j : ℕ) × (j ≤ i) × (testOf b t held lines ≡ refused 7 (suc j))
+  unfolding firstBadLine byRules
+  faulty-line-is-refused i there bad = go (firstBadLine b lines) refl
+    where
+      go : (n : ℕ) → firstBadLine b lines ≡ n → (j : ℕ) × (j ≤ i) × (testOf b t held lines ≡ refused 7 (suc j))
+      go zero e = absurd (true≢false (sym bad ∙ none-bad (lineBad b lines) (lineCount lines) e i there))
+      go (suc j) e = (j, before (decLe j i), test-by-rules b t held lines ∙ rw (no-four, no-six, e, lt-ltb 0 (suc j) (omega arith)))
+        where
+          before : Dec (j ≤ i) → j ≤ i
+          before (yes h) = h
+          before (no h) = absurd (true≢false (sym bad ∙ line-place-is-first b lines j e .2 i (omega arith)))
+
+  -- a line from a mark to itself is refused so
+  pub line-to-itself-is-refused : (i : ℕ) → i < lineCount lines → fromAt lines i ≡ toAt lines i → (j : ℕ) × (j ≤ i) × (testOf b t held lines ≡ refused 7 (suc j))
+  unfolding lineBad lineFault
+  line-to-itself-is-refused i there same = faulty-line-is-refused i there (rw same (go (outZ (pos 1) b (toAt lines i) || outZ (pos 1) b (toAt lines i))))
+    where
+      rest : ℕ
+      rest = cond (differenceOut (differenceAt lines i)) 3 (cond (outZ (pos leastLength) (pos mostLength) (lengthAt lines i)) 4 (cond (outZ (pos 0) (pos 1) (standingAt lines i)) 5 0))
+
+      go : (x : Bool) → ltb 0 (cond x 1 (cond (eqZ (toAt lines i) (toAt lines i)) 2 rest)) ≡ true
+      go true = refl
+      go false = rw (eqZ-same (toAt lines i))
+
+-- ---- a report that is not this book's
+
+module _ (b t : ℤ) (held lines report : List ℤ) (k : Book) (passes : testOf b t held lines ≡ Good k) (number : ℤ) (i : ℕ) (stands : Stands lines number i)
+    (other : report ≡ reportOf (k .marks) (k .tolerance) lines ++ drop (length (reportOf (k .marks) (k .tolerance) lines)) report → ⊥) where
+  differs : otherReport report (reportOf (k .marks) (k .tolerance) lines) ≡ true
+  differs = go (otherReport report (reportOf (k .marks) (k .tolerance) lines)) refl
+    where
+      go : (x : Bool) → otherReport report (reportOf (k .marks) (k .tolerance) lines) ≡ x → x ≡ true
+      go true e = refl
+      go false e = absurd (other (report-exactly-if-rows report (reportOf (k .marks) (k .tolerance) lines) .0 e))
+
+  -- a withdrawal with a report that is not this book's is refused with 9, and lines and report stay as they are
+  pub other-report-is-refused : withdrawOf b t held lines report number ≡ corrected (refusal 9 0) lines report
+  unfolding withdrawOf correctTested correctGood
+  other-report-is-refused = rw (passes, line-exactly-if-stands lines number .1 (i, stands), differs)
+
+  -- and so is a re-run
+  pub other-report-is-refused-in-rerun : (difference : ℤ) → natAbs difference ≤ mostDifference → rerunOf b t held lines report number difference ≡ corrected (refusal 9 0) lines report
+  unfolding rerunOf correctTested correctGood differenceOut
+  other-report-is-refused-in-rerun difference small = rw (size-inside 99999999 difference small, passes, line-exactly-if-stands lines number .1 (i, stands), differs)

@@ -1,0 +1,146 @@
+-- Demand 2 of the calls: what stands in the lent output after a survey, a listing and a not-checked list that are done. Assumes nothing.
+use mathlib.Core.Path.{_≡_, refl, _∙_, ap, subst}
+use mathlib.Core.Logic.{_↔_}
+use mathlib.Core.Bool.{false}
+use mathlib.Core.List.{List, _∷_, _++_, map, List·Memᴰ, List·Memᴰ·head, List·Memᴰ·tail, Memᴰ·map, Memᴰ·of-map}
+use Prim.Native.Nat.{ℕ, suc, _+_, _*_, _-_, _<_}
+use native.Mathlib.Omega.{arith}
+use native.Mathlib.Decide.{decLe}
+use lib.ListN.{length, getD, take, drop, List·getD-append}
+use lib.Seq.{take-append-seam, drop-append-seam}
+use lib.IntN.{ℤ, pos, natAbs}
+use Rattle.laws.proofs.Size.{between}
+use Rattle.book.specs.Test.{testOf}
+use Rattle.book.specs.declared.Book.{Book}
+use Rattle.book.specs.declared.Tested.the-variants.{Good}
+use Rattle.book.proofs.Goods.{tested-good}
+use Rattle.network.specs.Standing.{Line, standing}
+use Rattle.loops.specs.Loops.{Loop}
+use Rattle.loops.specs.Row.{listed, verdict, row}
+use Rattle.loops.specs.Checked.{runs, notChecked}
+use Rattle.loops.specs.Circuit.{Circuit}
+use Rattle.loops.proofs.Row.{within-exactly-if, over-else, rows-length}
+use Rattle.survey.specs.Report.{loopsOf, reportOf, piecesOf, counted}
+use Rattle.survey.specs.Survey.{surveyOf}
+use Rattle.survey.specs.Listing.{loopAt, listingOf}
+use Rattle.survey.specs.NotChecked.{uncheckedOf, notCheckedOf}
+use Rattle.survey.proofs.Places.{row-at}
+use Rattle.demands.specs.Calls.{listDone}
+use Rattle.demands.specs.Tables.{loopListing, listingRules}
+use Rattle.demands.specs.TheLoops.{inRow, Within, Over, RowOf, LoopIs, ListedIn}
+use Rattle.demands.proofs.Refusals.{survey-keeps-to-table, listing-keeps-to-table, not-checked-keeps-to-table}
+use Rattle.demands.proofs.TheLoops as the
+
+-- ---- a row
+
+-- the verdict is 1 exactly if the loop is not within
+over-exactly-if : (t : ℕ) (lp : Loop) → (verdict t lp ≡ pos 1) ↔ Over t lp
+over-exactly-if t lp = (λ e. go e (decLe _ _), over-else t lp)
+  where
+    go : verdict t lp ≡ pos 1 → Dec (Within t lp) → Over t lp
+    go e (yes h) = let z : _≡_ {A = ℕ} 0 1 = cc (within-exactly-if t lp .1 h) in absurd (omega arith)
+    go e (no h) = omega arith
+
+-- numbers that are a loop's row in its place
+row-of : (t : ℕ) (report : List ℤ) (i : ℕ) (lp : Loop) → ((j : ℕ) → j < 5 → inRow j report i ≡ getD (row t lp) j (pos 0)) → RowOf t report i lp
+unfolding row
+row-of t report i lp h = record {
+  closing-line = h 0 (omega arith);
+  count = h 1 (omega arith);
+  its-length = h 2 (omega arith);
+  its-misclosure = h 3 (omega arith);
+  within = rw (h 4 (omega arith)) (within-exactly-if t lp);
+  over = rw (h 4 (omega arith)) (over-exactly-if t lp);
+}
+
+-- row i of a report is the row of loop i
+pub report-row : (b t : ℕ) (lines rest : List ℤ) (i : ℕ) → i < length (loopsOf b lines) → RowOf t (reportOf b t lines ++ rest) i (loopAt (loopsOf b lines) i)
+unfolding reportOf
+report-row b t lines rest i h =
+    row-of t (reportOf b t lines ++ rest) i (loopAt (loopsOf b lines) i) (λ j l.
+    List·getD-append (reportOf b t lines) rest (pos 0) (5 * i + j) (omega (arith, rows-length t (loopsOf b lines))) ∙ row-at t (loopsOf b lines) i h j l)
+
+-- a list that is done
+in-first-places : (list out : List ℤ) → ListedIn list out (listDone list out)
+in-first-places list out = record {
+  entries = refl;
+  first-places = take-append-seam list (drop (length list) out);
+  past-it = drop-append-seam list (drop (length list) out);
+}
+
+module _ (b t : ℤ) (held lines : List ℤ) (k : Book) (passes : testOf b t held lines ≡ Good k) where
+  marks-are : natAbs b ≡ k .marks
+  marks-are = ap natAbs (tested-good b t held lines k passes .marks)
+
+  tolerance-is : natAbs t ≡ k .tolerance
+  tolerance-is = ap natAbs (tested-good b t held lines k passes .tolerance)
+
+  -- ---- the survey
+
+  module _ (out : List ℤ) (done : surveyOf b t held lines out .answer .number ≡ 0) where
+    -- the rows and pieces answered are those of the book
+    pub survey-counts : (surveyOf b t held lines out .answer .rows ≡ length (loopsOf (k .marks) lines)) × (surveyOf b t held lines out .answer .pieces ≡ piecesOf (k .marks) lines)
+    unfolding counted
+    survey-counts = rw (survey-keeps-to-table b t held lines out .finished done, marks-are) (refl, refl)
+
+    -- "lines minus marks plus pieces in all"
+    pub rows-are-lines-less-marks-plus-pieces : surveyOf b t held lines out .answer .rows + k .marks ≡ length (standing lines) + surveyOf b t held lines out .answer .pieces
+    rows-are-lines-less-marks-plus-pieces = omega (arith, survey-counts .0, survey-counts .1, the.loops-are-lines-less-marks-plus-pieces b t held lines k passes)
+
+    -- the report stands in the first places of the output, and all places past it are as they were
+    pub report-in-first-places : surveyOf b t held lines out .rows ≡ reportOf (k .marks) (k .tolerance) lines ++ drop (length (reportOf (k .marks) (k .tolerance) lines)) out
+    report-in-first-places = rw (survey-keeps-to-table b t held lines out .finished done, marks-are, tolerance-is)
+
+    -- row i is the row of loop i: closing line, count, the sum of the lengths, the signed sum of the differences, and the exact verdict
+    pub each-row-is-of-its-loop : (i : ℕ) → i < surveyOf b t held lines out .answer .rows
+        → RowOf (k .tolerance) (surveyOf b t held lines out .rows) i (loopAt (loopsOf (k .marks) lines) i) × LoopIs (k .marks) lines i
+    each-row-is-of-its-loop i h =
+        let l : i < length (loopsOf (k .marks) lines) = omega (arith, survey-counts .0) in
+        (rw report-in-first-places (report-row (k .marks) (k .tolerance) lines _ i l), the.each-loop-is-so b t held lines k passes i l)
+
+    -- "each with a closing line that no earlier loop has"
+    pub closing-line-is-new : (i j : ℕ) → j < i → i < surveyOf b t held lines out .answer .rows
+        → runs (natAbs (inRow 0 (surveyOf b t held lines out .rows) i)) (loopAt (loopsOf (k .marks) lines) j) ≡ false
+    closing-line-is-new i j l h =
+        let w = each-row-is-of-its-loop i h in
+        rw (w .0 .closing-line, w .1 .closing-line-first) (w .1 .not-in-earlier-loop j l)
+
+  -- ---- the listing
+
+  -- the listing of loop i, numbered i + 1, is its lines in the order in which they are run, each with its sense
+  pub listing-is-the-loop : (i : ℕ) (out : List ℤ) → listingOf b t held lines (pos (suc i)) out .answer .number ≡ 0
+      → (i < length (loopsOf (k .marks) lines)) × ListedIn (map listed (loopAt (loopsOf (k .marks) lines) i)) out (listingOf b t held lines (pos (suc i)) out)
+  unfolding listingRules loopListing
+  listing-is-the-loop i out done =
+      let w = listing-keeps-to-table b t held lines (pos (suc i)) out in
+      let there = between 1 (length (loopsOf (natAbs b) lines)) (pos (suc i)) (w .table .done-exactly-if .0 done _ (List·Memᴰ·tail (List·Memᴰ·tail (List·Memᴰ·tail (List·Memᴰ·head refl))))) in
+      let at : suc i - 1 ≡ i = omega arith in (
+        rw (← marks-are) (omega (arith, there .high)),
+        rw (w .finished done, ← marks-are, at) (in-first-places (map listed (loopAt (loopsOf (natAbs b) lines) i)) out),
+      )
+
+  -- and begins with its closing line, positive
+  pub listing-begins-with-closing-line : (i : ℕ) (h : i < length (loopsOf (k .marks) lines)) → let loop = the.each-loop-is-so b t held lines k passes i h in
+      map listed (loopAt (loopsOf (k .marks) lines) i) ≡ pos (loop .closing-line .number) ∷ map listed (loop .path)
+  listing-begins-with-closing-line i h = ap (map listed) (the.each-loop-is-so b t held lines k passes i h .closing-line-first)
+
+  -- ---- the not-checked list
+
+  -- the list stands in the first places of the output
+  pub not-checked-in-first-places : (out : List ℤ) → notCheckedOf b t held lines out .answer .number ≡ 0
+      → ListedIn (map pos (notChecked (loopsOf (k .marks) lines) (standing lines))) out (notCheckedOf b t held lines out)
+  unfolding uncheckedOf
+  not-checked-in-first-places out done =
+      rw (not-checked-keeps-to-table b t held lines out .finished done, ← marks-are) (in-first-places (map pos (notChecked (loopsOf (natAbs b) lines) (standing lines))) out)
+
+  -- a number is in them exactly if it is that of a standing line through which no circuit passes
+  pub listed-exactly-if-no-circuit : (out : List ℤ) → notCheckedOf b t held lines out .answer .number ≡ 0 → (n : ℕ)
+      → List·Memᴰ (pos n) (take (notCheckedOf b t held lines out .answer .entries) (notCheckedOf b t held lines out .out))
+      ↔ ((l : Line) × List·Memᴰ l (standing lines) × (n ≡ l .number) × (Circuit (standing lines) n → ⊥))
+  listed-exactly-if-no-circuit out done n =
+      let w = not-checked-in-first-places out done in
+      let means = the.not-checked-exactly-if-no-circuit b t held lines k passes n in
+      rw (w .entries, w .first-places) (
+        λ i. let m = Memᴰ·of-map pos (notChecked (loopsOf (k .marks) lines) (standing lines)) i in means .0 (subst (λ (x : ℕ). List·Memᴰ x (notChecked (loopsOf (k .marks) lines) (standing lines))) (ap natAbs (m .2)) (m .1)),
+        λ p. Memᴰ·map pos (means .1 p),
+      )

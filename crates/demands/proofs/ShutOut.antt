@@ -1,0 +1,97 @@
+-- Document 01, "Shut out": programs that the definitions rule out, each by a theorem. (An adjustment that hands back its start, or a sweep number made up: with the
+-- adjustment.) Assumes nothing.
+use mathlib.Core.Path.{_≡_, refl, sym, _∙_, ap}
+use mathlib.Core.List.{List, [], _∷_, _++_, List·Memᴰ, List·Memᴰ·not-nil}
+use Prim.Native.Nat.{ℕ, _+_, _-_, _≤_, _<_}
+use native.Mathlib.Omega.{arith}
+use lib.ListN.{length, getD, replicate}
+use lib.IntN.{ℤ, pos, natAbs}
+use Rattle.laws.specs.Tests.{outZ, outN, eqZ}
+use Rattle.laws.specs.Scan.{firstFrom, firstBad, anyBelow}
+use Rattle.book.specs.Line.{differenceAt}
+use Rattle.book.specs.Good.{GoodBook}
+use Rattle.book.specs.Test.{testOf}
+use Rattle.book.specs.declared.Book.{Book}
+use Rattle.book.specs.declared.Tested.the-variants.{Good}
+use Rattle.book.proofs.Passing.{good-passes}
+use Rattle.network.specs.Standing.{Line, standing}
+use Rattle.network.specs.Field.{differenceField}
+use Rattle.network.proofs.Standing.{from-on}
+use Rattle.loops.specs.Row.{closingNumber}
+use Rattle.loops.specs.Circuit.{Circuit}
+use Rattle.survey.specs.Report.{reportOf}
+use Rattle.survey.specs.Survey.{surveyed, surveyOf}
+use Rattle.survey.specs.Listing.{listing}
+use Rattle.survey.specs.NotChecked.{notCheckedOf}
+use Rattle.survey.specs.Correction.{corrected, placeOf, rerunOf}
+use Rattle.demands.specs.TheLoops.{inRow}
+use Rattle.demands.proofs.Done.{survey-done-exactly-if}
+use Rattle.demands.proofs.Corrections.{rerun-sets-one-number}
+use Rattle.demands.proofs.Reported.{each-row-is-of-its-loop, listed-exactly-if-no-circuit}
+
+-- "a survey that always refuses": a book inside every limit, with room for its report, is answered
+pub good-book-is-surveyed : (k : Book) (b t : ℤ) (held lines out : List ℤ) → GoodBook k b t held lines → length (reportOf (natAbs b) (natAbs t) lines) ≤ length out
+    → surveyOf b t held lines out .answer .number ≡ 0
+good-book-is-surveyed k b t held lines out good room = survey-done-exactly-if b t held lines out .1 (k, good-passes k b t held lines good, room)
+
+-- one mark and no line; two marks and two lines between them
+abbrev noLines : List ℤ
+noLines = []
+
+abbrev line : ℤ → ℤ → ℤ → List ℤ
+line from to difference = from ∷ to ∷ difference ∷ pos 10 ∷ pos 1 ∷ []
+
+abbrev twoLines : List ℤ
+twoLines = line (pos 1) (pos 2) (pos 0) ++ line (pos 1) (pos 2) (pos 7)
+
+no-line-surveyed : surveyOf (pos 1) (pos 1) [] noLines [] ≡ surveyed (record { number = 0; place = 0; rows = 0; pieces = 1 }) []
+unfolding surveyOf outZ outN eqZ firstFrom firstBad anyBelow
+no-line-surveyed = refl
+
+two-lines-surveyed : surveyOf (pos 2) (pos 1) [] twoLines (replicate 5 (pos 0))
+    ≡ surveyed (record { number = 0; place = 0; rows = 1; pieces = 1 }) (pos 2 ∷ pos 2 ∷ pos 20 ∷ pos 7 ∷ pos 0 ∷ [])
+unfolding surveyOf outZ outN eqZ firstFrom firstBad anyBelow
+two-lines-surveyed = refl
+
+-- "one fixed report": no one count of rows fits every book
+pub no-one-report-fits : (n : ℕ) → ((b t : ℤ) (held lines out : List ℤ) → surveyOf b t held lines out .answer .number ≡ 0 → surveyOf b t held lines out .answer .rows ≡ n) → ⊥
+no-one-report-fits n h =
+    let none : 0 ≡ n = rw no-line-surveyed at (h (pos 1) (pos 1) [] noLines [] (rw no-line-surveyed)) in
+    let one : 1 ≡ n = rw two-lines-surveyed at (h (pos 2) (pos 1) [] twoLines (replicate 5 (pos 0)) (rw two-lines-surveyed)) in
+    omega arith
+
+-- "a re-run that does nothing": an accepted re-run to another difference changes the book
+pub rerun-does-something : (b t : ℤ) (held lines report : List ℤ) (number difference : ℤ) → rerunOf b t held lines report number difference .answer .number ≡ 0
+    → (difference ≡ differenceAt lines (natAbs number - 1) → ⊥) → rerunOf b t held lines report number difference .lines ≡ lines → ⊥
+rerun-does-something b t held lines report number difference z other same =
+    other (sym (rerun-sets-one-number b t held lines report number difference z .changed) ∙ ap (λ (x : List ℤ). getD x (placeOf number differenceField) (pos 0)) same)
+
+-- and moves the report: of two lines between two marks line 2 is re-run from 7 to 8
+pub rerun-moves-the-report : rerunOf (pos 2) (pos 1) [] twoLines (pos 2 ∷ pos 2 ∷ pos 20 ∷ pos 7 ∷ pos 0 ∷ []) (pos 2) (pos 8)
+    ≡ corrected (record { number = 0; place = 0; rows = 1; pieces = 1 }) (line (pos 1) (pos 2) (pos 0) ++ line (pos 1) (pos 2) (pos 8)) (pos 2 ∷ pos 2 ∷ pos 20 ∷ pos 8 ∷ pos 0 ∷ [])
+unfolding rerunOf outZ outN eqZ firstFrom firstBad anyBelow
+rerun-moves-the-report = refl
+
+-- "row 1 and .. the rest with zeros": no row that is answered begins with 0
+pub no-row-of-zeros : (b t : ℤ) (held lines : List ℤ) (k : Book) (passes : testOf b t held lines ≡ Good k) (out : List ℤ) → surveyOf b t held lines out .answer .number ≡ 0
+    → (i : ℕ) → i < surveyOf b t held lines out .answer .rows → inRow 0 (surveyOf b t held lines out .rows) i ≡ pos 0 → ⊥
+unfolding standing
+no-row-of-zeros b t held lines k passes out done i h e =
+    let w = each-row-is-of-its-loop b t held lines k passes out done i h in
+    let number = ap natAbs (sym (w .0 .closing-line) ∙ e) in
+    let closes = ap closingNumber (w .1 .closing-line-first) in
+    omega (arith, from-on 1 lines (w .1 .closing-line) (w .1 .stands), number, closes)
+
+-- "an empty not-checked list": where a standing line is on no circuit, the list is not empty
+pub not-checked-list-is-not-empty : (b t : ℤ) (held lines : List ℤ) (k : Book) → testOf b t held lines ≡ Good k → (out : List ℤ)
+    → notCheckedOf b t held lines out .answer .number ≡ 0 → (l : Line) → List·Memᴰ l (standing lines) → (Circuit (standing lines) (l .number) → ⊥)
+    → notCheckedOf b t held lines out .answer .entries ≡ 0 → ⊥
+not-checked-list-is-not-empty b t held lines k passes out done l stands none empty =
+    let i = listed-exactly-if-no-circuit b t held lines k passes out done (l .number) .1 (l, stands, refl, none) in
+    List·Memᴰ·not-nil (rw empty at i)
+
+-- as the one line of a book of two marks is
+pub one-line-is-not-checked : notCheckedOf (pos 2) (pos 1) [] (line (pos 1) (pos 2) (pos 0)) (pos 0 ∷ [])
+    ≡ listing (record { number = 0; place = 0; entries = 1 }) (pos 1 ∷ [])
+unfolding notCheckedOf outZ outN eqZ firstFrom firstBad anyBelow
+one-line-is-not-checked = refl

@@ -1,0 +1,6 @@
+pub mod Rules
+pub mod Tables
+pub mod Calls
+pub mod TheLoops
+pub mod Corrections
+pub mod StillStands

@@ -1,0 +1,82 @@
+// Surveys many books, and corrects each of them, line after line, until none stands; prints every answer and what the buffers then hold.
+// A case on standard input: 48 bytes of name, the file's length (2 bytes), the file. tests/survey_cases.py makes the cases and, on its own,
+// what is printed of them.
+const NAME_BYTES: usize = 48;
+
+const CASE_BYTES: usize = 50;
+
+fn put_answer(a: survey::Answer) {
+    cases::put(a.number);
+    cases::put(a.place);
+    cases::put(a.rows);
+    cases::put(a.pieces);
+    io::write_all(cases::STDOUT, b" |");
+}
+
+fn put_call(name: &[u8], a: survey::Answer, lines: &[i64], report: &[i64]) {
+    io::write_all(cases::STDOUT, name);
+    put_answer(a);
+    cases::show_numbers(report);
+    io::write_all(cases::STDOUT, b" lines #");
+    io::print_decimal(cases::STDOUT, cases::digest(lines) as u64);
+    io::write_all(cases::STDOUT, b"\n");
+}
+
+// The line is re-run to a difference of its number in centimetres, tried again with a report that is not the book's, and withdrawn.
+fn correct_line(b: i64, t: i64, held: &[i64], lines: &mut [i64], report: &mut [i64], line: i64) {
+    let again = survey::rerun(b, t, held, lines, report, line, line % 1000 * 10_000);
+    put_call(b"  re-run", again, lines, report);
+    let wrong = survey::withdraw(b, t, held, lines, &mut report[1..], line);
+    put_call(b"  refused", wrong, lines, report);
+    let gone = survey::withdraw(b, t, held, lines, report, line);
+    put_call(b"  withdrawn", gone, lines, report);
+}
+
+fn correct_all(b: i64, t: i64, held: &[i64], lines: &mut [i64], report: &mut [i64], n: i64) {
+    let mut line = 0;
+    while line <= n {
+        correct_line(b, t, held, lines, report, line);
+        line += 1;
+    }
+}
+
+fn run(file: &[u8], held: &mut [i64], lines: &mut [i64], report: &mut [i64]) {
+    let book = file::read(file, held, lines);
+    let b = signed::signed_count(book.b % 65536);
+    let t = signed::signed_count(book.t % 65536);
+    let n = book.n % 600;
+    let held_words = cases::at_most(book.h % 600 * 2, held.len());
+    let line_words = cases::at_most(n * 5, lines.len());
+    cases::clear(report);
+    let found = survey::survey(b, t, &held[..held_words], &lines[..line_words], report);
+    put_call(b"survey", found, &lines[..line_words], report);
+    correct_all(b, t, &held[..held_words], &mut lines[..line_words], report, signed::signed_count(n));
+}
+
+fn one_case(name: &[u8], file: &[u8]) {
+    io::write_all(cases::STDOUT, name);
+    io::write_all(cases::STDOUT, b"\n");
+    let mut held = [0i64; 512];
+    let mut lines = [0i64; 2560];
+    let mut report = [0i64; 2600];
+    run(file, &mut held[..], &mut lines[..], &mut report[..]);
+}
+
+fn all_cases(input: &[u8]) {
+    let mut at = 0;
+    while CASE_BYTES <= input.len() - at {
+        let body = at + CASE_BYTES;
+        let len = cases::two(input, at + NAME_BYTES);
+        if input.len() - body < len {
+            return;
+        }
+        one_case(&input[at..at + NAME_BYTES], &input[body..body + len]);
+        at = body + len;
+    }
+}
+
+fn main() {
+    let mut space = [0u8; 131072];
+    let got = io::read_full(cases::STDIN, &mut space);
+    all_cases(&space[..got]);
+}

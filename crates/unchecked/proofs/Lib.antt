@@ -1,0 +1,4 @@
+pub mod Following
+pub mod Marking
+pub mod Listing
+pub mod Planted

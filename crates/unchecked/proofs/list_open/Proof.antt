@@ -1,0 +1,69 @@
+-- The loop of `list_open`: the open numbers below `number` are written. Assumes nothing.
+use mathlib.Core.Path.{ap}
+use mathlib.Core.Logic.{⊎-elim}
+use Prim.Native.Nat.{_-_, _<_}
+use mathlib.Core.Path.{_≡_, refl, sym, _∙_}
+use native.Mathlib.Omega.{arith}
+use borrow.Author.Needs.{needs}
+use lib.ListN.{length, length-set}
+use Rattle.unchecked.proofs.Listing.{Writing, writing-start, writing-open, writing-shut, writing-end}
+use Rattle.unchecked.proofs.list_open.Statement.{statement}
+use Rattle.unchecked.proofs.list_open.Tie as tie
+
+abbrev Inv-loop : tie.InvT-loop
+Inv-loop long marked out₀ q c₀ number₀ out c number = (c < number) × (length out ≡ length out₀) × Writing long marked q out₀ out c number
+
+abbrev μ-loop : tie.MeasureT-loop
+μ-loop long marked out₀ q c₀ number₀ out c number = q - number
+
+loop-holds : tie.Need-loop-holds Inv-loop μ-loop
+loop-holds c = (omega arith, refl, writing-start _ _ _ _)
+
+is-open-requires : tie.Need-is-open-requires Inv-loop μ-loop
+is-open-requires c κs = let p = c .before .before .before .before .before .pre in (omega (arith, p .longs), omega (arith, p .marks))
+
+mul-out : tie.Need-mul-out Inv-loop μ-loop
+mul-out c = let p = c .before .before .before .before .before .before .before .pre in omega (arith, p .outs)
+
+slice-write-out : tie.Need-slice-write-out Inv-loop μ-loop
+slice-write-out c = let p = c .before .before .before .before .before .before .before .pre in omega (arith, p .outs)
+
+add-c : tie.Need-add-c Inv-loop μ-loop
+add-c c = search needs
+
+add-number : tie.Need-add-number Inv-loop μ-loop
+add-number c = search needs
+
+loop-less : tie.Need-loop-less Inv-loop μ-loop
+loop-less c = search needs
+
+loop-again : tie.Need-loop-again Inv-loop μ-loop
+loop-again c =
+    let v = c .before .before .before .loop .inv in
+    let o = c .before .is-open .ensures in
+    ⊎-elim (λ w. (omega (arith, w .2), ap length (w .1) ∙ simp length-set (v .1), writing-open (v .2) (omega arith) (sym o ∙ w .0 .taken) (w .1) (w .2)))
+    (λ w. (omega (arith, w .2), ap length (w .1) ∙ v .1, writing-shut (v .2) (omega arith) (sym o ∙ w .0 .left) (w .1) (w .2)))
+    (c .if1 .came)
+
+same-length : tie.Need-same-length Inv-loop μ-loop
+same-length c = search needs
+
+returns : tie.Need-returns Inv-loop μ-loop
+returns c = writing-end (c .before .loop .inv .2) (omega arith)
+
+pub list-open-spec : {M : Type 1} → statement M
+list-open-spec =
+    tie.close
+    (tie.spec
+    Inv-loop
+    μ-loop
+    loop-holds
+    is-open-requires
+    mul-out
+    slice-write-out
+    add-c
+    add-number
+    loop-less
+    loop-again
+    same-length
+    returns)

@@ -1,0 +1,22 @@
+-- The not-checked list of a lent book. Assumes nothing.
+use Prim.Native.Nat.{ℕ, _+_, _*_, _-_, _/_, _≤_}
+use mathlib.Core.List.{List}
+use lib.IntN.{ℤ}
+use lib.ListN.{length}
+use Rattle.network.specs.Standing.{standing}
+use Rattle.loops.specs.Loops.{loops}
+use Rattle.loops.specs.Checked.{notChecked}
+use Rattle.chains.specs.Chains.{numberLimit}
+use Rattle.closing.specs.Order.{Put}
+
+-- room for the closing lines, the marks and the list
+pub record Shelf (n : ℕ) (ls : List ℤ) (rank sort close marked out : List ℕ) : Type 0 where
+  pub ranks : n ≤ length rank
+  pub sorts : 2 * (length ls / 5 + 1) ≤ length sort
+  pub closes : length ls / 5 ≤ length close
+  pub marks : numberLimit ≤ length marked
+  pub outs : length ls / 5 ≤ length out
+
+-- the definition's list of the book's standing lines is written out
+abbrev pub BookListed : ℕ → List ℤ → List ℕ → List ℕ → ℕ → Type 0
+BookListed n ls out out′ a = Put (notChecked (loops (n - 1) (standing ls)) (standing ls)) out out′ a

@@ -1,0 +1,52 @@
+-- The list of the lines that are not checked. Document 01: "The not-checked list goes by rising line number."
+-- Assumes nothing.
+use Prim.Native.Nat.{ℕ, zero, suc, _+_, _-_, _≤_}
+use mathlib.Core.Bool.{Bool, not, _&&_, cond}
+use mathlib.Core.List.{List, [], _∷_}
+use lib.ListN.{length, getD}
+use lib.Dec.{eqb}
+use Rattle.network.specs.Standing.{Line}
+use Rattle.network.specs.Tree.{tree}
+use Rattle.loops.specs.Loops.{loops}
+use Rattle.loops.specs.Checked.{notChecked}
+use Rattle.chains.specs.Chains.{numberLimit}
+use Rattle.chains.specs.Listed.{Listed}
+use Rattle.tree.specs.Plant.{Holding}
+use Rattle.closing.specs.Order.{Put}
+use Rattle.unchecked.specs.Ways.{isMarked, Tables, ClosingHeld}
+
+-- line j stands and is not marked
+abbrev pub isOpen : List ℕ → List ℕ → ℕ → Bool
+isOpen long marked j = not (eqb (getD long j 0) 0) && not (isMarked marked j)
+
+-- of the k numbers from j on, those of the lines that stand and are not marked
+unfoldable pub openFrom : List ℕ → List ℕ → ℕ → ℕ → List ℕ
+openFrom long marked j zero = []
+openFrom long marked j (suc k) = cond (isOpen long marked j) (j ∷ openFrom long marked (suc j) k) (openFrom long marked (suc j) k)
+
+-- room for the numbers below q
+pub record Lists (long marked out : List ℕ) (q : ℕ) : Type 0 where
+  pub longs : q ≤ length long
+  pub marks : q ≤ length marked
+  pub outs : q ≤ length out + 1
+
+-- what the not-checked list asks for: the tables, the tree and the closing lines of some lines, in numbers below q, and room
+pub record Ready (tip long best close marked out : List ℕ) (count q : ℕ) : Type 0 where
+  pub tables : Tables tip marked
+  pub few : q ≤ numberLimit
+  pub longs : q ≤ length long
+  pub outs : q ≤ length out + 1
+  pub closes : count ≤ length close
+  pub n : ℕ
+  pub bests : n ≤ length best
+  pub order : List ℕ
+  pub lines : List Line
+  pub listed : Listed lines n q tip long
+  pub holding : Holding (tree (n - 1) lines) best order tip
+  pub closing-held : ClosingHeld n lines close count
+
+-- the definition's list is written out
+abbrev pub NotChecked : List ℕ → List ℕ → List ℕ → List ℕ → List ℕ → List ℕ → ℕ → ℕ → ℕ → Type 0
+NotChecked tip long best close out out′ count q a =
+    (n : ℕ) (order : List ℕ) (lines : List Line) → Listed lines n q tip long → Holding (tree (n - 1) lines) best order tip → ClosingHeld n lines close count
+    → Put (notChecked (loops (n - 1) lines) lines) out out′ a

@@ -1,0 +1,115 @@
+-- Lines are marked as checked along the ways of the tree. Document 01: "A mark's way to its root is followed line by line".
+-- Assumes nothing.
+use Prim.Native.Nat.{ℕ, _-_, _/_, _%_, _≤_, _<_}
+use mathlib.Core.Path.{_≡_}
+use mathlib.Core.Bool.{Bool, _||_}
+use mathlib.Core.List.{List, List·Memᴰ}
+use lib.ListN.{length, getD, set}
+use lib.Dec.{eqb}
+use Rattle.network.specs.Standing.{Line}
+use Rattle.network.specs.Sound.{Rising}
+use Rattle.network.specs.Tree.{tree}
+use Rattle.network.specs.Closing.{closing}
+use Rattle.loops.specs.Crossed.{onWay, differ, crosses, crossed}
+use Rattle.chains.specs.Chains.{Half, flip, AllSound, halves, numberLimit}
+use Rattle.search.specs.Front.{Keyed}
+use Rattle.subgraph.specs.Turn.{Queue}
+
+-- what stands at the number of a line that is checked
+abbrev pub checkedMark : ℕ
+checkedMark = 1
+
+-- line j is marked
+abbrev pub isMarked : List ℕ → ℕ → Bool
+isMarked marked j = eqb (getD marked j 0) checkedMark
+
+-- ---- the tree as it lies in the arrays
+
+-- m is a mark of a book whose marks are below n
+abbrev pub IsMark : ℕ → ℕ → Type 0
+IsMark n m = (0 < m) × (m < n)
+
+-- tip has the ends of the lines, best of each mark its distance and the line it came in by
+pub record TreeHeld (n : ℕ) (lines : List Line) (tip best : List ℕ) : Type 0 where
+  pub rising : Rising lines
+  pub sound : AllSound n lines
+  pub tipOf : (l : Line) (u v h : ℕ) → List·Memᴰ l lines → Half l u v h → getD tip h 0 ≡ v
+  pub keyed : Keyed (tree (n - 1) lines) best tip
+
+-- close has the numbers of the closing lines in their order, so many
+pub record ClosingHeld (n : ℕ) (lines : List Line) (close : List ℕ) (count : ℕ) : Type 0 where
+  pub queue : Queue close 0 (closing lines (tree (n - 1) lines))
+  pub count-is : count ≡ length (closing lines (tree (n - 1) lines))
+
+-- a place for each half and for the mark of each line
+pub record Tables (tip marked : List ℕ) : Type 0 where
+  pub tips : halves ≤ length tip
+  pub marks : numberLimit ≤ length marked
+
+-- ---- one line of a way
+
+-- the number of the line by which mark m came in, and the mark at its other end
+abbrev pub lineIn : List ℕ → ℕ → ℕ
+lineIn best m = getD best m 0 % halves / 2
+
+abbrev pub nearerMark : List ℕ → List ℕ → ℕ → ℕ
+nearerMark tip best m = getD tip (flip (getD best m 0 % halves)) 0
+
+pub record Climbed (tip best marked marked′ : List ℕ) (m r : ℕ) : Type 0 where
+  pub marks : marked′ ≡ set marked (lineIn best m) checkedMark
+  pub nearer : r ≡ nearerMark tip best m
+
+-- ---- two ways, to where they meet
+
+-- there is a tree, and u and v are marks of it
+pub record Follows (tip best marked : List ℕ) (u v : ℕ) : Type 0 where
+  pub tables : Tables tip marked
+  pub n : ℕ
+  pub bests : n ≤ length best
+  pub lines : List Line
+  pub held : TreeHeld n lines tip best
+  pub u-is : IsMark n u
+  pub v-is : IsMark n v
+
+-- marked are the lines that were, and those on one of the two ways and not on the other
+abbrev pub Followed : List ℕ → List ℕ → List ℕ → List ℕ → ℕ → ℕ → Type 0
+Followed tip best marked marked′ u v =
+    (n : ℕ) (lines : List Line) → TreeHeld n lines tip best → IsMark n u → IsMark n v
+    → (j : ℕ) → isMarked marked′ j ≡ (isMarked marked j || differ (onWay (tree (n - 1) lines) j u) (onWay (tree (n - 1) lines) j v))
+
+-- ---- one closing line
+
+-- there is a tree, and a line of this number
+pub record Checks (tip best marked : List ℕ) (number : ℕ) : Type 0 where
+  pub tables : Tables tip marked
+  pub n : ℕ
+  pub bests : n ≤ length best
+  pub lines : List Line
+  pub held : TreeHeld n lines tip best
+  pub c : Line
+  pub isLine : List·Memᴰ c lines
+  pub its : c .number ≡ number
+
+-- marked are the lines that were, the line c, and those that it crosses
+abbrev pub LoopChecked : List ℕ → List ℕ → List ℕ → List ℕ → ℕ → Type 0
+LoopChecked tip best marked marked′ number =
+    (n : ℕ) (lines : List Line) → TreeHeld n lines tip best → (c : Line) → List·Memᴰ c lines → c .number ≡ number
+    → (j : ℕ) → isMarked marked′ j ≡ (isMarked marked j || (eqb (c .number) j || crosses (tree (n - 1) lines) j c))
+
+-- ---- all closing lines
+
+-- there is a tree, with its closing lines
+pub record Closes (tip best close marked : List ℕ) (count : ℕ) : Type 0 where
+  pub tables : Tables tip marked
+  pub closes : count ≤ length close
+  pub n : ℕ
+  pub bests : n ≤ length best
+  pub lines : List Line
+  pub held : TreeHeld n lines tip best
+  pub closing-held : ClosingHeld n lines close count
+
+-- marked are the closing lines and the lines that one of them crosses, and no other
+abbrev pub LinesChecked : List ℕ → List ℕ → List ℕ → List ℕ → ℕ → Type 0
+LinesChecked tip best close marked′ count =
+    (n : ℕ) (lines : List Line) → TreeHeld n lines tip best → ClosingHeld n lines close count
+    → (j : ℕ) → j < numberLimit → isMarked marked′ j ≡ crossed (tree (n - 1) lines) j (closing lines (tree (n - 1) lines))
