@@ -82,16 +82,9 @@ def corrections(b, t, lines, report):
     text = ""
     for number in range(len(lines) + 1):
         stands = 1 <= number <= len(lines) and lines[number - 1][4] == 1
-        for call in ("re-run", "refused", "withdrawn"):
+        for call in ("re-run", "withdrawn"):
             if not stands:
                 answer = (8, 0, 0, 0)
-            elif call == "refused" and report[1:][: len(survey(b, t, lines)[0])] != survey(b, t, lines)[0]:
-                answer = (9, 0, 0, 0)
-            elif call == "refused":
-                # only a book without loops takes a report that begins one number later
-                lines[number - 1][4] = 0
-                rows, pieces = survey(b, t, lines)
-                answer, stands = (0, 0, len(rows) // ROW, pieces), False
             else:
                 before = len(survey(b, t, lines)[0])
                 if call == "re-run":

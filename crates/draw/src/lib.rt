@@ -1,6 +1,5 @@
 // From the lent book, five signed numbers to a line, to tables and chains of unsigned numbers.
 ghost use Rattle.draw.specs.Book.{Entry, Drew, Sheet, BookDrawn};
-
 use book::line::Line;
 
 // The line of this number is drawn, if it stands. The answer is the count of nodes.

@@ -22,24 +22,13 @@ use Rattle.network.proofs.Subgraph.{in-only, of-only, or-true, or-right, isIn-n
 use Rattle.loops.specs.Loops.{Loop, loops}
 use Rattle.loops.specs.AllLoops.{LoopsOf, no-loop, loop-then}
 use Rattle.loops.specs.Checked.{runs, checked}
-use Rattle.loops.specs.Crossed.{onWay, differ, crosses, crossed}
+use Rattle.loops.specs.Crossed.{onWay, crosses, crossed}
 use Rattle.loops.proofs.AllLoops.{first-or-in, loops-are}
 use Rattle.loops.proofs.EachLoop.{loop-has-closing-line}
 use Rattle.loops.proofs.Checked.{runs-mem, checked-by}
-use Rattle.loops.proofs.Ways.{crosses-itself-only}
+use Rattle.loops.proofs.Ways.{differ-false, same-differ, crosses-itself-only}
 
 -- ---- sides: the way of a mark runs over line n, or it does not
-
-differ-false : (a b : Bool) → differ a b ≡ false → a ≡ b
-differ-false true true h = refl
-differ-false true false h = absurd (false≢true (sym h))
-differ-false false true h = absurd (false≢true (sym h))
-differ-false false false h = refl
-
-same-differ : (a b : Bool) → a ≡ b → differ a b ≡ false
-same-differ true true e = refl
-same-differ true false e = absurd (false≢true (sym e))
-same-differ false b e = sym e
 
 module _ (es : Tree) (n : ℕ) where
   -- a pass over a line that does not cross line n stays on its side
@@ -83,6 +72,7 @@ module _ (es : Tree) (n : ℕ) where
 
 -- ---- what is crossed
 
+-- what is crossed is one of the lines or is crossed by one
 crossed-by : (es : Tree) (n : ℕ) (cs : List Line) → crossed es n cs ≡ true
     → (c : Line) × List·Memᴰ c cs × ((c .number ≡ n) ⊎ (crosses es n c ≡ true))
 unfolding crossed
@@ -99,6 +89,7 @@ crossed-by es n (c ∷ cs) h = go (or-true (eqb (c .number) n || crosses es n c)
     go (inl x) ih = (c, List·Memᴰ·head refl, own (or-true (eqb (c .number) n) (crosses es n c) x))
     go (inr x) ih = let k = ih x in (k .0, List·Memᴰ·tail (k .1), k .2)
 
+-- and the other way
 in-crossed : (es : Tree) (n : ℕ) (cs : List Line) (c : Line) → List·Memᴰ c cs → (c .number ≡ n) ⊎ (crosses es n c ≡ true) → crossed es n cs ≡ true
 unfolding crossed
 in-crossed es n (k ∷ cs) c (List·Memᴰ·head e) h = rw (go (subst (λ (x : Line). (x .number ≡ n) ⊎ (crosses es n x ≡ true)) e h))
@@ -115,6 +106,7 @@ module _ (es : Tree) (lines : List Line) (rising : Rising lines) (n : ℕ) where
   abbrev Uncrossed : List ℕ → Type 0
   Uncrossed sub = (k : Line) → List·Memᴰ k (only sub lines) → (k .number ≡ n → ⊥) → crosses es n k ≡ false
 
+  -- a line that does not cross line n may be added
   still-uncrossed : (sub : List ℕ) (c : Line) → List·Memᴰ c lines → crosses es n c ≡ false → Uncrossed sub → Uncrossed (c .number ∷ sub)
   still-uncrossed sub c i h f k j d = go (of-only (c .number ∷ sub) lines k j .0) (first-or-in (c .number) (k .number) sub (of-only (c .number ∷ sub) lines k j .1))
     where
@@ -122,6 +114,7 @@ module _ (es : Tree) (lines : List Line) (rising : Rising lines) (n : ℕ) where
       go m (inl e) = subst (λ (x : Line). crosses es n x ≡ false) (unique lines rising c k i m e) h
       go m (inr e) = f k (in-only sub lines k m e) d
 
+  -- so if one of the closing lines crosses line n, a loop runs it
   crossed-runs : {sub : List ℕ} {cs : List Line} {ls : List Loop} → LoopsOf lines sub cs ls → ((c : Line) → List·Memᴰ c cs → List·Memᴰ c lines) → Uncrossed sub
       → (c : Line) → List·Memᴰ c cs → crosses es n c ≡ true → checked n ls ≡ true
   unfolding checked runs crosses
@@ -170,6 +163,7 @@ module _ (b : ℕ) (lines : List Line) (sound : Sound b lines) where
   tree-line-crosses : (k : Line) → List·Memᴰ k (treeLines es) → (n : ℕ) → crosses es n k ≡ eqb (k .number) n
   tree-line-crosses k i n = crosses-itself-only lines (sound .rising) (sound .apart) (grows b lines (sound .placed)) k (of-treeLines es k i) n
 
+  -- at the start the subgraph is the tree, and none of its lines crosses another
   tree-uncrossed : (n : ℕ) → Uncrossed es lines (sound .rising) n (numbers (treeLines es))
   tree-uncrossed n k i d =
       let o = of-only (numbers (treeLines es)) lines k i in

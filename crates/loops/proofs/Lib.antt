@@ -5,8 +5,8 @@ pub mod Passes
 pub mod Basis
 pub mod Misclosure
 pub mod Checked
+pub mod Ways
+pub mod Crossed
 pub mod Row
 pub mod Rerun
 pub mod Withdrawal
-pub mod Ways
-pub mod Crossed

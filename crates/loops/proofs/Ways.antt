@@ -21,6 +21,28 @@ use Rattle.network.proofs.Flow.{ends-in, ends-two}
 use Rattle.network.proofs.Subgraph.{or-true, not-in}
 use Rattle.loops.specs.Crossed.{otherEnd, wayOver, onWay, differ, crosses}
 
+-- ---- one side or two
+
+-- the order of the two does not matter
+pub differ-turn : (a b : Bool) → differ a b ≡ differ b a
+differ-turn true true = refl
+differ-turn true false = refl
+differ-turn false true = refl
+differ-turn false false = refl
+
+-- what does not differ is the same
+pub differ-false : (a b : Bool) → differ a b ≡ false → a ≡ b
+differ-false true true h = refl
+differ-false true false h = absurd (false≢true (sym h))
+differ-false false true h = absurd (false≢true (sym h))
+differ-false false false h = refl
+
+-- and the same does not differ
+pub same-differ : (a b : Bool) → a ≡ b → differ a b ≡ false
+same-differ true true e = refl
+same-differ true false e = absurd (false≢true (sym e))
+same-differ false b e = sym e
+
 -- ---- one entry more
 
 -- the way of the mark that enters runs over its line
@@ -71,9 +93,14 @@ entry-of (e ∷ es) m d h = go (after e es m) (entry-of es m d)
 
 -- ---- the way of a mark goes over its line and on from the line's other end
 
+-- the end that is not m
 other-end : (l : Line) (u m : ℕ) → (l .from ≡ l .to → ⊥) → Ends l u m → otherEnd l m ≡ u
 other-end l u m d (along p q) = rw (ne-eqb (l .from) m (λ z. d (z ∙ sym q))) p
 other-end l u m d (against p q) = rw (eq-eqb (l .from) m q) p
+
+-- a line leads to a mark from one mark only
+pub one-end : (l : Line) (a u m : ℕ) → (l .from ≡ l .to → ⊥) → Ends l a m → Ends l u m → a ≡ u
+one-end l a u m d x y = sym (other-end l a m d x) ∙ other-end l u m d y
 
 -- the mark of x came in by line k from the mark `nearer`: its way is k and the way of `nearer`, on which k is not
 pub record Onward (es : Tree) (x : Entry) (k : Line) (n : ℕ) : Type 0 where
@@ -95,6 +122,7 @@ module _ (lines : List Line) (rising : Rising lines) (apart : Apart lines) where
           let is : k ≡ l = unique lines rising k l i (treeLine lines g x y l h) (e ∙ sym z) in
           ends-in lines g x y l h u v (subst (λ (b : Line). Ends b u v) is j) out
 
+  -- what holds of the way of an old mark holds after an entry
   onward-old : (e : Entry) (es : Tree) → distance es (e .mark) ≡ none → (x : Entry) (k : Line) (n : ℕ) → (e .mark ≡ x .mark → ⊥) → Onward es x k n → Onward (e ∷ es) x k n
   onward-old e es out x k n d w = record {
     nearer = w .nearer;
@@ -109,6 +137,7 @@ module _ (lines : List Line) (rising : Rising lines) (apart : Apart lines) where
       stays : onWay (e ∷ es) n (w .nearer) ≡ onWay es n (w .nearer)
       stays = on-old e es n (w .nearer) (not-new e es (w .nearer) (w .itsDistance) out (w .isIn))
 
+  -- and it holds of the mark that enters
   onward-new : (e : Entry) (es : Tree) → Grown lines es → (b : ByLine lines es e) → (n : ℕ) → Onward (e ∷ es) e (b .l) n
   onward-new e es g b n = record {
     nearer = b .sc .near;
@@ -128,6 +157,7 @@ module _ (lines : List Line) (rising : Rising lines) (apart : Apart lines) where
       stays : onWay (e ∷ es) n (b .sc .near) ≡ onWay es n (b .sc .near)
       stays = on-old e es n (b .sc .near) (not-new e es (b .sc .near) (b .sc .d) (isNew b) (b .sc .isIn))
 
+  -- the mark of an entry is in the tree
   mark-in : (es : Tree) (x : Entry) → List·Memᴰ x es → distance es (x .mark) ≡ none → ⊥
   mark-in [] x i h = List·Memᴰ·not-nil i
   mark-in (e ∷ es) x i h = go (after e es (x .mark)) i (mark-in es x)
@@ -137,6 +167,7 @@ module _ (lines : List Line) (rising : Rising lines) (apart : Apart lines) where
       go (old p q) (List·Memᴰ·head z) ih = p (ap (λ (y : Entry). y .mark) (sym z))
       go (old p q) (List·Memᴰ·tail j) ih = ih j (sym q ∙ h)
 
+  -- so it holds of every mark that came in by a line
   pub onward : {es : Tree} → Grown lines es → (x : Entry) → List·Memᴰ x es → (k : Line) → x .by ≡ some k → (n : ℕ) → Onward es x k n
   onward empty x i k h n = absurd (List·Memᴰ·not-nil i)
   onward (byLine {e = e} {es = es} g b) x (List·Memᴰ·head p) k h n =
@@ -161,15 +192,10 @@ module _ (lines : List Line) (rising : Rising lines) (apart : Apart lines) where
 
   -- ---- the two ends of a line of the tree are on different sides of it, and on one side of any other
 
+  -- a line's two ends, whichever way round
   differ-ends : (k : Line) (f : ℕ → Bool) (u m : ℕ) → Ends k u m → differ (f (k .from)) (f (k .to)) ≡ differ (f u) (f m)
   differ-ends k f u m (along p q) = ap₂ (λ (a b : ℕ). differ (f a) (f b)) p q
-  differ-ends k f u m (against p q) = ap₂ (λ (a b : ℕ). differ (f a) (f b)) q p ∙ turned (f m) (f u)
-    where
-      turned : (a b : Bool) → differ a b ≡ differ b a
-      turned true true = refl
-      turned true false = refl
-      turned false true = refl
-      turned false false = refl
+  differ-ends k f u m (against p q) = ap₂ (λ (a b : ℕ). differ (f a) (f b)) q p ∙ differ-turn (f m) (f u)
 
   -- a tree line crosses itself and no other line
   pub crosses-itself-only : {es : Tree} → Grown lines es → (k : Line) → InTree es k → (n : ℕ) → crosses es n k ≡ eqb (k .number) n
@@ -189,6 +215,7 @@ module _ (lines : List Line) (rising : Rising lines) (apart : Apart lines) where
   -- ---- a mark whose way runs over another's line is farther than that mark
 
   module _ (long : Long lines) {es : Tree} (g : Grown lines es) (k : Line) (x : Entry) (x-in : List·Memᴰ x es) (x-by : x .by ≡ some k) (d : ℕ) (x-at : distance es (x .mark) ≡ some d) where
+    -- only one mark came in by the line
     itself : (y : Entry) → List·Memᴰ y es → y .by ≡ some k → y .mark ≡ x .mark
     itself y i h = go (onward g x x-in k x-by (k .number)) (onward g y i k h (k .number))
       where

@@ -5,5 +5,5 @@ pub mod Row
 pub mod Passes
 pub mod Checked
 pub mod Circuit
-pub mod Withdrawn
 pub mod Crossed
+pub mod Withdrawn

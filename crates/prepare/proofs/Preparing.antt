@@ -55,7 +55,8 @@ module _ (n q : ℕ) (tip long : List ℕ) (low : 0 < n) (some-line : 0 < q) (li
   roots : length (treeLines (tree (n - 1) lines)) + pieces (tree (n - 1) lines) ≡ n - 1
   roots = tree-and-roots (tree (n - 1) lines) ∙ size (n - 1) lines placed
 
-  few-closing : length (closing lines (tree (n - 1) lines)) < q
+  -- and so the closing lines are fewer than q
+  pub few-closing : length (closing lines (tree (n - 1) lines)) < q
   few-closing = omega (arith, few-lines, roots, closing-count (n - 1) lines placed (li .rising) apart)
 
   module _ (head next fars add close close′ : List ℕ) (count nodes : ℕ) (room : q ≤ length close + 1)

@@ -13,7 +13,6 @@ ghost use Rattle.chains.specs.Chains.{numberLimit, longest};
 ghost use Rattle.chains.specs.Listed.{Longs};
 ghost use Rattle.rows.specs.Sums.{lengthOf, riseAt, riseOf, verdictOf, rowOf, Gentle, HalfOk, Coded, RowAsked, loosest, steepest};
 ghost use Rattle.rows.specs.Turns.{Tables, NodesRoom, Due, RowTaken, RowsAsked};
-
 use book::line::Line;
 
 // "A report row is five numbers."

@@ -65,12 +65,26 @@ pub fn rerun(
     }
     match book::test(b, t, held, lines) {
         Tested::Refused(r) => refuse(r.number, r.place),
-        Tested::Good(book) => correct::correct_good(book, lines, report, line, Line::DIFFERENCE, difference),
+        Tested::Good(book) => correct::correct_good(
+            book,
+            lines,
+            report,
+            line,
+            Line::DIFFERENCE,
+            difference,
+        ),
     }
 }
 
 // The line's standing becomes 0, and the kept report that of the book as it then stands. A refusal leaves lines and report as they were.
-pub fn withdraw(b: i64, t: i64, held: &[i64], lines: &mut [i64], report: &mut [i64], line: i64) -> Answer
+pub fn withdraw(
+    b: i64,
+    t: i64,
+    held: &[i64],
+    lines: &mut [i64],
+    report: &mut [i64],
+    line: i64,
+) -> Answer
     ensures { λ r. ⌜ corrected r (now (lines .exit)) (now (report .exit)) ≡ withdrawOf b t (now (held .entry)) (now (lines .entry)) (now (report .entry)) line ⌝ }
 {
     match book::test(b, t, held, lines) {

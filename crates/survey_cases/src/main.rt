@@ -22,35 +22,80 @@ fn put_call(name: &[u8], a: survey::Answer, lines: &[i64], report: &[i64]) {
     io::write_all(cases::STDOUT, b"\n");
 }
 
-// The line is re-run to a difference of its number in centimetres, tried again with a report that is not the book's, and withdrawn.
-fn correct_line(b: i64, t: i64, held: &[i64], lines: &mut [i64], report: &mut [i64], line: i64) {
-    let again = survey::rerun(b, t, held, lines, report, line, line % 1000 * 10_000);
-    put_call(b"  re-run", again, lines, report);
-    let wrong = survey::withdraw(b, t, held, lines, &mut report[1..], line);
-    put_call(b"  refused", wrong, lines, report);
-    let gone = survey::withdraw(b, t, held, lines, report, line);
-    put_call(b"  withdrawn", gone, lines, report);
+fn rerun(
+    b: i64,
+    t: i64,
+    held: &[i64],
+    lines: &mut [i64],
+    report: &mut [i64],
+    line: i64,
+    difference: i64,
+) {
+    let a = survey::rerun(b, t, held, lines, report, line, difference);
+    put_call(b"  re-run", a, lines, report);
 }
 
-fn correct_all(b: i64, t: i64, held: &[i64], lines: &mut [i64], report: &mut [i64], n: i64) {
+fn withdraw(b: i64, t: i64, held: &[i64], lines: &mut [i64], report: &mut [i64], line: i64) {
+    let a = survey::withdraw(b, t, held, lines, report, line);
+    put_call(b"  withdrawn", a, lines, report);
+}
+
+// The line is re-run to a difference of its number in centimetres, and withdrawn.
+fn correct_line(b: i64, t: i64, held: &[i64], lines: &mut [i64], report: &mut [i64], line: usize) {
+    let l = signed::signed_count(line % 65536);
+    rerun(
+        b,
+        t,
+        held,
+        lines,
+        report,
+        l,
+        signed::signed_count(line % 1000 * 10_000),
+    );
+    withdraw(b, t, held, lines, report, l);
+}
+
+fn correct_all(b: i64, t: i64, held: &[i64], lines: &mut [i64], report: &mut [i64], n: usize) {
     let mut line = 0;
-    while line <= n {
+    while line < n {
         correct_line(b, t, held, lines, report, line);
         line += 1;
     }
 }
 
+fn survey(b: i64, t: i64, held: &[i64], lines: &[i64], report: &mut [i64]) {
+    let a = survey::survey(b, t, held, lines, report);
+    put_call(b"survey", a, lines, report);
+}
+
+fn survey_and_correct(
+    b: i64,
+    t: i64,
+    held: &[i64],
+    lines: &mut [i64],
+    report: &mut [i64],
+    n: usize,
+) {
+    survey(b, t, held, lines, report);
+    correct_all(b, t, held, lines, report, n);
+}
+
 fn run(file: &[u8], held: &mut [i64], lines: &mut [i64], report: &mut [i64]) {
+    cases::clear(report);
     let book = file::read(file, held, lines);
     let b = signed::signed_count(book.b % 65536);
     let t = signed::signed_count(book.t % 65536);
     let n = book.n % 600;
     let held_words = cases::at_most(book.h % 600 * 2, held.len());
     let line_words = cases::at_most(n * 5, lines.len());
-    cases::clear(report);
-    let found = survey::survey(b, t, &held[..held_words], &lines[..line_words], report);
-    put_call(b"survey", found, &lines[..line_words], report);
-    correct_all(b, t, &held[..held_words], &mut lines[..line_words], report, signed::signed_count(n));
+    survey_and_correct(
+        b,
+        t,
+        &held[..held_words],
+        &mut lines[..line_words],
+        report,
+        n + 1,
+    );
 }
 
 fn one_case(name: &[u8], file: &[u8]) {

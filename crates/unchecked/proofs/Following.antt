@@ -10,7 +10,6 @@ use lib.ListN.{getD}
 use lib.Dec.{eqb}
 use Rattle.network.specs.Standing.{Line}
 use Rattle.network.specs.Sound as so
-use Rattle.network.specs.Walk.{Ends, along, against}
 use Rattle.network.specs.Tree.{Entry, Tree, distance, tree}
 use Rattle.network.proofs.Grown.{After, new, old, after, ends-to, Grown, treeLine}
 use Rattle.network.proofs.Shortest.{same, never}
@@ -18,7 +17,7 @@ use Rattle.network.proofs.Count.{grows}
 use Rattle.network.proofs.ClosingLines.{has-distance}
 use Rattle.network.proofs.Subgraph.{not-in}
 use Rattle.loops.specs.Crossed.{onWay}
-use Rattle.loops.proofs.Ways.{onward, root-way, beyond}
+use Rattle.loops.proofs.Ways.{one-end, onward, root-way, beyond}
 use Rattle.chains.specs.Chains.{flip, halves, numberLimit}
 use Rattle.chains.proofs.Halves.{half-ends, half-flip, half-ok, half-low-end, half-no}
 use Rattle.search.specs.Front.{came, By, Key}
@@ -38,13 +37,6 @@ entry-came (e ∷ es) m d h = go (after e es m) (entry-came es m d)
     go (new p q) ih = (e, List·Memᴰ·head refl, p, sym (came-new e es m p))
     go (old p q) ih = let k = ih (sym q ∙ h) in (k .0, List·Memᴰ·tail (k .1), k .2, k .3 ∙ sym (came-old e es m p))
 
--- a line leads to a mark from one mark only
-one-end : (l : Line) (a u m : ℕ) → (l .from ≡ l .to → ⊥) → Ends l a m → Ends l u m → a ≡ u
-one-end l a u m d (along p q) (along x y) = sym p ∙ x
-one-end l a u m d (along p q) (against x y) = absurd (d (y ∙ sym q))
-one-end l a u m d (against p q) (along x y) = absurd (d (q ∙ sym y))
-one-end l a u m d (against p q) (against x y) = sym p ∙ x
-
 module _ (n : ℕ) (lines : List Line) (tip best : List ℕ) (t : TreeHeld n lines tip best) where
   abbrev es : Tree
   es = tree (n - 1) lines
@@ -58,9 +50,11 @@ module _ (n : ℕ) (lines : List Line) (tip best : List ℕ) (t : TreeHeld n lin
     rising = t .rising;
   }
 
+  -- their tree has grown by the rule
   grown-tree : Grown lines es
   grown-tree = grows (n - 1) lines (placed n lines (t .sound))
 
+  -- every mark has a distance and a key
   key-at : (m : ℕ) → IsMark n m → (d : ℕ) × (distance es m ≡ some d) × Key es best tip m d
   key-at m i = let h = has-distance (n - 1) lines book-sound m (i .0) (omega (arith, i .1)) in (h .0, h .1, t .keyed m (h .0) (h .1))
 
@@ -78,6 +72,7 @@ module _ (n : ℕ) (lines : List Line) (tip best : List ℕ) (t : TreeHeld n lin
     pub way : (j : ℕ) → onWay es j m ≡ (eqb (l .number) j || onWay es j u)
     pub clear : (v : ℕ) → IsMark n v → getD best v 0 < getD best m 0 → onWay es (l .number) v ≡ false
 
+  -- every mark but a root is so
   pub step-at : (m : ℕ) → IsMark n m → 0 < getD best m 0 → Step m
   step-at m im low = go (key-at m im)
     where

@@ -25,6 +25,7 @@ use Rattle.unchecked.proofs.Following.{book-sound}
 
 -- ---- writing the list, number by number
 
+-- one number of the list
 open-next : (long marked : List ℕ) (q number : ℕ) → number < q
     → openFrom long marked number (q - number)
     ≡ cond (isOpen long marked number) (number ∷ openFrom long marked (number + 1) (q - (number + 1))) (openFrom long marked (number + 1) (q - (number + 1)))
@@ -39,6 +40,7 @@ pub record Writing (long marked : List ℕ) (q : ℕ) (out₀ out : List ℕ) (c
   pub places : sets out c (openFrom long marked number (q - number)) ≡ sets out₀ 0 (openFrom long marked 1 (q - 1))
   pub count : c + length (openFrom long marked number (q - number)) ≡ length (openFrom long marked 1 (q - 1))
 
+-- at the start nothing is written
 pub writing-start : (long marked : List ℕ) (q : ℕ) (out : List ℕ) → Writing long marked q out out 0 1
 writing-start long marked q out = record { places = refl; count = omega arith }
 
@@ -62,6 +64,7 @@ module _ {long marked : List ℕ} {q : ℕ} {out₀ out : List ℕ} {c number : 
           count = omega (arith, w .count, ap length e);
         }
 
+  -- once all numbers are passed, the list is written
   pub writing-end : q ≤ number → Put (openFrom long marked 1 (q - 1)) out₀ out c
   unfolding openFrom
   writing-end le =
@@ -90,6 +93,7 @@ module _ (long marked : List ℕ) (ls : List Loop) where
     marks = s .marks;
   }
 
+  -- and it is not open
   shut : (lines : List Line) (j k : ℕ) → Spells long marked ls lines j (suc k) → ((l : Line) → List·Memᴰ l lines → l .number ≡ j → ⊥) → isOpen long marked j ≡ false
   shut lines j k s no-line = go (ℕ-discrete (getD long j 0) 0)
     where
@@ -114,15 +118,18 @@ module _ (long marked : List ℕ) (ls : List Loop) where
           later i lt (m, List·Memᴰ·head p, h) = absurd (omega (arith, ap (λ (x : Line). x .number) p))
           later i lt (m, List·Memᴰ·tail x, h) = (m, x, h)
 
+  -- and it is open exactly if no loop checks it
   first-open : (l : Line) (rest : List Line) (j k : ℕ) → Spells long marked ls (l ∷ rest) j (suc k) → l .number ≡ j → isOpen long marked j ≡ not (checked (l .number) ls)
   first-open l rest j k s e =
       ap (isOpen long marked) (sym e)
       ∙ ap₂ (λ (a b : Bool). not a && not b) (ne-eqb (getD long (l .number) 0) 0 (s .standing l (List·Memᴰ·head refl))) (s .marks l (List·Memᴰ·head refl))
 
+  -- a number below the first line's is no line's
   above-first : (l : Line) (rest : List Line) (j : ℕ) → Rising (l ∷ rest) → j < l .number → (m : Line) → List·Memᴰ m (l ∷ rest) → m .number ≡ j → ⊥
   above-first l rest j (then above r) lt m (List·Memᴰ·head p) h = omega (arith, ap (λ (x : Line). x .number) p)
   above-first l rest j (then above r) lt m (List·Memᴰ·tail i) h = omega (arith, above m i)
 
+  -- so the open numbers are those of the lines that no loop checks
   open-is-unchecked : (k : ℕ) (lines : List Line) (j : ℕ) → Spells long marked ls lines j k → openFrom long marked j k ≡ notChecked ls lines
   unfolding openFrom notChecked
   open-is-unchecked zero [] j s = refl

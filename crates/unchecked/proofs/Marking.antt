@@ -16,6 +16,7 @@ use Rattle.network.specs.Closing.{closing}
 use Rattle.network.proofs.ClosingLines.{closing-line-stands}
 use Rattle.network.proofs.Subgraph.{or-right}
 use Rattle.loops.specs.Crossed.{onWay, differ, crosses, crossed}
+use Rattle.loops.proofs.Ways.{differ-turn, same-differ}
 use Rattle.chains.specs.Chains.{fore, aft, numberLimit}
 use Rattle.subgraph.specs.Turn.{Queue, next-is}
 use Rattle.unchecked.specs.Ways.{checkedMark, isMarked, IsMark, TreeHeld, ClosingHeld, Climbed, Follows, Followed}
@@ -35,16 +36,6 @@ marked-set marked i lt j = go (ℕ-discrete j i)
         ap (λ (k : ℕ). eqb k checkedMark) (getD-set-other marked i j checkedMark 0 d) ∙ sym (or-false (isMarked marked j))
         ∙ ap (λ (t : Bool). isMarked marked j || t) (sym (ne-eqb i j (λ z. d (sym z))))
 
-differ-turn : (a b : Bool) → differ a b ≡ differ b a
-differ-turn true true = refl
-differ-turn true false = refl
-differ-turn false true = refl
-differ-turn false false = refl
-
-differ-same : (a : Bool) → differ a a ≡ false
-differ-same true = refl
-differ-same false = refl
-
 -- ---- two ways, followed so far
 
 -- the ways of u and v have been followed to the marks here and there, and the lines passed are marked
@@ -54,6 +45,7 @@ pub record Going (n : ℕ) (lines : List Line) (marked₀ : List ℕ) (u v : ℕ
   pub same : (j : ℕ) → (isMarked marked j || differ (onWay (tree (n - 1) lines) j here) (onWay (tree (n - 1) lines) j there))
       ≡ (isMarked marked₀ j || differ (onWay (tree (n - 1) lines) j u) (onWay (tree (n - 1) lines) j v))
 
+-- at the start nothing has been passed
 pub going-start : (n : ℕ) (lines : List Line) (marked : List ℕ) (u v : ℕ) → IsMark n u → IsMark n v → Going n lines marked u v marked u v
 going-start n lines marked u v iu iv = record { here-is = iu; there-is = iv; same = λ j. refl }
 
@@ -73,6 +65,7 @@ module _ {n : ℕ} {lines : List Line} {tip best : List ℕ} (t : TreeHeld n lin
 
   -- the mark here is farther than the mark there: one line of its way is passed
   module _ (farther : getD best there 0 < getD best here 0) where
+    -- it is no root, and its line leads nearer
     step : Step n lines tip best t here
     step = step-at n lines tip best t here (g .here-is) (omega arith)
 
@@ -80,6 +73,7 @@ module _ {n : ℕ} {lines : List Line} {tip best : List ℕ} (t : TreeHeld n lin
     pub climb-falls : {marked′ : List ℕ} {r : ℕ} → Climbed tip best marked marked′ here r → getD best r 0 < getD best here 0
     climb-falls c = omega (arith, step .falls, ap (λ (k : ℕ). getD best k 0) (c .nearer ∙ step .nearer))
 
+    -- the line passed is on this way and not on the other, and any other line is on the rest of this way exactly if it was on the whole
     passes : (i : ℕ) (a b w m : Bool) → a ≡ (eqb (step .l .number) i || w) → (eqb (step .l .number) i ≡ true → b ≡ false)
         → ((m || eqb (step .l .number) i) || differ w b) ≡ (m || differ a b)
     passes i a b w m p q = go (eqb (step .l .number) i) m p q
@@ -89,6 +83,7 @@ module _ {n : ℕ} {lines : List Line} {tip best : List ℕ} (t : TreeHeld n lin
         go true false p q = sym (ap₂ differ p (q refl))
         go false false p q = ap (λ (x : Bool). differ x b) (sym p)
 
+    -- what is marked and what is left stay together the same
     pub climb-going : {marked′ : List ℕ} {r : ℕ} → numberLimit ≤ length marked → Climbed tip best marked marked′ here r → Going n lines marked₀ u v marked′ r there
     climb-going {marked′ = marked′} {r = r} room c = record {
       here-is = subst (IsMark n) (sym r-is) (step .u-is);
@@ -114,7 +109,7 @@ module _ {n : ℕ} {lines : List Line} {tip best : List ℕ} (t : TreeHeld n lin
   pub going-end : getD best here 0 ≡ getD best there 0 → (j : ℕ) → isMarked marked j ≡ (isMarked marked₀ j || differ (onWay es j u) (onWay es j v))
   going-end e j =
       sym (or-false (isMarked marked j))
-      ∙ ap (λ (x : Bool). isMarked marked j || x) (sym (ap (λ (x : Bool). differ x (onWay es j there)) (meet n lines tip best t here there (g .here-is) (g .there-is) e j) ∙ differ-same (onWay es j there)))
+      ∙ ap (λ (x : Bool). isMarked marked j || x) (sym (ap (λ (x : Bool). differ x (onWay es j there)) (meet n lines tip best t here there (g .here-is) (g .there-is) e j) ∙ same-differ (onWay es j there) (onWay es j there) refl))
       ∙ g .same j
 
 -- whatever tree the arrays hold
@@ -124,6 +119,7 @@ Goes tip best marked₀ u v marked here there =
 
 -- and there is one
 module _ {tip best marked₀ : List ℕ} {u v : ℕ} (p : Follows tip best marked₀ u v) {marked : List ℕ} {here there : ℕ} (go : Goes tip best marked₀ u v marked here there) where
+  -- the tree that the caller has in mind
   its-going : Going (p .n) (p .lines) marked₀ u v marked here there
   its-going = go (p .n) (p .lines) (p .held) (p .u-is) (p .v-is)
 
@@ -158,6 +154,7 @@ module _ {n : ℕ} {lines : List Line} {tip best : List ℕ} (t : TreeHeld n lin
   pub small-number : number < numberLimit
   small-number = omega (arith, t .sound c isLine .number)
 
+  -- the line is marked, and so is what it crosses
   pub loop-checked : (marked marked′ : List ℕ) → numberLimit ≤ length marked
       → Followed tip best (set marked number checkedMark) marked′ (getD tip (number * 2 + 1) 0) (getD tip (number * 2) 0)
       → (j : ℕ) → isMarked marked′ j ≡ (isMarked marked j || (eqb (c .number) j || crosses (tree (n - 1) lines) j c))
@@ -182,6 +179,7 @@ module _ {n : ℕ} {lines : List Line} {tip best : List ℕ} (t : TreeHeld n lin
   abbrev whole : Tree
   whole = tree (n - 1) lines
 
+  -- at the start all are left and nothing is marked
   pub left-start : ClosingHeld n lines close count → {marked : List ℕ} → ((j : ℕ) → j < numberLimit → getD marked j 0 ≡ 0) → Left n lines close count marked 0
   left-start ch {marked = marked} z = record {
     rest = closing lines whole;
@@ -198,6 +196,7 @@ module _ {n : ℕ} {lines : List Line} {tip best : List ℕ} (t : TreeHeld n lin
     pub its : c .number ≡ getD close i 0
     pub next : {marked′ : List ℕ} → ((j : ℕ) → isMarked marked′ j ≡ (isMarked marked j || (eqb (c .number) j || crosses whole j c))) → Left n lines close count marked′ (i + 1)
 
+  -- as long as some are left there is one
   pub left-turn : {marked : List ℕ} {i : ℕ} → i < count → Left n lines close count marked i → Turn marked i
   unfolding crossed
   left-turn {marked = marked} {i = i} lt w = go (w .rest) (w .queue) (w .count-is) (w .stand) (w .same)
@@ -219,6 +218,7 @@ module _ {n : ℕ} {lines : List Line} {tip best : List ℕ} (t : TreeHeld n lin
         };
       }
 
+  -- once none is left, marked is what is crossed
   pub left-end : {marked : List ℕ} {i : ℕ} → count ≤ i → Left n lines close count marked i → (j : ℕ) → j < numberLimit → isMarked marked j ≡ crossed whole j (closing lines whole)
   unfolding crossed
   left-end {marked = marked} {i = i} le w j lt = go (w .rest) (w .count-is) (w .same j lt)

@@ -23,6 +23,7 @@ module _ {n : ℕ} {ls : List ℤ} (g : Good n ls) {tip long best order : List �
   abbrev q : ℕ
   q = length ls / 5 + 1
 
+  -- there are no more closing lines than lines
   few-to-close : length (closing (standing ls) (tree (n - 1) (standing ls))) ≤ length ls / 5
   few-to-close = omega (arith, few-closing n q tip long (g .some-mark) (omega arith) (standing ls) (p .listed))
 
@@ -55,6 +56,7 @@ module _ {n : ℕ} {ls : List ℤ} (g : Good n ls) {tip long best order : List �
       count-is = put .count ∙ length-numbers (closing (standing ls) (tree (n - 1) (standing ls)));
     }
 
+    -- and the list can be made
     pub list-ready : {marked out : List ℕ} → n ≤ length best → numberLimit ≤ length marked → length ls / 5 ≤ length out → length close′ ≡ length close
         → Ready tip long best close′ marked out count q
     list-ready bests marks outs kept = record {
