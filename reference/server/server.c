@@ -1,0 +1,174 @@
+/*
+ * Calls the functions of liblevel.a for a program on another processor, which cannot link it.
+ *
+ * Reads requests on standard input and answers each on standard output. A request is eight numbers
+ * (the call, b, t, loop or line, difference, and the counts of three slices), then the slices: held,
+ * lines, and the one that is left. Of level_read that one is the file, in bytes; all else is int64. The
+ * answer is eight numbers (up to six of the call's answer, and 1 if the call touched nothing but its
+ * outputs), then the slices as they are after the call.
+ *
+ * Every slice lies between guards, and those that are lent to be read are compared afterwards.
+ */
+#include "../../include/level.h"
+
+/* Of the C library. */
+extern long read(int, void *, unsigned long);
+extern long write(int, const void *, unsigned long);
+extern void *memcpy(void *, const void *, size_t);
+extern int memcmp(const void *, const void *, size_t);
+extern void *memset(void *, int, size_t);
+extern void _exit(int);
+
+/* An archive that has some of the calls can be linked too; those it has not must not be asked for. */
+#pragma weak level_read
+#pragma weak level_survey
+#pragma weak level_listing
+#pragma weak level_not_checked
+#pragma weak level_rerun
+#pragma weak level_withdraw
+#pragma weak level_adjust
+#pragma weak level_rate
+
+enum { READ, SURVEY, LISTING, NOT_CHECKED, RERUN, WITHDRAW, ADJUST, RATE };
+enum { HELD, LINES, THIRD, SLICES };
+enum { GUARD = 64, MOST = 1 << 17, CANARY = 0xA5 };
+
+/* A slice in bytes, between its guards, and as it was lent. */
+static unsigned char room[SLICES][GUARD + MOST + GUARD] __attribute__((aligned(64)));
+static unsigned char lent[SLICES][MOST];
+static size_t bytes[SLICES];
+
+static void get(void *into, size_t count)
+{
+    unsigned char *at = into;
+    while (count > 0) {
+        long got = read(0, at, count);
+        if (got <= 0)
+            _exit(got < 0);
+        at += got;
+        count -= (size_t)got;
+    }
+}
+
+static void put(const void *from, size_t count)
+{
+    const unsigned char *at = from;
+    while (count > 0) {
+        long put = write(1, at, count);
+        if (put <= 0)
+            _exit(1);
+        at += put;
+        count -= (size_t)put;
+    }
+}
+
+static int64_t *slice(int i)
+{
+    return (int64_t *)(void *)(room[i] + GUARD);
+}
+
+/* Takes a slice in, between guards. */
+static void take(int i, int64_t count, size_t size)
+{
+    if (count < 0 || (size_t)count > MOST / size)
+        _exit(2);
+    bytes[i] = (size_t)count * size;
+    memset(room[i], CANARY, GUARD + bytes[i] + GUARD);
+    get(slice(i), bytes[i]);
+    memcpy(lent[i], slice(i), bytes[i]);
+}
+
+static int guarded(int i)
+{
+    const unsigned char *after = room[i] + GUARD + bytes[i];
+    for (int k = 0; k < GUARD; k++)
+        if (room[i][k] != CANARY || after[k] != CANARY)
+            return 0;
+    return 1;
+}
+
+static int unchanged(int i)
+{
+    return memcmp(slice(i), lent[i], bytes[i]) == 0;
+}
+
+/* Whether a call may write a slice. */
+static int is_output(int64_t call, int i)
+{
+    switch (call) {
+    case READ:
+        return i != THIRD;
+    case RERUN:
+    case WITHDRAW:
+        return i != HELD;
+    case RATE:
+        return 0;
+    default:
+        return i == THIRD;
+    }
+}
+
+/* Makes a call; its answer goes to a. */
+static void make(const int64_t *q, int64_t *a)
+{
+    int64_t call = q[0], b = q[1], t = q[2], number = q[3], difference = q[4];
+    int64_t *held = slice(HELD), *lines = slice(LINES), *third = slice(THIRD);
+    size_t h = (size_t)q[5], l = (size_t)q[6], n = (size_t)q[7];
+    switch (call) {
+    case READ: {
+        struct ReadAnswer r = level_read(room[THIRD] + GUARD, n, held, h, lines, l);
+        a[0] = r.number, a[1] = r.place, a[2] = r.b, a[3] = r.t, a[4] = r.h, a[5] = r.n;
+        break;
+    }
+    case SURVEY:
+    case RERUN:
+    case WITHDRAW: {
+        struct Answer r =
+            call == SURVEY  ? level_survey(b, t, held, h, lines, l, third, n)
+            : call == RERUN ? level_rerun(b, t, held, h, lines, l, third, n, number, difference)
+                            : level_withdraw(b, t, held, h, lines, l, third, n, number);
+        a[0] = r.number, a[1] = r.place, a[2] = r.rows, a[3] = r.pieces;
+        break;
+    }
+    case LISTING:
+    case NOT_CHECKED: {
+        struct Listed r = call == LISTING
+                              ? level_listing(b, t, held, h, lines, l, number, third, n)
+                              : level_not_checked(b, t, held, h, lines, l, third, n);
+        a[0] = r.number, a[1] = r.place, a[2] = r.entries;
+        break;
+    }
+    case ADJUST: {
+        struct Adjusted r = level_adjust(b, t, held, h, lines, l, third, n);
+        a[0] = r.number, a[1] = r.place, a[2] = r.sweeps;
+        break;
+    }
+    case RATE: {
+        struct Rated r = level_rate(b, t, held, h, lines, l, third, n, number);
+        a[0] = r.number, a[1] = r.place, a[2] = r.line, a[3] = r.correction, a[4] = r.withdrawn;
+        memcpy(&a[5], &r.rate, sizeof r.rate);
+        break;
+    }
+    default:
+        _exit(2);
+    }
+}
+
+int main(void)
+{
+    for (;;) {
+        int64_t request[8], answer[8] = {0};
+        get(request, sizeof request);
+        take(HELD, request[5], sizeof(int64_t));
+        take(LINES, request[6], sizeof(int64_t));
+        take(THIRD, request[7], request[0] == READ ? 1 : sizeof(int64_t));
+        make(request, answer);
+        answer[6] = 1;
+        for (int i = 0; i < SLICES; i++)
+            if (!guarded(i) || (!is_output(request[0], i) && !unchanged(i)))
+                answer[6] = 0;
+        put(answer, sizeof answer);
+        for (int i = 0; i < SLICES; i++)
+            put(slice(i), bytes[i]);
+    }
+}

@@ -1,0 +1,145 @@
+//! What the calls answer, laid out as in `include/level.h`.
+
+/// A refusal by document 01's table.
+#[derive(Clone, Copy, Debug, PartialEq, Eq)]
+pub(crate) struct Refusal {
+    pub number: i64,
+    pub place: i64,
+}
+
+/// Refuses with a number, at no place.
+pub(crate) const fn refuse<T>(number: i64) -> Result<T, Refusal> {
+    refuse_at(number, 0)
+}
+
+/// Refuses with a number at a place.
+pub(crate) const fn refuse_at<T>(number: i64, place: i64) -> Result<T, Refusal> {
+    Err(Refusal { number, place })
+}
+
+/// The reader's answer.
+#[repr(C)]
+#[derive(Clone, Copy, Debug, Default, PartialEq, Eq)]
+pub struct ReadAnswer {
+    pub number: i64,
+    pub place: i64,
+    pub b: i64,
+    pub t: i64,
+    pub h: i64,
+    pub n: i64,
+}
+
+/// The answer of survey, re-run and withdrawal.
+#[repr(C)]
+#[derive(Clone, Copy, Debug, Default, PartialEq, Eq)]
+pub struct Answer {
+    pub number: i64,
+    pub place: i64,
+    pub rows: i64,
+    pub pieces: i64,
+}
+
+/// The answer of the two listings.
+#[repr(C)]
+#[derive(Clone, Copy, Debug, Default, PartialEq, Eq)]
+pub struct Listed {
+    pub number: i64,
+    pub place: i64,
+    pub entries: i64,
+}
+
+/// The answer of the adjustment.
+#[repr(C)]
+#[derive(Clone, Copy, Debug, Default, PartialEq, Eq)]
+pub struct Adjusted {
+    pub number: i64,
+    pub place: i64,
+    pub sweeps: i64,
+}
+
+/// A line's correction and rate, or that the line is withdrawn (1).
+#[repr(C)]
+#[derive(Clone, Copy, Debug, Default)]
+pub struct Rated {
+    pub number: i64,
+    pub place: i64,
+    pub line: i64,
+    pub correction: i64,
+    pub withdrawn: i64,
+    pub rate: f64,
+}
+
+/// Two answers are the same if their rates are, bit by bit.
+impl PartialEq for Rated {
+    fn eq(&self, other: &Rated) -> bool {
+        let numbers = |r: &Rated| [r.number, r.place, r.line, r.correction, r.withdrawn];
+        numbers(self) == numbers(other) && self.rate.to_bits() == other.rate.to_bits()
+    }
+}
+
+/// The eight calls, in the words and with the arguments of `include/level.h`.
+pub trait Level {
+    fn read(&mut self, file: &[u8], held: &mut [i64], lines: &mut [i64]) -> ReadAnswer;
+
+    fn survey(&mut self, b: i64, t: i64, held: &[i64], lines: &[i64], rows: &mut [i64]) -> Answer;
+
+    fn listing(
+        &mut self,
+        b: i64,
+        t: i64,
+        held: &[i64],
+        lines: &[i64],
+        number: i64,
+        out: &mut [i64],
+    ) -> Listed;
+
+    fn not_checked(
+        &mut self,
+        b: i64,
+        t: i64,
+        held: &[i64],
+        lines: &[i64],
+        out: &mut [i64],
+    ) -> Listed;
+
+    #[allow(clippy::too_many_arguments)]
+    fn rerun(
+        &mut self,
+        b: i64,
+        t: i64,
+        held: &[i64],
+        lines: &mut [i64],
+        report: &mut [i64],
+        line: i64,
+        difference: i64,
+    ) -> Answer;
+
+    fn withdraw(
+        &mut self,
+        b: i64,
+        t: i64,
+        held: &[i64],
+        lines: &mut [i64],
+        report: &mut [i64],
+        line: i64,
+    ) -> Answer;
+
+    fn adjust(
+        &mut self,
+        b: i64,
+        t: i64,
+        held: &[i64],
+        lines: &[i64],
+        heights: &mut [i64],
+    ) -> Adjusted;
+
+    fn rate(
+        &mut self,
+        b: i64,
+        t: i64,
+        held: &[i64],
+        lines: &[i64],
+        heights: &[i64],
+        line: i64,
+    ) -> Rated;
+}

@@ -1,0 +1,291 @@
+//! Times the calls of `liblevel.a` beside the reference's, by turns in one run.
+//!
+//!     bench [--seconds S]
+//!
+//! S is how long each call is timed on each book, 1 unless given. The reference finds paths by
+//! Dijkstra with a heap and an early stop, and its sweeps visit every free mark. Prints the best ns per
+//! call and the ratio archive / reference for each call and book, and for each call the geometric mean of
+//! its ratios and the worst.
+
+use reference::archive::Archive;
+use reference::trial::random::Random;
+use reference::trial::shapes::Shape;
+use reference::trial::Book;
+use reference::*;
+use std::hint::black_box;
+use std::process::ExitCode;
+use std::time::Instant;
+
+/// How often all calls and books are gone through; about how long one turn is, and how many turns
+/// a call has at least in each pass.
+const PASSES: usize = 10;
+const TURN_SECONDS: f64 = 0.0005;
+const FEWEST_TURNS: usize = 3;
+
+#[derive(Clone, Copy, Debug, PartialEq)]
+enum Kind {
+    Read,
+    Survey,
+    Listing,
+    NotChecked,
+    Rerun,
+    Withdraw,
+    Adjust,
+    Rate,
+}
+
+const KINDS: [(Kind, &str); 8] = [
+    (Kind::Read, "read"),
+    (Kind::Survey, "survey"),
+    (Kind::Listing, "listing"),
+    (Kind::NotChecked, "not-checked"),
+    (Kind::Rerun, "re-run"),
+    (Kind::Withdraw, "withdrawal"),
+    (Kind::Adjust, "adjustment"),
+    (Kind::Rate, "rate"),
+];
+
+/// Lines between the pairs by heights of the marks, with noise by the root of the length; mark 1 held.
+fn surveyed(random: &mut Random, shape: Shape, low: i64, high: i64) -> Book {
+    let heights: Vec<i64> =
+        (0..shape.marks).map(|_| random.within(-40_000_000, 40_000_000)).collect();
+    let mut lines = vec![];
+    for (from, to) in shape.pairs.into_iter().take(MAX_LINES) {
+        let length = random.within(low, high);
+        let spread = (3000.0 * (length as f64 / 1000.0).sqrt()) as i64;
+        let noise = random.within(-spread, spread) + random.within(-spread, spread);
+        let difference = heights[to as usize - 1] - heights[from as usize - 1] + noise;
+        lines.extend([from, to, difference.clamp(-MAX_DIFFERENCE, MAX_DIFFERENCE), length, 1]);
+    }
+    Book { b: shape.marks, t: 60, held: vec![1, heights[0]], lines }
+}
+
+fn random_shape(random: &mut Random) -> Shape {
+    Shape::tree(random, 256).with_lines(random, 257).mixed(random)
+}
+
+/// Two rings of 128 marks, and from each mark of the first two rungs to the second.
+fn rings() -> Shape {
+    let mut rings = Shape::rings_with_rungs(128, 128);
+    rings.pairs.extend((1..=128).map(|mark| (mark, 128 + mark % 128 + 1)));
+    rings
+}
+
+fn books() -> Vec<(&'static str, Book)> {
+    let random = &mut Random::new(1);
+    let random_lengths = random_shape(random);
+    let equal_lengths = random_shape(random);
+    let grid = Shape::grid(16, 16).mixed(random);
+    vec![
+        ("random 256/512", surveyed(random, random_lengths, MIN_LENGTH, MAX_LENGTH)),
+        ("equal lengths 256/512", surveyed(random, equal_lengths, 1000, 1000)),
+        ("grid 16x16", surveyed(random, grid, 500, 3000)),
+        ("512 parallel lines", surveyed(random, Shape::parallel(512), 1000, 2000)),
+        ("dense 33/512", surveyed(random, Shape::dense(33), 500, 3000)),
+        ("two rings with rungs", surveyed(random, rings(), 500, 3000)),
+        ("doubled ring", surveyed(random, Shape::ring(256).doubled(), 500, 3000)),
+    ]
+}
+
+/// A book with all that its calls are lent.
+#[derive(Clone)]
+struct Desk {
+    book: Book,
+    file: Vec<u8>,
+    report: Vec<i64>,
+    heights: Vec<i64>,
+    /// Lines and report that the corrections work on.
+    lines: Vec<i64>,
+    kept: Vec<i64>,
+    held_out: Vec<i64>,
+    lines_out: Vec<i64>,
+    out: Vec<i64>,
+    turn: usize,
+}
+
+impl Desk {
+    fn new(book: Book) -> Self {
+        let mut reference = Reference::new();
+        let Book { b, t, held, lines } = &book;
+        let mut report = vec![0; ROW * MAX_LINES];
+        let rows = reference.survey(*b, *t, held, lines, &mut report).rows;
+        report.truncate(ROW * rows as usize);
+        let mut heights = vec![0; *b as usize];
+        reference.adjust(*b, *t, held, lines, &mut heights);
+        Desk {
+            file: book.file(),
+            lines: lines.clone(),
+            kept: report.clone(),
+            held_out: vec![0; HELD * MAX_HELD],
+            lines_out: vec![0; LINE * MAX_LINES],
+            out: vec![0; ROW * MAX_LINES],
+            turn: 0,
+            report,
+            heights,
+            book,
+        }
+    }
+
+    fn loops(&self) -> i64 {
+        (self.report.len() / ROW) as i64
+    }
+
+    /// Makes a call once; gives the numbers of its answer.
+    fn call(&mut self, level: &mut impl Level, kind: Kind) -> [i64; 3] {
+        let last = self.loops();
+        let Book { b, t, ref held, ref lines } = self.book;
+        self.turn = (self.turn + 1) % (lines.len() / LINE);
+        let line = self.turn as i64 + 1;
+        let answer = |a: Answer| [a.number, a.rows, a.pieces];
+        match kind {
+            Kind::Read => {
+                let a = level.read(&self.file, &mut self.held_out, &mut self.lines_out);
+                [a.number, a.h, a.n]
+            }
+            Kind::Survey => answer(level.survey(b, t, held, lines, &mut self.out)),
+            Kind::Listing => {
+                let a = level.listing(b, t, held, lines, last, &mut self.out);
+                [a.number, a.place, a.entries]
+            }
+            Kind::NotChecked => {
+                let a = level.not_checked(b, t, held, lines, &mut self.out);
+                [a.number, a.place, a.entries]
+            }
+            Kind::Rerun => {
+                let now = self.lines[LINE * self.turn + 2];
+                let new = if now == MAX_DIFFERENCE { now - 1 } else { now + 1 };
+                let (lines, report) = (&mut self.lines, &mut self.kept);
+                answer(level.rerun(b, t, held, lines, report, line, new))
+            }
+            Kind::Withdraw => {
+                self.lines.copy_from_slice(lines);
+                self.kept.copy_from_slice(&self.report);
+                answer(level.withdraw(b, t, held, &mut self.lines, &mut self.kept, line))
+            }
+            Kind::Adjust => {
+                let a = level.adjust(b, t, held, lines, &mut self.out);
+                [a.number, a.place, a.sweeps]
+            }
+            Kind::Rate => {
+                let a = level.rate(b, t, held, lines, &self.heights, line);
+                [a.number, a.correction, a.rate.to_bits() as i64]
+            }
+        }
+    }
+
+    /// Seconds that one of so many calls takes.
+    fn time(&mut self, level: &mut impl Level, kind: Kind, calls: u64) -> f64 {
+        let start = Instant::now();
+        for _ in 0..calls {
+            black_box(self.call(level, kind));
+        }
+        start.elapsed().as_secs_f64() / calls as f64
+    }
+}
+
+/// A call on a book, and the best times of archive and reference so far.
+struct Race {
+    kind: Kind,
+    name: &'static str,
+    ours: Desk,
+    theirs: Desk,
+    archive: f64,
+    reference: f64,
+}
+
+impl Race {
+    fn new(desk: &Desk, kind: Kind, name: &'static str) -> Self {
+        let (ours, theirs) = (desk.clone(), desk.clone());
+        Race { kind, name, ours, theirs, archive: f64::MAX, reference: f64::MAX }
+    }
+
+    fn ratio(&self) -> f64 {
+        self.archive / self.reference
+    }
+
+    /// Whether both answer the same.
+    fn same(&mut self, reference: &mut Reference) -> bool {
+        let (ours, theirs) = (&mut self.ours, &mut self.theirs);
+        ours.call(&mut Archive, self.kind) == theirs.call(reference, self.kind)
+            && (&ours.out, &ours.lines, &ours.kept) == (&theirs.out, &theirs.lines, &theirs.kept)
+    }
+
+    /// Times both by turns.
+    fn run(&mut self, reference: &mut Reference, seconds: f64) {
+        let kind = self.kind;
+        let once = self.theirs.time(reference, kind, 1);
+        let calls = ((TURN_SECONDS / once.max(1e-8)) as u64).max(1);
+        let start = Instant::now();
+        let mut turns = 0;
+        while turns < FEWEST_TURNS || start.elapsed().as_secs_f64() < seconds {
+            self.archive = self.archive.min(self.ours.time(&mut Archive, kind, calls));
+            self.reference = self.reference.min(self.theirs.time(reference, kind, calls));
+            turns += 1;
+        }
+    }
+}
+
+fn seconds() -> f64 {
+    let words: Vec<String> = std::env::args().skip(1).collect();
+    match &words[..] {
+        [name, value] if name == "--seconds" => value.parse().unwrap_or(1.0),
+        _ => 1.0,
+    }
+}
+
+fn print_races(races: &[Race]) {
+    for race in races {
+        let (ours, theirs) = (race.archive * 1e9, race.reference * 1e9);
+        let (name, ratio) = (race.name, race.ratio());
+        println!("  {name:12} archive {ours:12.0}   reference {theirs:12.0}   ratio {ratio:6.2}");
+    }
+}
+
+/// For each call the geometric mean of its ratios, and the worst with its book.
+fn print_means(books: &[(&str, Vec<Race>)]) {
+    println!("{:12} mean of ratios   worst", "");
+    for (kind, name) in KINDS {
+        let of_kind = |races: &[Race]| races.iter().find(|race| race.kind == kind).map(Race::ratio);
+        let ratios: Vec<(f64, &str)> =
+            books.iter().filter_map(|(book, races)| Some((of_kind(races)?, *book))).collect();
+        let logs: f64 = ratios.iter().map(|(ratio, _)| ratio.ln()).sum();
+        let mean = (logs / ratios.len() as f64).exp();
+        if let Some((worst, book)) = ratios.iter().max_by(|x, y| x.0.total_cmp(&y.0)) {
+            println!("{name:12} {mean:14.2}  {worst:6.2}  {book}");
+        }
+    }
+}
+
+fn main() -> ExitCode {
+    let seconds = seconds();
+    let mut reference = Reference::new();
+    let mut races: Vec<(&str, Vec<Race>)> = vec![];
+    for (book, content) in books() {
+        let desk = Desk::new(content);
+        let of_book = KINDS.map(|(kind, name)| Race::new(&desk, kind, name));
+        races.push((book, of_book.into()));
+    }
+    for (book, of_book) in &mut races {
+        for race in of_book {
+            if !race.same(&mut reference) {
+                println!("{book}: {} DIFFERS", race.name);
+                return ExitCode::FAILURE;
+            }
+        }
+    }
+    // Several passes over all, so that what disturbs one for a while does not decide.
+    for _ in 0..PASSES {
+        for race in races.iter_mut().flat_map(|(_, of_book)| of_book) {
+            race.run(&mut reference, seconds / PASSES as f64);
+        }
+    }
+    println!("ns per call, the best of all turns");
+    for (book, of_book) in &races {
+        let desk = &of_book[0].ours;
+        let (marks, lines) = (desk.book.b, desk.book.lines_count());
+        println!("{book}: {marks} marks, {lines} lines, {} loops", desk.loops());
+        print_races(of_book);
+    }
+    print_means(&races);
+    ExitCode::SUCCESS
+}

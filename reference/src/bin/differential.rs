@@ -1,0 +1,324 @@
+//! Drives every call of `liblevel.a` and the reference with the same inputs and compares every answer
+//! and every lent buffer.
+//!
+//!     differential [--seed N] [--calls N] [--report COMMAND] [--files N] [--through COMMAND]
+//!                  [--only NAME,NAME..]
+//!
+//! With `--report`, the program that the command starts is given files on standard input, one for every
+//! fifty calls or as many as `--files` says, and what it writes is compared with the reference's text.
+//! With `--through`, the archive is reached through the server that the command starts. With `--only`,
+//! calls of these names alone are compared. Prints the seed and what was compared; on a difference prints
+//! the call, both answers and the smallest such call that it finds, and exits with 1.
+
+use reference::bridge::Bridge;
+use reference::trial::asks::{every_ask, new_difference, room};
+use reference::trial::call::{lay_out, make, own_report, KINDS};
+use reference::trial::call::{Ask, Call, Given, Inputs, Kept, Outcome};
+use reference::trial::damage::{damage_book, damage_file, long_file};
+use reference::trial::random::Random;
+use reference::trial::shapes::good_book;
+use reference::trial::shrink::shrink;
+use reference::trial::words::{arguments, print_book, print_file};
+use reference::trial::{program, Book};
+use reference::*;
+use std::process::ExitCode;
+
+/// Answers are counted by number: 0 for done, and the refusals.
+const NUMBERS: usize = 14;
+/// Corrections in a chain on a book that is too large to be emptied.
+const LONG_CHAIN: usize = 12;
+
+struct Options {
+    seed: u64,
+    calls: usize,
+    report: Option<String>,
+    files: usize,
+    through: Option<String>,
+    only: Option<Vec<String>>,
+}
+
+fn options() -> Result<Options, String> {
+    let mut options =
+        Options { seed: 1, calls: 20_000, report: None, files: 0, through: None, only: None };
+    let mut files = None;
+    let mut words = std::env::args().skip(1);
+    while let Some(word) = words.next() {
+        let value = words.next().ok_or(format!("{word} needs a value"))?;
+        let number = || value.parse::<u64>().map_err(|_| format!("{word} needs a number"));
+        match word.as_str() {
+            "--seed" => options.seed = number()?,
+            "--calls" => options.calls = number()? as usize,
+            "--report" => options.report = Some(value),
+            "--files" => files = Some(number()? as usize),
+            "--through" => options.through = Some(value),
+            "--only" => options.only = Some(call_names(&value)?),
+            _ => return Err(format!("unknown option {word}")),
+        }
+    }
+    options.files = files.unwrap_or(options.calls / 50);
+    Ok(options)
+}
+
+/// Names of calls with commas between them.
+fn call_names(names: &str) -> Result<Vec<String>, String> {
+    let calls = &KINDS[..KINDS.len() - 1];
+    match names.split(',').find(|name| !calls.contains(name)) {
+        Some(name) => Err(format!("there is no call {name}; there are {}", calls.join(", "))),
+        None => Ok(names.split(',').map(String::from).collect()),
+    }
+}
+
+#[cfg(feature = "archive")]
+fn linked() -> Result<Box<dyn Level>, String> {
+    Ok(Box::new(reference::archive::Archive))
+}
+
+#[cfg(not(feature = "archive"))]
+fn linked() -> Result<Box<dyn Level>, String> {
+    Err("built without the archive, so --through must name a server".to_string())
+}
+
+/// The library to test: linked, or through a server.
+fn library(options: &Options) -> Result<Box<dyn Level>, String> {
+    match &options.through {
+        Some(command) => Ok(Box::new(Bridge::new(command))),
+        None => linked(),
+    }
+}
+
+fn main() -> ExitCode {
+    let test = options().and_then(|options| Ok(Test::new(library(&options)?, options)));
+    let mut test = match test {
+        Ok(test) => test,
+        Err(message) => {
+            eprintln!("differential: {message}");
+            return ExitCode::from(2);
+        }
+    };
+    println!("seed {}", test.options.seed);
+    let result = test.run();
+    test.print_counts();
+    match result {
+        Ok(()) => {
+            println!("{} calls compared, no difference", test.compared());
+            ExitCode::SUCCESS
+        }
+        Err(call) => {
+            println!("DIFFERENCE after {} calls", test.compared());
+            test.print_call(&call);
+            let smallest = shrink(*call, |smaller| test.both(smaller).differ());
+            println!("SMALLEST FOUND");
+            test.print_call(&smallest);
+            ExitCode::FAILURE
+        }
+    }
+}
+
+/// One call made on both: what it was lent, and what came of it.
+struct Both {
+    inputs: Inputs,
+    archive: Outcome,
+    reference: Outcome,
+}
+
+impl Both {
+    /// Whether answer or buffers differ, or a refused call has changed a buffer.
+    fn differ(&self) -> bool {
+        let refused = self.archive.given.number() != 0;
+        self.archive != self.reference || refused && self.archive.buffers != self.inputs.buffers
+    }
+}
+
+/// A call on which archive and reference differ.
+type Different = Box<Call>;
+
+struct Test {
+    random: Random,
+    archive: Box<dyn Level>,
+    reference: Reference,
+    options: Options,
+    /// How many calls of each kind were answered with each number.
+    counts: [[usize; NUMBERS]; KINDS.len()],
+}
+
+impl Test {
+    fn new(archive: Box<dyn Level>, options: Options) -> Self {
+        let random = Random::new(options.seed);
+        let counts = [[0; NUMBERS]; KINDS.len()];
+        Test { random, archive, reference: Reference::new(), options, counts }
+    }
+
+    fn compared(&self) -> usize {
+        self.counts.iter().flatten().sum()
+    }
+
+    /// Rounds of calls on good books, damaged books, files and chains of corrections.
+    fn run(&mut self) -> Result<(), Different> {
+        while self.compared() < self.options.calls {
+            match self.random.below(8) {
+                0..=2 => {
+                    let book = good_book(&mut self.random);
+                    self.every_call(book)?;
+                }
+                3 | 4 => {
+                    let mut book = good_book(&mut self.random);
+                    damage_book(&mut self.random, &mut book);
+                    self.every_call(book)?;
+                }
+                5 | 6 => self.files()?,
+                _ => self.chain()?,
+            }
+        }
+        Ok(())
+    }
+
+    fn every_call(&mut self, book: Book) -> Result<(), Different> {
+        for ask in every_ask(&mut self.random, &mut self.reference, &book) {
+            self.compare(Call::Ask { book: book.clone(), ask })?;
+        }
+        Ok(())
+    }
+
+    /// Files of good and damaged books, whole and damaged.
+    fn files(&mut self) -> Result<(), Different> {
+        let mut kinds = [0, 1, 2, 3, 4, 5];
+        self.random.shuffle(&mut kinds);
+        for kind in kinds {
+            let random = &mut self.random;
+            let mut book = good_book(random);
+            if kind == 1 {
+                damage_book(random, &mut book);
+            }
+            let mut file = book.file();
+            match kind {
+                2..=4 => damage_file(random, &mut file),
+                5 => file = long_file(random, file),
+                _ => {}
+            }
+            let (held_room, lines_room) = (room(random), room(random));
+            if self.report_is_due() {
+                self.compare(Call::Report { file: file.clone() })?;
+            }
+            self.compare(Call::Read { file, held_room, lines_room })?;
+        }
+        Ok(())
+    }
+
+    /// Whether the report program has had fewer files than its share of the calls so far.
+    fn report_is_due(&self) -> bool {
+        let had: usize = self.counts[KINDS.len() - 1].iter().sum();
+        let share = self.options.files * self.compared() / self.options.calls.max(1);
+        self.options.report.is_some() && had <= share && had < self.options.files
+    }
+
+    /// Corrections one after the other with the kept report, as a rule until no line stands.
+    fn chain(&mut self) -> Result<(), Different> {
+        let mut book = good_book(&mut self.random);
+        let mut report = own_report(&mut self.reference, &book);
+        report.extend([-1, -2, -3]);
+        let most = if book.lines_count() > 100 { LONG_CHAIN } else { usize::MAX };
+        for _ in 0..most {
+            let standing = standing(&book);
+            if standing.is_empty() {
+                break;
+            }
+            let line = self.random.pick(&standing);
+            let kept = Kept { rows: Some(report), ..Kept::default() };
+            let ask = if self.random.once_in(3) {
+                Ask::Rerun { kept, line, difference: new_difference(&mut self.random) }
+            } else {
+                Ask::Withdraw { kept, line }
+            };
+            let corrected = self.compare(Call::Ask { book: book.clone(), ask })?;
+            book.lines = corrected.buffers[1].numbers().to_vec();
+            report = corrected.buffers[2].numbers().to_vec();
+        }
+        self.every_call(book)
+    }
+
+    /// Whether calls of this name are to be compared.
+    fn wanted(&self, name: &str) -> bool {
+        self.options.only.as_ref().is_none_or(|only| only.iter().any(|one| one == name))
+    }
+
+    /// Makes a call on both, compares and counts it; one that is not wanted on the reference alone.
+    fn compare(&mut self, call: Call) -> Result<Outcome, Different> {
+        if !self.wanted(KINDS[call.kind()]) {
+            let inputs = lay_out(&mut self.reference, &call);
+            return Ok(make(&mut self.reference, &call, &inputs));
+        }
+        let both = self.both(&call);
+        if both.differ() {
+            return Err(Box::new(call));
+        }
+        let number = both.reference.given.number() as usize;
+        self.counts[call.kind()][number] += 1;
+        Ok(both.reference)
+    }
+
+    fn both(&mut self, call: &Call) -> Both {
+        let inputs = lay_out(&mut self.reference, call);
+        let (archive, reference) = match call {
+            Call::Report { file } => {
+                let command = self.options.report.as_deref().unwrap_or_default();
+                (text(&program::run(command, file)), text(&self.reference.report(file)))
+            }
+            _ => {
+                let archive = make(self.archive.as_mut(), call, &inputs);
+                (archive, make(&mut self.reference, call, &inputs))
+            }
+        };
+        Both { inputs, archive, reference }
+    }
+
+    fn print_counts(&self) {
+        for (kind, counts) in KINDS.iter().zip(&self.counts) {
+            let all: usize = counts.iter().sum();
+            if all == 0 {
+                continue;
+            }
+            let refused = (1..NUMBERS).filter(|&number| counts[number] > 0);
+            let refused: Vec<String> =
+                refused.map(|number| format!("{number}: {}", counts[number])).collect();
+            println!("{kind:18} {all:7}   done {:7}   refused {}", counts[0], refused.join(", "));
+        }
+    }
+
+    /// Prints a call with all it is lent, both answers, and where the buffers differ.
+    fn print_call(&mut self, call: &Call) {
+        const MOST: usize = 8;
+        let both = self.both(call);
+        println!("{} {}", KINDS[call.kind()], arguments(call));
+        match call {
+            Call::Read { file, .. } | Call::Report { file } => print_file(file),
+            Call::Ask { book, .. } => print_book(book),
+        }
+        for buffer in &both.inputs.buffers {
+            println!("  lent {}: {} places", buffer.name, buffer.numbers().len());
+        }
+        println!("  archive:   {:?}", both.archive.given);
+        println!("  reference: {:?}", both.reference.given);
+        let after = both.archive.buffers.iter().zip(&both.reference.buffers);
+        for ((archive, reference), before) in after.zip(&both.inputs.buffers) {
+            for (place, ours, theirs) in archive.differences(reference).take(MOST) {
+                println!("  {}[{place}]: archive {ours}, reference {theirs}", archive.name);
+            }
+            if both.archive.given.number() != 0 {
+                for (place, now, then) in archive.differences(before).take(MOST) {
+                    println!("  {}[{place}]: refused, yet {then} became {now}", archive.name);
+                }
+            }
+        }
+    }
+}
+
+/// The numbers of a book's standing lines.
+fn standing(book: &Book) -> Vec<i64> {
+    let lines = (1..).zip(book.lines.chunks_exact(LINE));
+    lines.filter(|(_, line)| line[4] == 1).map(|(number, _)| number).collect()
+}
+
+/// What a program wrote.
+fn text(bytes: &[u8]) -> Outcome {
+    Outcome { given: Given::Text(String::from_utf8_lossy(bytes).into_owned()), buffers: vec![] }
+}

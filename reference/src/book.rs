@@ -1,0 +1,151 @@
+//! The book: its tests (refusals 4, 6 and 7), and its file.
+
+use crate::answers::{refuse, refuse_at, Refusal};
+use crate::*;
+
+/// The numbers in the head of a file.
+pub(crate) struct Head {
+    pub b: i64,
+    pub t: i64,
+    pub h: usize,
+    pub n: usize,
+}
+
+/// Whether x is -limit to limit.
+pub(crate) fn within(x: i64, limit: i64) -> bool {
+    (-limit..=limit).contains(&x)
+}
+
+/// 4, of the four numbers in a book's head.
+fn test_head(b: i64, t: i64, h: usize, n: usize) -> Result<(), Refusal> {
+    let marks = (1..=MAX_MARKS as i64).contains(&b);
+    let tolerance = (1..=MAX_TOLERANCE).contains(&t);
+    if marks && tolerance && h <= MAX_HELD && n <= MAX_LINES {
+        Ok(())
+    } else {
+        refuse(4)
+    }
+}
+
+/// 6: the first entry whose mark or height is outside, or whose mark an earlier entry holds.
+fn test_held(b: i64, held: &[i64]) -> Result<(), Refusal> {
+    let mut seen = [false; MAX_MARKS + 1];
+    for (i, entry) in held.chunks_exact(HELD).enumerate() {
+        let (mark, height) = (entry[0], entry[1]);
+        let good = (1..=b).contains(&mark) && within(height, MAX_HELD_HEIGHT);
+        if !good || seen[mark as usize] {
+            return refuse_at(6, i as i64 + 1);
+        }
+        seen[mark as usize] = true;
+    }
+    Ok(())
+}
+
+/// 7: the first line with a number outside; withdrawn lines are tested too.
+fn test_lines(b: i64, lines: &[i64]) -> Result<(), Refusal> {
+    for (i, line) in lines.chunks_exact(LINE).enumerate() {
+        let ends = (1..=b).contains(&line[0]) && (1..=b).contains(&line[1]) && line[0] != line[1];
+        let difference = within(line[2], MAX_DIFFERENCE);
+        let length = (MIN_LENGTH..=MAX_LENGTH).contains(&line[3]);
+        let standing = line[4] == 0 || line[4] == 1;
+        if !(ends && difference && length && standing) {
+            return refuse_at(7, i as i64 + 1);
+        }
+    }
+    Ok(())
+}
+
+/// 4, 6 and 7, in that order, of a book in memory.
+pub(crate) fn test_book(b: i64, t: i64, held: &[i64], lines: &[i64]) -> Result<(), Refusal> {
+    if !held.len().is_multiple_of(HELD) || !lines.len().is_multiple_of(LINE) {
+        return refuse(4);
+    }
+    test_head(b, t, held.len() / HELD, lines.len() / LINE)?;
+    test_held(b, held)?;
+    test_lines(b, lines)
+}
+
+/// The first two, four and eight bytes, big-endian.
+fn be16(s: &[u8]) -> u16 {
+    u16::from_be_bytes([s[0], s[1]])
+}
+
+fn be32(s: &[u8]) -> u32 {
+    u32::from_be_bytes([s[0], s[1], s[2], s[3]])
+}
+
+fn be64(s: &[u8]) -> u64 {
+    (be32(s) as u64) << 32 | be32(&s[4..]) as u64
+}
+
+/// 1 to 5, in that order.
+fn read_head(file: &[u8]) -> Result<Head, Refusal> {
+    if file.len() < HEAD_BYTES {
+        return refuse(1);
+    }
+    if be32(file) as usize != file.len() {
+        return refuse(2);
+    }
+    if file[4] != 1 {
+        return refuse(3);
+    }
+    let (t, b) = (be16(&file[5..]) as i64, be16(&file[7..]) as i64);
+    let (h, n) = (be16(&file[9..]) as usize, be16(&file[11..]) as usize);
+    test_head(b, t, h, n)?;
+    if file.len() != HEAD_BYTES + HELD_BYTES * h + LINE_BYTES * n {
+        return refuse(5);
+    }
+    Ok(Head { b, t, h, n })
+}
+
+/// Reads a file into lent buffers. Nothing is written unless the whole file is good.
+pub(crate) fn read(file: &[u8], held: &mut [i64], lines: &mut [i64]) -> Result<Head, Refusal> {
+    let head = read_head(file)?;
+    let (held_part, line_part) = file[HEAD_BYTES..].split_at(HELD_BYTES * head.h);
+    let mut held_room = [0; HELD * MAX_HELD];
+    let mut line_room = [0; LINE * MAX_LINES];
+    let new_held = &mut held_room[..HELD * head.h];
+    let new_lines = &mut line_room[..LINE * head.n];
+    for (bytes, entry) in held_part.chunks_exact(HELD_BYTES).zip(new_held.chunks_exact_mut(HELD)) {
+        entry[0] = be16(bytes) as i64;
+        entry[1] = be64(&bytes[2..]) as i64;
+    }
+    for (bytes, line) in line_part.chunks_exact(LINE_BYTES).zip(new_lines.chunks_exact_mut(LINE)) {
+        line[0] = be16(bytes) as i64;
+        line[1] = be16(&bytes[2..]) as i64;
+        line[2] = be32(&bytes[4..]) as i32 as i64;
+        line[3] = be32(&bytes[8..]) as i64;
+        line[4] = 1;
+    }
+    test_held(head.b, new_held)?;
+    test_lines(head.b, new_lines)?;
+    if held.len() < new_held.len() || lines.len() < new_lines.len() {
+        return refuse(10);
+    }
+    held[..new_held.len()].copy_from_slice(new_held);
+    lines[..new_lines.len()].copy_from_slice(new_lines);
+    Ok(head)
+}
+
+/// The file of a book, good or not, all its lines standing: what does not fit is cut to its last bytes.
+pub fn write(b: i64, t: i64, held: &[i64], lines: &[i64]) -> Vec<u8> {
+    let (h, n) = (held.len() / HELD, lines.len() / LINE);
+    let size = HEAD_BYTES + HELD_BYTES * h + LINE_BYTES * n;
+    let mut file = Vec::with_capacity(size);
+    file.extend((size as u32).to_be_bytes());
+    file.push(1);
+    for number in [t, b, h as i64, n as i64] {
+        file.extend((number as u16).to_be_bytes());
+    }
+    for entry in held.chunks_exact(HELD) {
+        file.extend((entry[0] as u16).to_be_bytes());
+        file.extend(entry[1].to_be_bytes());
+    }
+    for line in lines.chunks_exact(LINE) {
+        file.extend((line[0] as u16).to_be_bytes());
+        file.extend((line[1] as u16).to_be_bytes());
+        file.extend((line[2] as i32).to_be_bytes());
+        file.extend((line[3] as u32).to_be_bytes());
+    }
+    file
+}

@@ -1,0 +1,324 @@
+//! The calls on a book in memory: survey, listings, re-run and withdrawal.
+
+use crate::answers::{refuse, Refusal};
+use crate::book::{self, test_book, within};
+use crate::network::Network;
+use crate::*;
+
+/// The reference implementation: room for the work of one call.
+pub struct Reference {
+    pub(crate) network: Box<Network>,
+    /// Rows that have the line of a re-run, each with the sense in which they run it.
+    touched: Vec<(usize, i64)>,
+}
+
+impl Default for Reference {
+    fn default() -> Self {
+        Self::new()
+    }
+}
+
+/// A book as it is lent to be read.
+#[derive(Clone, Copy)]
+pub(crate) struct Lent<'a> {
+    pub b: i64,
+    pub t: i64,
+    pub held: &'a [i64],
+    pub lines: &'a [i64],
+}
+
+impl Lent<'_> {
+    /// 4, 6 and 7.
+    pub fn test(&self) -> Result<(), Refusal> {
+        test_book(self.b, self.t, self.held, self.lines)
+    }
+
+    /// A line's five numbers, or 8.
+    pub fn line(&self, number: i64) -> Result<&[i64], Refusal> {
+        if number < 1 || number > (self.lines.len() / LINE) as i64 {
+            return refuse(8);
+        }
+        Ok(&self.lines[LINE * (number as usize - 1)..][..LINE])
+    }
+
+    /// 8, of a line to be corrected.
+    fn test_standing(&self, number: i64) -> Result<(), Refusal> {
+        if self.line(number)?[4] == 0 {
+            return refuse(8);
+        }
+        Ok(())
+    }
+}
+
+/// Rows and pieces of a book.
+type Counts = (usize, usize);
+
+impl Reference {
+    pub fn new() -> Self {
+        Reference { network: Box::new(Network::new()), touched: Vec::with_capacity(MAX_LINES) }
+    }
+
+    fn counts(&self) -> Counts {
+        (self.network.rows, self.network.pieces)
+    }
+
+    /// Works every row out into the lent ones.
+    fn fill(&mut self, t: i64, rows: &mut [i64]) {
+        for (i, row) in rows.chunks_exact_mut(ROW).take(self.network.rows).enumerate() {
+            row.copy_from_slice(&self.network.take(i, t));
+        }
+    }
+
+    fn try_survey(&mut self, book: Lent, rows: &mut [i64]) -> Result<Counts, Refusal> {
+        book.test()?;
+        self.network.load(book.b, book.lines);
+        if rows.len() < ROW * self.network.rows {
+            return refuse(10);
+        }
+        self.fill(book.t, rows);
+        Ok(self.counts())
+    }
+
+    fn try_listing(&mut self, book: Lent, number: i64, out: &mut [i64]) -> Result<usize, Refusal> {
+        book.test()?;
+        self.network.load(book.b, book.lines);
+        if number < 1 || number > self.network.rows as i64 {
+            return refuse(8);
+        }
+        let mut row = [0; ROW];
+        for i in 0..number as usize {
+            row = self.network.take(i, book.t);
+        }
+        let count = row[1] as usize;
+        if out.len() < count {
+            return refuse(10);
+        }
+        out[0] = row[0];
+        for (place, &signed) in out[1..].iter_mut().zip(self.network.search.path()) {
+            *place = signed as i64;
+        }
+        Ok(count)
+    }
+
+    fn try_not_checked(&mut self, book: Lent, out: &mut [i64]) -> Result<usize, Refusal> {
+        book.test()?;
+        self.network.load(book.b, book.lines);
+        let off = self.network.off_circuits();
+        let count = off.iter().filter(|&&is_off| is_off).count();
+        if out.len() < count {
+            return refuse(10);
+        }
+        let numbers = off.iter().zip(1..).filter(|(&is_off, _)| is_off).map(|(_, number)| number);
+        for (place, number) in out.iter_mut().zip(numbers) {
+            *place = number;
+        }
+        Ok(count)
+    }
+
+    /// 9, of the lent report of the loaded book; `each` is called with every row's number from 0 and
+    /// the network that has just taken it.
+    fn test_report(
+        &mut self,
+        t: i64,
+        report: &[i64],
+        mut each: impl FnMut(usize, i64, &Network),
+    ) -> Result<(), Refusal> {
+        if report.len() < ROW * self.network.rows {
+            return refuse(9);
+        }
+        for i in 0..self.network.rows {
+            let row = self.network.take(i, t);
+            if report[ROW * i..][..ROW] != row {
+                return refuse(9);
+            }
+            each(i, row[0], &self.network);
+        }
+        Ok(())
+    }
+
+    fn try_rerun(
+        &mut self,
+        book: Lent,
+        report: &[i64],
+        line: i64,
+        difference: i64,
+    ) -> Result<Counts, Refusal> {
+        if !within(difference, MAX_DIFFERENCE) {
+            return refuse(4);
+        }
+        book.test()?;
+        book.test_standing(line)?;
+        self.network.load(book.b, book.lines);
+        let mut touched = std::mem::take(&mut self.touched);
+        touched.clear();
+        let tested = self.test_report(book.t, report, |i, closing, network| {
+            let path = network.search.path();
+            if closing == line || path.contains(&(line as i32)) {
+                touched.push((i, 1));
+            } else if path.contains(&-(line as i32)) {
+                touched.push((i, -1));
+            }
+        });
+        self.touched = touched;
+        tested?;
+        Ok(self.counts())
+    }
+
+    fn try_withdraw(&mut self, book: Lent, report: &[i64], line: i64) -> Result<Counts, Refusal> {
+        book.test()?;
+        book.test_standing(line)?;
+        self.network.load(book.b, book.lines);
+        self.test_report(book.t, report, |_, _, _| {})?;
+        Ok(self.counts())
+    }
+
+    /// The report program's text for a file; at most 16,384 bytes of it count.
+    pub fn report(&mut self, file: &[u8]) -> Vec<u8> {
+        text::report(&mut self.network, file)
+    }
+
+    /// Tree lines of a good book in their order of entry; of a refused one none.
+    pub fn tree(&mut self, b: i64, t: i64, held: &[i64], lines: &[i64]) -> Vec<i64> {
+        if test_book(b, t, held, lines).is_err() {
+            return Vec::new();
+        }
+        self.network.load(b, lines);
+        let network = &self.network;
+        let entered = network.order[..network.marks].iter().map(|&m| network.up_line[m as usize]);
+        entered.filter(|&line| line != network::NONE).map(|line| line as i64 + 1).collect()
+    }
+}
+
+fn answer(counts: Result<Counts, Refusal>) -> Answer {
+    match counts {
+        Ok((rows, pieces)) => {
+            Answer { rows: rows as i64, pieces: pieces as i64, ..Answer::default() }
+        }
+        Err(Refusal { number, place }) => Answer { number, place, ..Answer::default() },
+    }
+}
+
+fn listed(count: Result<usize, Refusal>) -> Listed {
+    match count {
+        Ok(entries) => Listed { entries: entries as i64, ..Listed::default() },
+        Err(Refusal { number, place }) => Listed { number, place, ..Listed::default() },
+    }
+}
+
+impl Level for Reference {
+    fn read(&mut self, file: &[u8], held: &mut [i64], lines: &mut [i64]) -> ReadAnswer {
+        match book::read(file, held, lines) {
+            Ok(head) => ReadAnswer {
+                number: 0,
+                place: 0,
+                b: head.b,
+                t: head.t,
+                h: head.h as i64,
+                n: head.n as i64,
+            },
+            Err(Refusal { number, place }) => ReadAnswer { number, place, ..ReadAnswer::default() },
+        }
+    }
+
+    fn survey(&mut self, b: i64, t: i64, held: &[i64], lines: &[i64], rows: &mut [i64]) -> Answer {
+        answer(self.try_survey(Lent { b, t, held, lines }, rows))
+    }
+
+    fn listing(
+        &mut self,
+        b: i64,
+        t: i64,
+        held: &[i64],
+        lines: &[i64],
+        number: i64,
+        out: &mut [i64],
+    ) -> Listed {
+        listed(self.try_listing(Lent { b, t, held, lines }, number, out))
+    }
+
+    fn not_checked(
+        &mut self,
+        b: i64,
+        t: i64,
+        held: &[i64],
+        lines: &[i64],
+        out: &mut [i64],
+    ) -> Listed {
+        listed(self.try_not_checked(Lent { b, t, held, lines }, out))
+    }
+
+    /// Sets the line's difference, and mends the rows of the kept report that have the line.
+    fn rerun(
+        &mut self,
+        b: i64,
+        t: i64,
+        held: &[i64],
+        lines: &mut [i64],
+        report: &mut [i64],
+        line: i64,
+        difference: i64,
+    ) -> Answer {
+        let counts = self.try_rerun(Lent { b, t, held, lines }, report, line, difference);
+        if counts.is_ok() {
+            let kept = &mut lines[LINE * (line as usize - 1) + 2];
+            let change = difference - *kept;
+            *kept = difference;
+            for &(i, sense) in &self.touched {
+                let row = &mut report[ROW * i..][..ROW];
+                row[3] += sense * change;
+                row[4] = verdict(t, row[2], row[3]);
+            }
+        }
+        answer(counts)
+    }
+
+    /// Sets the line's standing to 0, and works the kept report out afresh.
+    fn withdraw(
+        &mut self,
+        b: i64,
+        t: i64,
+        held: &[i64],
+        lines: &mut [i64],
+        report: &mut [i64],
+        line: i64,
+    ) -> Answer {
+        let before = match self.try_withdraw(Lent { b, t, held, lines }, report, line) {
+            Ok((rows, _)) => rows,
+            refused => return answer(refused),
+        };
+        lines[LINE * (line as usize - 1) + 4] = 0;
+        self.network.load(b, lines);
+        self.fill(t, report);
+        report[ROW * self.network.rows..ROW * before].fill(0);
+        answer(Ok(self.counts()))
+    }
+
+    fn adjust(
+        &mut self,
+        b: i64,
+        t: i64,
+        held: &[i64],
+        lines: &[i64],
+        heights: &mut [i64],
+    ) -> Adjusted {
+        match adjust::adjust(&mut self.network, Lent { b, t, held, lines }, heights) {
+            Ok(sweeps) => Adjusted { number: 0, place: 0, sweeps },
+            Err(Refusal { number, place }) => Adjusted { number, place, sweeps: 0 },
+        }
+    }
+
+    fn rate(
+        &mut self,
+        b: i64,
+        t: i64,
+        held: &[i64],
+        lines: &[i64],
+        heights: &[i64],
+        line: i64,
+    ) -> Rated {
+        match adjust::rate(Lent { b, t, held, lines }, heights, line) {
+            Ok(rated) => rated,
+            Err(Refusal { number, place }) => Rated { number, place, ..Rated::default() },
+        }
+    }
+}

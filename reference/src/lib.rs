@@ -1,0 +1,48 @@
+//! Document 01 in plain Rust: a reference to test `liblevel.a` against and to time it beside.
+//!
+//! [`Reference`] answers the eight calls of [`Level`]. It is lent the whole book with every call, tests
+//! all of it and works everything out anew; only its scratch room is kept from one call to the next.
+//! It never panics, whatever it is lent.
+
+mod adjust;
+mod answers;
+#[cfg(feature = "archive")]
+pub mod archive;
+mod book;
+pub mod bridge;
+mod calls;
+mod network;
+mod paths;
+mod text;
+pub mod trial;
+
+pub use answers::{Adjusted, Answer, Level, Listed, Rated, ReadAnswer};
+pub use book::write;
+pub use calls::Reference;
+pub use network::verdict;
+
+pub const MAX_MARKS: usize = 256;
+pub const MAX_LINES: usize = 512;
+pub const MAX_HELD: usize = 256;
+pub const MAX_TOLERANCE: i64 = 1_000;
+pub const MAX_DIFFERENCE: i64 = 100_000_000;
+pub const MIN_LENGTH: i64 = 10;
+pub const MAX_LENGTH: i64 = 100_000;
+pub const MAX_HELD_HEIGHT: i64 = 10_000_000_000;
+pub const MAX_HEIGHT: i64 = 50_000_000_000;
+pub const MAX_SWEEPS: i64 = 10_000;
+
+/// Bytes of a file's head, of one held entry and of one line in a file.
+pub const HEAD_BYTES: usize = 13;
+pub const HELD_BYTES: usize = 10;
+pub const LINE_BYTES: usize = 12;
+
+/// Bytes that the report program reads.
+pub const MAX_READ: usize = 16_384;
+
+/// Numbers of one line in memory: from, to, difference, length, standing.
+pub const LINE: usize = 5;
+/// Numbers of one held entry in memory: mark, height.
+pub const HELD: usize = 2;
+/// Numbers of one report row: closing line, count of lines, length, misclosure, verdict.
+pub const ROW: usize = 5;

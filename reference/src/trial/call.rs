@@ -1,0 +1,285 @@
+//! One call with all that it is lent, made on any implementation, and what came of it.
+
+use super::Book;
+use crate::*;
+
+/// How many places an output has beyond (or, below zero, short of) the whole answer.
+pub type Room = i64;
+
+/// The report lent to a correction.
+#[derive(Clone, Debug, Default)]
+pub struct Kept {
+    /// These rows; or, if none are given, the book's own.
+    pub rows: Option<Vec<i64>>,
+    /// Places more (or, below zero, fewer) than the rows have.
+    pub beyond: Room,
+    /// A place, counted from the last and round again, that is off by so much.
+    pub off: Option<(usize, i64)>,
+}
+
+/// What is asked of a book.
+#[derive(Clone, Debug)]
+pub enum Ask {
+    Survey { room: Room },
+    Listing { number: i64, room: Room },
+    NotChecked { room: Room },
+    Rerun { kept: Kept, line: i64, difference: i64 },
+    Withdraw { kept: Kept, line: i64 },
+    Adjust { room: Room },
+    Rate { heights: Vec<i64>, line: i64 },
+}
+
+/// A call.
+#[derive(Clone, Debug)]
+pub enum Call {
+    Read {
+        file: Vec<u8>,
+        held_room: Room,
+        lines_room: Room,
+    },
+    Ask {
+        book: Book,
+        ask: Ask,
+    },
+    /// The report program, on a file.
+    Report {
+        file: Vec<u8>,
+    },
+}
+
+pub const KINDS: [&str; 9] = [
+    "level_read",
+    "level_survey",
+    "level_listing",
+    "level_not_checked",
+    "level_rerun",
+    "level_withdraw",
+    "level_adjust",
+    "level_rate",
+    "report program",
+];
+
+impl Call {
+    /// The place of the call's name in `KINDS`.
+    pub fn kind(&self) -> usize {
+        match self {
+            Call::Read { .. } => 0,
+            Call::Ask { ask: Ask::Survey { .. }, .. } => 1,
+            Call::Ask { ask: Ask::Listing { .. }, .. } => 2,
+            Call::Ask { ask: Ask::NotChecked { .. }, .. } => 3,
+            Call::Ask { ask: Ask::Rerun { .. }, .. } => 4,
+            Call::Ask { ask: Ask::Withdraw { .. }, .. } => 5,
+            Call::Ask { ask: Ask::Adjust { .. }, .. } => 6,
+            Call::Ask { ask: Ask::Rate { .. }, .. } => 7,
+            Call::Report { .. } => 8,
+        }
+    }
+}
+
+/// An answer of any call.
+#[derive(Clone, Debug, PartialEq)]
+pub enum Given {
+    Read(ReadAnswer),
+    Answer(Answer),
+    Listed(Listed),
+    Adjusted(Adjusted),
+    Rated(Rated),
+    /// What the report program writes.
+    Text(String),
+}
+
+impl Given {
+    /// The refusal's number, or 0.
+    pub fn number(&self) -> i64 {
+        match self {
+            Given::Read(answer) => answer.number,
+            Given::Answer(answer) => answer.number,
+            Given::Listed(answer) => answer.number,
+            Given::Adjusted(answer) => answer.number,
+            Given::Rated(answer) => answer.number,
+            Given::Text(text) => {
+                let refused = text.strip_prefix("REFUSED ").and_then(|t| t.split(' ').next());
+                refused.and_then(|number| number.parse().ok()).unwrap_or(0)
+            }
+        }
+    }
+}
+
+/// Places before and after each lent buffer that no call may touch.
+const GUARD: usize = 8;
+const CANARY: i64 = -0x5EED_CA9A_417C_0DE5;
+
+/// A lent buffer between its guards.
+#[derive(Clone, Debug, PartialEq)]
+pub struct Buffer {
+    pub name: &'static str,
+    places: Vec<i64>,
+}
+
+impl Buffer {
+    fn of(name: &'static str, content: &[i64]) -> Self {
+        let guard = [CANARY; GUARD];
+        Buffer { name, places: [&guard, content, &guard].concat() }
+    }
+
+    /// An output, filled with numbers that no answer has.
+    fn output(name: &'static str, length: usize) -> Self {
+        let content: Vec<i64> = (0..length as i64).map(|i| -7_000_000_000_000_000 - i).collect();
+        Buffer::of(name, &content)
+    }
+
+    fn lent(&self) -> &[i64] {
+        &self.places[GUARD..self.places.len() - GUARD]
+    }
+
+    fn lent_mut(&mut self) -> &mut [i64] {
+        let end = self.places.len() - GUARD;
+        &mut self.places[GUARD..end]
+    }
+
+    /// The numbers lent, without the guards.
+    pub fn numbers(&self) -> &[i64] {
+        self.lent()
+    }
+
+    /// Where two states of one buffer differ: place (from 0, guards below and above) and both numbers.
+    pub fn differences<'a>(
+        &'a self,
+        other: &'a Buffer,
+    ) -> impl Iterator<Item = (i64, i64, i64)> + 'a {
+        let places = (-(GUARD as i64)..).zip(self.places.iter().zip(&other.places));
+        places.filter(|(_, (x, y))| x != y).map(|(place, (&x, &y))| (place, x, y))
+    }
+}
+
+/// A call's answer and the buffers after it.
+#[derive(Clone, Debug, PartialEq)]
+pub struct Outcome {
+    pub given: Given,
+    pub buffers: Vec<Buffer>,
+}
+
+/// What is lent with one call.
+#[derive(Clone, Debug)]
+pub struct Inputs {
+    file: Vec<u8>,
+    b: i64,
+    t: i64,
+    /// Held entries, lines and, for all calls but the reader, one buffer more.
+    pub buffers: Vec<Buffer>,
+}
+
+fn places(need: usize, room: Room) -> usize {
+    (need as i64).saturating_add(room).max(0) as usize
+}
+
+/// The book's own report, as the reference has it; none of a refused book.
+pub fn own_report(reference: &mut Reference, book: &Book) -> Vec<i64> {
+    let mut rows = vec![0; ROW * MAX_LINES];
+    let answer = reference.survey(book.b, book.t, &book.held, &book.lines, &mut rows);
+    rows.truncate(ROW * answer.rows as usize);
+    rows
+}
+
+/// How many places the whole answer of a call needs; none if it is refused for another reason.
+fn need(reference: &mut Reference, book: &Book, ask: &Ask) -> usize {
+    let Book { b, t, held, lines } = book;
+    let mut out = vec![0; MAX_LINES];
+    let entries = match ask {
+        Ask::Listing { number, .. } => {
+            reference.listing(*b, *t, held, lines, *number, &mut out).entries
+        }
+        Ask::NotChecked { .. } => reference.not_checked(*b, *t, held, lines, &mut out).entries,
+        Ask::Survey { .. } => return own_report(reference, book).len(),
+        _ => (*b).clamp(0, 2 * MAX_MARKS as i64),
+    };
+    entries as usize
+}
+
+fn kept_report(reference: &mut Reference, book: &Book, kept: &Kept) -> Buffer {
+    let mut rows = kept.rows.clone().unwrap_or_else(|| own_report(reference, book));
+    if let (Some((from_last, by)), false) = (kept.off, rows.is_empty()) {
+        let place = rows.len() - 1 - from_last % rows.len();
+        rows[place] = rows[place].wrapping_add(by);
+    }
+    let length = places(rows.len(), kept.beyond);
+    let mut buffer = Buffer::output("report", length);
+    let common = length.min(rows.len());
+    buffer.lent_mut()[..common].copy_from_slice(&rows[..common]);
+    buffer
+}
+
+/// Lays out what a call is lent; lengths and reports follow the book by the reference.
+pub fn lay_out(reference: &mut Reference, call: &Call) -> Inputs {
+    match call {
+        Call::Report { file } => Inputs { file: file.clone(), b: 0, t: 0, buffers: vec![] },
+        Call::Read { file, held_room, lines_room } => {
+            let (mut held, mut lines) = (vec![0; HELD * MAX_HELD], vec![0; LINE * MAX_LINES]);
+            let answer = reference.read(file, &mut held, &mut lines);
+            let held = places(HELD * answer.h as usize, *held_room);
+            let lines = places(LINE * answer.n as usize, *lines_room);
+            let buffers = vec![Buffer::output("held", held), Buffer::output("lines", lines)];
+            Inputs { file: file.clone(), b: 0, t: 0, buffers }
+        }
+        Call::Ask { book, ask } => {
+            let third = match ask {
+                Ask::Survey { room } => {
+                    Buffer::output("rows", places(need(reference, book, ask), *room))
+                }
+                Ask::Listing { room, .. } | Ask::NotChecked { room } => {
+                    Buffer::output("out", places(need(reference, book, ask), *room))
+                }
+                Ask::Adjust { room } => {
+                    Buffer::output("heights", places(need(reference, book, ask), *room))
+                }
+                Ask::Rerun { kept, .. } | Ask::Withdraw { kept, .. } => {
+                    kept_report(reference, book, kept)
+                }
+                Ask::Rate { heights, .. } => Buffer::of("heights", heights),
+            };
+            let held = Buffer::of("held", &book.held);
+            let lines = Buffer::of("lines", &book.lines);
+            Inputs { file: vec![], b: book.b, t: book.t, buffers: vec![held, lines, third] }
+        }
+    }
+}
+
+/// Makes a call on an implementation.
+pub fn make(level: &mut dyn Level, call: &Call, inputs: &Inputs) -> Outcome {
+    let mut inputs = inputs.clone();
+    let (b, t) = (inputs.b, inputs.t);
+    let given = match (call, &mut inputs.buffers[..]) {
+        (Call::Read { .. }, [held, lines]) => {
+            Given::Read(level.read(&inputs.file, held.lent_mut(), lines.lent_mut()))
+        }
+        (Call::Ask { ask, .. }, [held, lines, third]) => match ask {
+            Ask::Survey { .. } => {
+                Given::Answer(level.survey(b, t, held.lent(), lines.lent(), third.lent_mut()))
+            }
+            Ask::Listing { number, .. } => {
+                let out = third.lent_mut();
+                Given::Listed(level.listing(b, t, held.lent(), lines.lent(), *number, out))
+            }
+            Ask::NotChecked { .. } => {
+                Given::Listed(level.not_checked(b, t, held.lent(), lines.lent(), third.lent_mut()))
+            }
+            Ask::Rerun { line, difference, .. } => {
+                let (lines, report) = (lines.lent_mut(), third.lent_mut());
+                Given::Answer(level.rerun(b, t, held.lent(), lines, report, *line, *difference))
+            }
+            Ask::Withdraw { line, .. } => {
+                let (lines, report) = (lines.lent_mut(), third.lent_mut());
+                Given::Answer(level.withdraw(b, t, held.lent(), lines, report, *line))
+            }
+            Ask::Adjust { .. } => {
+                Given::Adjusted(level.adjust(b, t, held.lent(), lines.lent(), third.lent_mut()))
+            }
+            Ask::Rate { line, .. } => {
+                let (held, lines, heights) = (held.lent(), lines.lent(), third.lent());
+                Given::Rated(level.rate(b, t, held, lines, heights, *line))
+            }
+        },
+        _ => Given::Text(String::new()),
+    };
+    Outcome { given, buffers: inputs.buffers }
+}

@@ -1,0 +1,39 @@
+//! What the differential test, the bench and the tests of the reference share: books of every shape,
+//! damage, calls with their lent buffers, and a search for the smallest book that still differs.
+
+pub mod asks;
+pub mod call;
+pub mod damage;
+pub mod program;
+pub mod random;
+pub mod shapes;
+pub mod shrink;
+pub mod words;
+
+use crate::{HELD, LINE};
+
+/// A book in memory, good or not.
+#[derive(Clone, Debug, PartialEq, Eq)]
+pub struct Book {
+    pub b: i64,
+    pub t: i64,
+    pub held: Vec<i64>,
+    pub lines: Vec<i64>,
+}
+
+impl Book {
+    /// Whole lines in the book, withdrawn ones too.
+    pub fn lines_count(&self) -> usize {
+        self.lines.len() / LINE
+    }
+
+    /// Whole held entries in the book.
+    pub fn held_count(&self) -> usize {
+        self.held.len() / HELD
+    }
+
+    /// The book's file.
+    pub fn file(&self) -> Vec<u8> {
+        crate::write(self.b, self.t, &self.held, &self.lines)
+    }
+}

@@ -1,0 +1,321 @@
+//! Good books of every shape.
+
+use super::random::Random;
+use super::Book;
+use crate::*;
+
+/// Marks, and the pairs of them that lines join.
+#[derive(Clone, Debug)]
+pub struct Shape {
+    pub marks: i64,
+    pub pairs: Vec<(i64, i64)>,
+}
+
+impl Shape {
+    /// Marks without lines.
+    pub fn apart(marks: i64) -> Self {
+        Shape { marks, pairs: vec![] }
+    }
+
+    pub fn chain(marks: i64) -> Self {
+        Shape { marks, pairs: (2..=marks).map(|m| (m - 1, m)).collect() }
+    }
+
+    pub fn star(marks: i64) -> Self {
+        Shape { marks, pairs: (2..=marks).map(|m| (1, m)).collect() }
+    }
+
+    pub fn tree(random: &mut Random, marks: i64) -> Self {
+        Shape { marks, pairs: (2..=marks).map(|m| (random.within(1, m - 1), m)).collect() }
+    }
+
+    /// Marks joined one after the other and the last with the first; two marks by two lines.
+    pub fn ring(marks: i64) -> Self {
+        let mut ring = Shape::chain(marks);
+        if marks > 1 {
+            ring.pairs.push((marks, 1));
+        }
+        ring
+    }
+
+    /// Every line once more.
+    pub fn doubled(mut self) -> Self {
+        self.pairs.extend_from_within(..);
+        self
+    }
+
+    /// Two rings of so many marks, joined by rungs from each mark of a first part to its opposite.
+    pub fn rings_with_rungs(marks: i64, rungs: i64) -> Self {
+        let mut both = Shape::ring(marks).beside(Shape::ring(marks));
+        both.pairs.extend((1..=rungs.min(marks)).map(|m| (m, marks + m)));
+        both
+    }
+
+    pub fn grid(rows: i64, columns: i64) -> Self {
+        let mut pairs = vec![];
+        for mark in 1..=rows * columns {
+            if mark % columns != 0 {
+                pairs.push((mark, mark + 1));
+            }
+            if mark + columns <= rows * columns {
+                pairs.push((mark, mark + columns));
+            }
+        }
+        Shape { marks: rows * columns, pairs }
+    }
+
+    /// So many lines between two marks.
+    pub fn parallel(lines: usize) -> Self {
+        Shape { marks: 2, pairs: vec![(1, 2); lines] }
+    }
+
+    /// Every pair of marks.
+    pub fn dense(marks: i64) -> Self {
+        let pairs = (1..=marks).flat_map(|m| (m + 1..=marks).map(move |o| (m, o))).collect();
+        Shape { marks, pairs }
+    }
+
+    /// So many more lines between any marks.
+    pub fn with_lines(mut self, random: &mut Random, lines: usize) -> Self {
+        for _ in 0..if self.marks > 1 { lines } else { 0 } {
+            let from = random.within(1, self.marks);
+            let to = random.within(1, self.marks - 1);
+            self.pairs.push((from, to + (to >= from) as i64));
+        }
+        self
+    }
+
+    /// Another shape beside this one, as further pieces.
+    pub fn beside(mut self, other: Shape) -> Self {
+        let first = self.marks;
+        self.marks += other.marks;
+        self.pairs.extend(other.pairs.iter().map(|&(from, to)| (from + first, to + first)));
+        self
+    }
+
+    /// Marks and lines within the limits of a book.
+    fn limited(mut self) -> Self {
+        self.marks = self.marks.min(MAX_MARKS as i64);
+        let marks = self.marks;
+        self.pairs.retain(|&(from, to)| from <= marks && to <= marks);
+        self.pairs.truncate(MAX_LINES);
+        self
+    }
+
+    /// Marks numbered anew, lines turned and in another order.
+    pub fn mixed(mut self, random: &mut Random) -> Self {
+        let mut number: Vec<i64> = (1..=self.marks).collect();
+        random.shuffle(&mut number);
+        let new = |mark: i64| number[mark as usize - 1];
+        for pair in &mut self.pairs {
+            let (from, to) = (new(pair.0), new(pair.1));
+            *pair = if random.once_in(2) { (from, to) } else { (to, from) };
+        }
+        random.shuffle(&mut self.pairs);
+        self
+    }
+}
+
+/// A shape of about so many marks.
+fn one_shape(random: &mut Random, marks: i64) -> Shape {
+    let lines = 2 * marks as usize;
+    match random.below(13) {
+        0 => Shape::apart(marks),
+        1 => Shape::chain(marks),
+        2 => Shape::star(marks),
+        3 => Shape::tree(random, marks),
+        4 => Shape::ring(marks),
+        5 => Shape::ring(marks).doubled(),
+        6 => Shape::rings_with_rungs((marks + 1) / 2, random.within(1, marks)),
+        7 => Shape::grid(random.within(1, 4), (marks + 3) / 4),
+        8 => Shape::parallel(random.below(lines + 1)),
+        9 => Shape::dense(marks.min(33)),
+        10 => Shape::tree(random, marks).with_lines(random, marks as usize / 2),
+        _ => {
+            let count = random.below(lines + 2);
+            Shape::apart(marks).with_lines(random, count)
+        }
+    }
+}
+
+/// One to three shapes beside each other.
+fn any_shape(random: &mut Random) -> Shape {
+    let most = random.pick(&[3, 4, 6, 6, 8, 8, 12, 20, 40, 256]);
+    let marks = random.within(1, most);
+    let mut shape = one_shape(random, marks);
+    while random.once_in(3) {
+        let marks = random.within(1, 6);
+        shape = shape.beside(one_shape(random, marks));
+    }
+    if random.once_in(2) {
+        shape = shape.mixed(random);
+    }
+    shape
+}
+
+/// As large as a book can be.
+fn full_shape(random: &mut Random) -> Shape {
+    match random.below(6) {
+        0 => Shape::tree(random, 256).with_lines(random, 257),
+        1 => Shape::ring(256).doubled(),
+        2 => Shape::rings_with_rungs(128, 128).with_lines(random, 128),
+        3 => Shape::grid(16, 16).with_lines(random, 32),
+        4 => Shape::dense(33),
+        _ => Shape::parallel(512).beside(Shape::apart(254)),
+    }
+    .mixed(random)
+}
+
+/// Lengths by one of several habits, so that many scores and paths tie.
+fn lengths(random: &mut Random, lines: usize) -> Vec<i64> {
+    let habit = random.below(8);
+    let one = random.pick(&[10, 1000, 100_000]);
+    let mut length = || match habit {
+        0 | 1 => one,
+        2 => 10 * random.within(1, 2),
+        3 => 10 * random.within(1, 3),
+        4 => random.within(10, 40),
+        5 => random.pick(&[10, 11, 20, 99_990, 100_000]),
+        6 => random.within(500, 3000),
+        _ => random.within(MIN_LENGTH, MAX_LENGTH),
+    };
+    (0..lines).map(|_| length()).collect()
+}
+
+/// Heights by one of several habits: of marks that lines and held entries are then made from.
+fn true_heights(random: &mut Random, marks: i64) -> Vec<i64> {
+    let habit = random.below(4);
+    let mut height = || match habit {
+        0 => 0,
+        1 => random.within(-100_000, 100_000),
+        2 => random.within(-40_000_000, 40_000_000),
+        _ => random.within(-MAX_HELD_HEIGHT, MAX_HELD_HEIGHT),
+    };
+    (0..marks).map(|_| height()).collect()
+}
+
+/// A line's difference by one of several habits.
+fn difference(random: &mut Random, habit: usize, rise: i64) -> i64 {
+    let difference = match habit {
+        0 => 0,
+        1 => random.within(-1000, 1000),
+        2 | 3 => rise + random.within(-3000, 3000),
+        4 => rise,
+        5 => random.pick(&[-MAX_DIFFERENCE, MAX_DIFFERENCE]),
+        _ => random.within(-MAX_DIFFERENCE, MAX_DIFFERENCE),
+    };
+    difference.clamp(-MAX_DIFFERENCE, MAX_DIFFERENCE)
+}
+
+/// Which marks are held: none, one of each piece, some, all.
+fn held_marks(random: &mut Random, b: i64, lines: &[i64]) -> Vec<i64> {
+    let habit = random.below(8);
+    let roots = roots(b, lines);
+    let mut marks: Vec<i64> = match habit {
+        0 => vec![],
+        1 => (1..=b).filter(|_| random.once_in(3)).collect(),
+        2 => (1..=b).collect(),
+        3 => vec![random.within(1, b)],
+        4 => (1..=b).filter(|&m| roots[m as usize - 1] == m || random.once_in(4)).collect(),
+        5 => one_of_each_piece(random, &roots),
+        _ => (1..=b).filter(|&m| roots[m as usize - 1] == m).collect(),
+    };
+    if random.once_in(2) {
+        random.shuffle(&mut marks);
+    }
+    marks
+}
+
+/// The lowest mark of each mark's piece, for marks 1 to b.
+pub fn roots(b: i64, lines: &[i64]) -> Vec<i64> {
+    let mut root: Vec<i64> = (1..=b).collect();
+    let mut changed = true;
+    while changed {
+        changed = false;
+        for line in lines.chunks_exact(LINE).filter(|line| line[4] == 1) {
+            let (from, to) = (line[0] as usize - 1, line[1] as usize - 1);
+            let low = root[from].min(root[to]);
+            changed |= root[from] != low || root[to] != low;
+            root[from] = low;
+            root[to] = low;
+        }
+    }
+    root
+}
+
+fn one_of_each_piece(random: &mut Random, roots: &[i64]) -> Vec<i64> {
+    let mut marks: Vec<i64> = (1..=roots.len() as i64).collect();
+    random.shuffle(&mut marks);
+    let mut taken = vec![false; roots.len() + 1];
+    marks.retain(|&m| !std::mem::replace(&mut taken[roots[m as usize - 1] as usize], true));
+    marks
+}
+
+/// A shape made a good book: lengths, differences, standing, tolerance and held entries.
+fn finished(random: &mut Random, shape: Shape) -> Book {
+    let shape = shape.limited();
+    let heights = true_heights(random, shape.marks);
+    let lengths = lengths(random, shape.pairs.len());
+    let habit = random.below(8);
+    let withdrawn_once_in = random.pick(&[0, 0, 0, 0, 8, 3, 1]);
+    let mut lines = Vec::with_capacity(LINE * shape.pairs.len());
+    for (&(from, to), length) in shape.pairs.iter().zip(lengths) {
+        let rise = heights[to as usize - 1] - heights[from as usize - 1];
+        let difference = difference(random, habit, rise);
+        let standing = withdrawn_once_in == 0 || !random.once_in(withdrawn_once_in);
+        lines.extend([from, to, difference, length, standing as i64]);
+    }
+    let extreme = random.once_in(6);
+    let mut held = vec![];
+    for mark in held_marks(random, shape.marks, &lines) {
+        let height = if extreme {
+            random.pick(&[-MAX_HELD_HEIGHT, MAX_HELD_HEIGHT])
+        } else {
+            heights[mark as usize - 1]
+        };
+        held.extend([mark, height]);
+    }
+    let any = random.within(1, MAX_TOLERANCE);
+    let t = random.pick(&[1, 2, 40, 120, MAX_TOLERANCE, any]);
+    Book { b: shape.marks, t, held, lines }
+}
+
+/// One ring whose misclosure is at the edge of the allowable, or one micrometre off it.
+pub fn edge_book(random: &mut Random) -> Book {
+    let marks = random.within(2, 6);
+    let t = random.pick(&[1, 40, 120, 999, MAX_TOLERANCE]);
+    let root = random.within(8, 60);
+    let others = 10 * (marks - 1);
+    let misclosure = 10 * t * root * random.pick(&[-1, 1]) + random.within(-1, 1);
+    let mut lines = vec![];
+    for (i, &(from, to)) in Shape::ring(marks).pairs.iter().enumerate() {
+        let first = i == 0;
+        let length = if first { 10 * root * root - others } else { 10 };
+        lines.extend([from, to, if first { misclosure } else { 0 }, length, 1]);
+    }
+    Book { b: marks, t, held: vec![1, 0], lines }
+}
+
+/// A good book of any shape; a full one now and then.
+pub fn good_book(random: &mut Random) -> Book {
+    match random.below(40) {
+        0 => {
+            let shape = full_shape(random);
+            finished(random, shape)
+        }
+        1 => edge_book(random),
+        _ => {
+            let shape = any_shape(random);
+            finished(random, shape)
+        }
+    }
+}
+
+/// A good book of at most eight marks with at most twelve lines and many ties.
+pub fn small_book(random: &mut Random) -> Book {
+    let marks = random.within(1, 8);
+    let shape = one_shape(random, marks).mixed(random);
+    let mut book = finished(random, shape);
+    book.lines.truncate(12 * LINE);
+    book
+}

@@ -1,0 +1,306 @@
+//! The reference with one fault, named by LEVEL_FAULT: each a mistake that somebody might make.
+
+use reference::trial::call::own_report;
+use reference::trial::Book;
+use reference::*;
+use std::sync::OnceLock;
+
+fn fault() -> &'static str {
+    static FAULT: OnceLock<String> = OnceLock::new();
+    FAULT.get_or_init(|| std::env::var("LEVEL_FAULT").unwrap_or_default())
+}
+
+/// The reference, with the fault.
+pub struct Faulty(Reference);
+
+impl Faulty {
+    #[allow(clippy::new_without_default)]
+    pub fn new() -> Self {
+        Faulty(Reference::new())
+    }
+
+    /// Whether this is the fault.
+    pub fn named(name: &str) -> bool {
+        fault() == name
+    }
+
+    /// The refusal of a book that a fault gives wrongly, if it does.
+    fn wrong_refusal(b: i64, t: i64, held: &[i64], lines: &[i64]) -> Option<(i64, i64)> {
+        if Faulty::named("book-of-255-marks") && b == 256 {
+            return Some((4, 0));
+        }
+        if Faulty::named("book-lines-before-held") {
+            let alone = Reference::new().survey(b, t, &[], lines, &mut [0; ROW * MAX_LINES]);
+            let whole = Reference::new().survey(b, t, held, lines, &mut [0; ROW * MAX_LINES]);
+            if whole.number == 6 && alone.number == 7 {
+                return Some((7, alone.place));
+            }
+        }
+        None
+    }
+
+    /// The book as a fault reads it: without what it does not see.
+    fn seen(held: &[i64], lines: &[i64]) -> (Vec<i64>, Vec<i64>) {
+        let (mut held, mut lines) = (held.to_vec(), lines.to_vec());
+        if Faulty::named("book-mark-held-twice") {
+            let mut once: Vec<i64> = vec![];
+            for entry in held.chunks(HELD) {
+                if !once.chunks(HELD).any(|earlier| earlier[0] == entry[0]) {
+                    once.extend(entry);
+                }
+            }
+            held = once;
+        }
+        if Faulty::named("book-any-standing") {
+            lines.chunks_exact_mut(LINE).for_each(|line| line[4] = (line[4] != 0) as i64);
+        }
+        if Faulty::named("book-half-a-line") {
+            lines.truncate(lines.len() / LINE * LINE);
+        }
+        (held, lines)
+    }
+}
+
+fn book(b: i64, t: i64, held: &[i64], lines: &[i64]) -> Book {
+    Book { b, t, held: held.to_vec(), lines: lines.to_vec() }
+}
+
+/// A book whose lines are numbered from the last to the first.
+fn turned(lines: &[i64]) -> Vec<i64> {
+    lines.chunks_exact(LINE).rev().flatten().copied().collect()
+}
+
+impl Level for Faulty {
+    fn read(&mut self, file: &[u8], held: &mut [i64], lines: &mut [i64]) -> ReadAnswer {
+        let right = self.0.read(file, held, lines);
+        let refused = |number| ReadAnswer { number, ..ReadAnswer::default() };
+        match fault() {
+            "read-limits-before-length" if right.number == 2 => {
+                let mut mended = file.to_vec();
+                mended[..4].copy_from_slice(&(file.len() as u32).to_be_bytes());
+                match self.0.read(&mended, &mut [], &mut []).number {
+                    4 => refused(4),
+                    _ => right,
+                }
+            }
+            "read-difference-unsigned" if right.number == 0 => {
+                let negative = lines.chunks_exact(LINE).take(right.n as usize).any(|l| l[2] < 0);
+                if negative {
+                    lines[2] = lines[2].abs();
+                }
+                right
+            }
+            "read-room-before-entries" if right.number == 6 || right.number == 7 => {
+                if held.is_empty() {
+                    refused(10)
+                } else {
+                    right
+                }
+            }
+            "read-writes-when-refused" if right.number == 7 && !held.is_empty() => {
+                held[0] = 1;
+                right
+            }
+            "read-any-version" if right.number == 3 => {
+                let mut mended = file.to_vec();
+                mended[4] = 1;
+                self.0.read(&mended, held, lines)
+            }
+            _ => right,
+        }
+    }
+
+    fn survey(&mut self, b: i64, t: i64, held: &[i64], lines: &[i64], rows: &mut [i64]) -> Answer {
+        if let Some((number, place)) = Faulty::wrong_refusal(b, t, held, lines) {
+            return Answer { number, place, ..Answer::default() };
+        }
+        let (held, lines) = Faulty::seen(held, lines);
+        let mut right = self.0.survey(b, t, &held, &lines, rows);
+        let count = right.rows as usize;
+        match fault() {
+            "survey-equal-is-over" => {
+                for row in rows.chunks_exact_mut(ROW).take(count) {
+                    let square = row[3] as i128 * row[3] as i128;
+                    row[4] = (square >= (10 * t * t * row[2]) as i128) as i64;
+                }
+            }
+            "survey-last-row-zeros" if count > 1 => {
+                rows[ROW * (count - 1)..ROW * count].fill(0);
+            }
+            "survey-ties-by-highest-number" if right.number == 0 => {
+                self.0.survey(b, t, &held, &turned(&lines), rows);
+                let last = (lines.len() / LINE) as i64 + 1;
+                rows.chunks_exact_mut(ROW).take(count).for_each(|row| row[0] = last - row[0]);
+            }
+            "survey-one-piece" if right.number == 0 => right.pieces = 1,
+            "survey-writes-what-fits" if right.number == 10 => rows.fill(0),
+            "survey-clears-the-rest" if right.number == 0 => rows[ROW * count..].fill(0),
+            _ => {}
+        }
+        right
+    }
+
+    fn listing(
+        &mut self,
+        b: i64,
+        t: i64,
+        held: &[i64],
+        lines: &[i64],
+        number: i64,
+        out: &mut [i64],
+    ) -> Listed {
+        if Faulty::named("listing-loop-0-is-1") && number == 0 {
+            return self.0.listing(b, t, held, lines, 1, out);
+        }
+        let mut right = self.0.listing(b, t, held, lines, number, out);
+        match fault() {
+            "listing-sense-of-last-turned" if right.entries > 4 => {
+                out[right.entries as usize - 1] *= -1;
+            }
+            "listing-counts-when-refused" if right.number == 10 => right.entries = 2,
+            _ => {}
+        }
+        right
+    }
+
+    fn not_checked(
+        &mut self,
+        b: i64,
+        t: i64,
+        held: &[i64],
+        lines: &[i64],
+        out: &mut [i64],
+    ) -> Listed {
+        match fault() {
+            "not-checked-always-empty" => {
+                let right = self.0.not_checked(b, t, held, lines, &mut [0; MAX_LINES]);
+                Listed { entries: 0, ..right }
+            }
+            "not-checked-with-withdrawn" => {
+                let mut standing = lines.to_vec();
+                for line in standing.chunks_exact_mut(LINE) {
+                    if line[4] == 0 {
+                        line[4] = 1;
+                    }
+                }
+                self.0.not_checked(b, t, held, &standing, out)
+            }
+            _ => self.0.not_checked(b, t, held, lines, out),
+        }
+    }
+
+    fn rerun(
+        &mut self,
+        b: i64,
+        t: i64,
+        held: &[i64],
+        lines: &mut [i64],
+        report: &mut [i64],
+        line: i64,
+        difference: i64,
+    ) -> Answer {
+        let (old_lines, old_report) = (lines.to_vec(), report.to_vec());
+        let right = self.0.rerun(b, t, held, lines, report, line, difference);
+        match fault() {
+            "rerun-does-nothing" => {
+                lines.copy_from_slice(&old_lines);
+                report.copy_from_slice(&old_report);
+            }
+            "rerun-keeps-old-verdict" if right.number == 0 => {
+                let rows = report.chunks_exact_mut(ROW).zip(old_report.chunks_exact(ROW));
+                rows.for_each(|(row, old)| row[4] = old[4]);
+            }
+            "rerun-takes-any-report" | "rerun-misses-last-number" if right.number == 9 => {
+                let fresh = own_report(&mut self.0, &book(b, t, held, lines));
+                let (last, count) = (fresh.len() - 1, fresh.len());
+                let tested = if fault() == "rerun-takes-any-report" { 0 } else { last };
+                if report.len() >= count && report[..tested] == fresh[..tested] {
+                    report[..count].copy_from_slice(&fresh);
+                    return self.0.rerun(b, t, held, lines, report, line, difference);
+                }
+            }
+            "rerun-writes-when-refused" if right.number == 9 => {
+                lines[LINE * line as usize - 3] = difference;
+            }
+            _ => {}
+        }
+        right
+    }
+
+    fn withdraw(
+        &mut self,
+        b: i64,
+        t: i64,
+        held: &[i64],
+        lines: &mut [i64],
+        report: &mut [i64],
+        line: i64,
+    ) -> Answer {
+        let old_report = report.to_vec();
+        let mut right = self.0.withdraw(b, t, held, lines, report, line);
+        match fault() {
+            "withdraw-keeps-vacated-row" if right.number == 0 => {
+                let rows = ROW * right.rows as usize;
+                report[rows..].copy_from_slice(&old_report[rows..]);
+            }
+            "withdraw-renumbers" if right.number == 0 => {
+                let last = lines.len() - LINE;
+                lines[LINE * (line as usize - 1)..].rotate_left(LINE);
+                lines[last + 4] = 0;
+            }
+            "withdraw-of-withdrawn"
+                if right.number == 8 && (1..=lines.len() / LINE).contains(&(line as usize)) =>
+            {
+                right.number = 0;
+            }
+            _ => {}
+        }
+        right
+    }
+
+    fn adjust(
+        &mut self,
+        b: i64,
+        t: i64,
+        held: &[i64],
+        lines: &[i64],
+        heights: &mut [i64],
+    ) -> Adjusted {
+        let mut right = self.0.adjust(b, t, held, lines, heights);
+        match fault() {
+            "adjust-one-sweep-fewer" if right.sweeps > 1 => right.sweeps -= 1,
+            "adjust-last-mark-off-by-one" if right.sweeps > 20 => heights[b as usize - 1] += 1,
+            "adjust-pieces-before-room" if right.number == 10 => {
+                let roomy = self.0.adjust(b, t, held, lines, &mut [0; MAX_MARKS]);
+                if roomy.number == 11 {
+                    right = roomy;
+                }
+            }
+            _ => {}
+        }
+        right
+    }
+
+    fn rate(
+        &mut self,
+        b: i64,
+        t: i64,
+        held: &[i64],
+        lines: &[i64],
+        heights: &[i64],
+        line: i64,
+    ) -> Rated {
+        let mut right = self.0.rate(b, t, held, lines, heights, line);
+        match fault() {
+            "rate-by-32-bits" if right.number == 0 => right.rate = right.rate as f32 as f64,
+            "rate-withdrawn-before-heights"
+                if right.number == 13 && lines[LINE * line as usize - 1] == 0 =>
+            {
+                right = Rated { line, withdrawn: 1, ..Rated::default() };
+            }
+            "rate-names-refused-line" if right.number == 8 => right.line = line,
+            _ => {}
+        }
+        right
+    }
+}

@@ -1,0 +1,350 @@
+//! The refusal table of document 01: each number, its place, and which one is given where several apply.
+
+use reference::trial::call::own_report;
+use reference::trial::random::Random;
+use reference::trial::shapes::{edge_book, Shape};
+use reference::trial::Book;
+use reference::*;
+
+/// Three marks in a ring, and a fourth line that is withdrawn; mark 2 held.
+fn ring() -> Book {
+    #[rustfmt::skip]
+    let lines = vec![
+        1, 2,  1000, 100, 1,
+        2, 3, -2000, 100, 1,
+        3, 1,  1500, 100, 1,
+        1, 3,     0, 100, 0,
+    ];
+    Book { b: 3, t: 10, held: vec![2, 50_000], lines }
+}
+
+fn survey(book: &Book) -> (i64, i64) {
+    let mut rows = [9; 15];
+    let answer = Reference::new().survey(book.b, book.t, &book.held, &book.lines, &mut rows);
+    if answer.number != 0 {
+        assert_eq!((answer.rows, answer.pieces), (0, 0));
+        assert_eq!(rows, [9; 15]);
+    }
+    (answer.number, answer.place)
+}
+
+/// The refusal after a change of the ring.
+fn changed(change: impl FnOnce(&mut Book)) -> (i64, i64) {
+    let mut book = ring();
+    change(&mut book);
+    survey(&book)
+}
+
+fn read(file: &[u8]) -> (i64, i64) {
+    let (mut held, mut lines) = ([9; 2], [9; 20]);
+    let answer = Reference::new().read(file, &mut held, &mut lines);
+    if answer.number != 0 {
+        assert_eq!([answer.b, answer.t, answer.h, answer.n], [0; 4]);
+        assert_eq!((held, lines), ([9; 2], [9; 20]));
+    }
+    (answer.number, answer.place)
+}
+
+/// The refusal after changes of bytes of the ring's file.
+fn changed_file(changes: &[(usize, u8)]) -> (i64, i64) {
+    let mut file = ring().file();
+    for &(at, byte) in changes {
+        file[at] = byte;
+    }
+    read(&file)
+}
+
+#[test]
+fn a_good_ring() {
+    assert_eq!(survey(&ring()), (0, 0));
+    assert_eq!(read(&ring().file()), (0, 0));
+}
+
+#[test]
+fn files() {
+    let file = ring().file();
+    assert_eq!(file.len(), 13 + 10 + 4 * 12);
+    assert_eq!(read(&[]), (1, 0));
+    assert_eq!(read(&file[..12]), (1, 0));
+    assert_eq!(read(&file[..13]), (2, 0));
+    assert_eq!(changed_file(&[(0, 1)]), (2, 0));
+    assert_eq!(changed_file(&[(4, 2)]), (3, 0));
+    assert_eq!(changed_file(&[(4, 2), (3, 70)]), (2, 0));
+    assert_eq!(changed_file(&[(4, 0), (6, 0)]), (3, 0));
+    assert_eq!(changed_file(&[(6, 0)]), (4, 0), "t = 0");
+    assert_eq!(changed_file(&[(8, 0)]), (4, 0), "b = 0");
+    assert_eq!(changed_file(&[(7, 1), (8, 1)]), (4, 0), "b = 257");
+    assert_eq!(changed_file(&[(9, 1), (10, 1)]), (4, 0), "h = 257, before 5");
+    assert_eq!(changed_file(&[(11, 2), (12, 1)]), (4, 0), "n = 513, before 5");
+    assert_eq!(changed_file(&[(10, 2)]), (5, 0));
+    assert_eq!(changed_file(&[(10, 2), (14, 9)]), (5, 0));
+    assert_eq!(changed_file(&[(14, 4)]), (6, 1));
+    assert_eq!(changed_file(&[(15, 128)]), (6, 1));
+    assert_eq!(changed_file(&[(14, 4), (24, 9)]), (6, 1));
+    assert_eq!(changed_file(&[(24, 0)]), (7, 1));
+    assert_eq!(changed_file(&[(38, 2), (50, 9)]), (7, 2), "ends equal");
+    assert_eq!(changed_file(&[(27, 128)]), (7, 1), "difference far below");
+    assert_eq!(changed_file(&[(34, 9)]), (7, 1), "length 9");
+}
+
+#[test]
+fn files_into_short_buffers() {
+    let file = ring().file();
+    for (held, lines) in [(2, 19), (1, 20), (0, 0)] {
+        let (mut held, mut lines) = (vec![9; held], vec![9; lines]);
+        let answer = Reference::new().read(&file, &mut held, &mut lines);
+        assert_eq!(answer, ReadAnswer { number: 10, ..ReadAnswer::default() });
+        assert!(held.iter().chain(&lines).all(|&x| x == 9));
+    }
+    let mut wrong = file;
+    wrong[24] = 0;
+    assert_eq!(Reference::new().read(&wrong, &mut [], &mut []).number, 7);
+}
+
+#[test]
+fn limits_of_the_book() {
+    for b in [0, -1, 257, i64::MIN, i64::MAX] {
+        assert_eq!(changed(|book| book.b = b), (4, 0));
+    }
+    for t in [0, -1, 1001, i64::MIN, i64::MAX] {
+        assert_eq!(changed(|book| book.t = t), (4, 0));
+    }
+    assert_eq!(changed(|book| book.t = 1000), (0, 0));
+    assert_eq!(changed(|book| book.lines.truncate(19)), (4, 0));
+    assert_eq!(changed(|book| book.lines.push(1)), (4, 0));
+    assert_eq!(changed(|book| book.held.push(1)), (4, 0));
+    assert_eq!(changed(|book| book.lines = [1, 2, 0, 10, 0].repeat(513)), (4, 0));
+    assert_eq!(changed(|book| book.lines = [1, 2, 0, 10, 0].repeat(512)), (0, 0));
+    assert_eq!(changed(|book| book.held = [1, 0].repeat(257)), (4, 0));
+    assert_eq!(changed(|book| book.held = [1, 0].repeat(256)), (6, 2));
+}
+
+#[test]
+fn held_entries() {
+    for mark in [0, 4, -1, i64::MIN, i64::MAX] {
+        assert_eq!(changed(|book| book.held.extend([mark, 0])), (6, 2));
+    }
+    let most = 10_000_000_000;
+    for height in [-most - 1, most + 1, i64::MIN, i64::MAX] {
+        assert_eq!(changed(|book| book.held[1] = height), (6, 1));
+    }
+    assert_eq!(changed(|book| book.held.extend([1, most, 3, -most])), (0, 0));
+    assert_eq!(changed(|book| book.held.extend([1, 0, 2, 0, 9, 0])), (6, 3));
+    assert_eq!(changed(|book| book.held.extend([9, 0, 2, 0])), (6, 2));
+}
+
+#[test]
+fn lines() {
+    let wrong = [
+        (0, [0, 4, i64::MIN, i64::MAX]),
+        (1, [0, 4, i64::MIN, i64::MAX]),
+        (2, [-100_000_001, 100_000_001, i64::MIN, i64::MAX]),
+        (3, [9, 100_001, i64::MIN, i64::MAX]),
+        (4, [-1, 2, i64::MIN, i64::MAX]),
+    ];
+    for (place, numbers) in wrong {
+        for number in numbers {
+            assert_eq!(changed(|book| book.lines[5 + place] = number), (7, 2));
+            assert_eq!(changed(|book| book.lines[15 + place] = number), (7, 4), "withdrawn");
+        }
+    }
+    assert_eq!(changed(|book| book.lines[5] = 3), (7, 2), "ends equal");
+    assert_eq!(changed(|book| book.lines[7] = -100_000_000), (0, 0));
+    assert_eq!(changed(|book| book.lines[8] = 10), (0, 0));
+    assert_eq!(changed(|book| book.lines[8] = 100_000), (0, 0));
+}
+
+#[test]
+fn the_lowest_number() {
+    assert_eq!(changed(|book| (book.t, book.held[0], book.lines[0]) = (0, 0, 0)), (4, 0));
+    assert_eq!(changed(|book| (book.held[0], book.lines[0]) = (0, 0)), (6, 1));
+    assert_eq!(changed(|book| (book.lines[18], book.lines[9]) = (0, 2)), (7, 2));
+}
+
+#[test]
+fn listing_of_no_loop() {
+    let Book { b, t, held, lines } = ring();
+    let mut out = [9; 3];
+    for number in [0, 2, -1, i64::MIN, i64::MAX] {
+        let listed = Reference::new().listing(b, t, &held, &lines, number, &mut out);
+        assert_eq!(listed, Listed { number: 8, place: 0, entries: 0 });
+    }
+    let short = Reference::new().listing(b, t, &held, &lines, 1, &mut out[..2]);
+    assert_eq!(short, Listed { number: 10, place: 0, entries: 0 });
+    assert_eq!(Reference::new().listing(b, t, &held, &lines, 2, &mut []).number, 8);
+    assert_eq!(out, [9; 3]);
+}
+
+#[test]
+fn outputs_too_short() {
+    let Book { b, t, held, mut lines } = ring();
+    let mut reference = Reference::new();
+    assert_eq!(reference.survey(b, t, &held, &lines, &mut [9; 4]).number, 10);
+    assert_eq!(reference.adjust(b, t, &held, &lines, &mut [9; 2]).number, 10);
+    assert_eq!(reference.adjust(b, t, &[], &lines, &mut [9; 2]).number, 10, "before 11");
+    lines[4] = 0;
+    let mut out = [9; 2];
+    assert_eq!(reference.not_checked(b, t, &held, &lines, &mut out[..1]).number, 10);
+    assert_eq!(out, [9; 2]);
+    assert_eq!(reference.not_checked(b, t, &held, &lines, &mut out).entries, 2);
+    assert_eq!(out, [2, 3]);
+}
+
+/// The number with which both corrections are refused; nothing has changed.
+fn corrections(book: &Book, report: &[i64], line: i64, difference: i64) -> (i64, i64) {
+    let (mut lines, mut kept) = (book.lines.clone(), report.to_vec());
+    let mut reference = Reference::new();
+    let rerun =
+        reference.rerun(book.b, book.t, &book.held, &mut lines, &mut kept, line, difference);
+    if rerun.number != 0 {
+        assert_eq!((&lines, &kept[..]), (&book.lines, report));
+    }
+    (lines, kept) = (book.lines.clone(), report.to_vec());
+    let withdraw = reference.withdraw(book.b, book.t, &book.held, &mut lines, &mut kept, line);
+    if withdraw.number != 0 {
+        assert_eq!((&lines, &kept[..]), (&book.lines, report));
+    }
+    (rerun.number, withdraw.number)
+}
+
+#[test]
+fn corrections_refused() {
+    let book = ring();
+    let report = own_report(&mut Reference::new(), &book);
+    assert_eq!(corrections(&book, &report, 1, 7), (0, 0));
+    for line in [0, 4, 5, -1, i64::MIN, i64::MAX] {
+        assert_eq!(corrections(&book, &report, line, 7), (8, 8));
+        assert_eq!(corrections(&book, &[], line, 7), (8, 8), "before 9");
+    }
+    for difference in [-100_000_001, 100_000_001, i64::MIN, i64::MAX] {
+        assert_eq!(corrections(&book, &report, 1, difference), (4, 0));
+        assert_eq!(corrections(&book, &report, 0, difference), (4, 8));
+    }
+    assert_eq!(corrections(&book, &report[..4], 1, 7), (9, 9));
+    assert_eq!(corrections(&book, &[], 1, 7), (9, 9));
+    for place in 0..5 {
+        let mut wrong = report.clone();
+        wrong[place] += 1;
+        assert_eq!(corrections(&book, &wrong, 1, 7), (9, 9));
+    }
+    let longer = [&report[..], &[1, 2, 3]].concat();
+    assert_eq!(corrections(&book, &longer, 1, 7), (0, 0));
+    let mut faulty = book.clone();
+    faulty.held[0] = 0;
+    assert_eq!(corrections(&faulty, &report, 1, i64::MAX), (4, 6), "4 before 6");
+}
+
+#[test]
+fn a_piece_without_held_marks() {
+    let mut book = ring();
+    book.b = 6;
+    book.lines.extend([5, 4, 0, 10, 1]);
+    let adjust = |held: &[i64]| {
+        let mut heights = [9; 6];
+        let answer = Reference::new().adjust(book.b, book.t, held, &book.lines, &mut heights);
+        (answer.number, answer.place)
+    };
+    assert_eq!(adjust(&[]), (11, 1));
+    assert_eq!(adjust(&[3, 0]), (11, 4));
+    assert_eq!(adjust(&[3, 0, 6, 0]), (11, 4));
+    assert_eq!(adjust(&[5, 0, 3, 0]), (11, 6));
+    assert_eq!(adjust(&[5, 0, 3, 0, 6, 0]), (0, 0));
+}
+
+#[test]
+fn sweeps_without_end() {
+    let mut lines = vec![];
+    for (from, to) in Shape::ring(256).pairs {
+        lines.extend([from, to, 100_000_000, 1000, 1]);
+    }
+    let mut heights = [9; 256];
+    let answer = Reference::new().adjust(256, 1, &[1, 0], &lines, &mut heights);
+    assert_eq!(answer, Adjusted { number: 12, place: 0, sweeps: 0 });
+    assert_eq!(heights, [9; 256]);
+}
+
+#[test]
+fn no_free_mark_is_one_sweep() {
+    let mut heights = [9; 3];
+    let answer = Reference::new().adjust(2, 1, &[2, 5, 1, 6], &[], &mut heights);
+    assert_eq!(answer, Adjusted { number: 0, place: 0, sweeps: 1 });
+    assert_eq!(heights, [6, 5, 9]);
+}
+
+#[test]
+fn halves_go_toward_zero() {
+    for (difference, height) in [(1, 0), (-1, 0), (3, 1), (-3, -1)] {
+        // The free mark starts at 0 by the tree line, and the other says difference: g/D is half of it.
+        let lines = [1, 2, 0, 1000, 1, 1, 2, difference, 1000, 1];
+        let mut heights = [9; 2];
+        let answer = Reference::new().adjust(2, 1, &[1, 0], &lines, &mut heights);
+        assert_eq!((answer.number, heights), (0, [0, height]));
+    }
+}
+
+#[test]
+fn rates_refused() {
+    let Book { b, t, held, lines } = ring();
+    let most = 50_000_000_000;
+    let rate = |heights: &[i64], line| Reference::new().rate(b, t, &held, &lines, heights, line);
+    let refused = |number, place| Rated { number, place, ..Rated::default() };
+    assert_eq!(rate(&[0, 0], 1), refused(4, 0));
+    assert_eq!(rate(&[0; 4], 1), refused(4, 0));
+    for line in [0, 5, -1, i64::MIN, i64::MAX] {
+        assert_eq!(rate(&[most + 1; 3], line), refused(8, 0), "8 before 13");
+    }
+    assert_eq!(rate(&[0, most + 1, i64::MIN], 1), refused(13, 2));
+    assert_eq!(rate(&[0, 0, -most - 1], 4), refused(13, 3), "before a withdrawn line");
+    let withdrawn = Rated { line: 4, withdrawn: 1, ..Rated::default() };
+    assert_eq!(rate(&[0, most, -most], 4), withdrawn);
+    let correction = -2 * most + 2000;
+    let extreme =
+        Rated { line: 2, correction, rate: correction as f64 / 100.0, ..Rated::default() };
+    assert_eq!(rate(&[0, most, -most], 2), extreme);
+    let wrong_b = Reference::new().rate(i64::MAX, t, &held, &lines, &[], 1);
+    assert_eq!(wrong_b, refused(4, 0));
+}
+
+/// A number that a careless caller might lend.
+fn any_number(random: &mut Random) -> i64 {
+    match random.below(4) {
+        0 => random.pick(&[i64::MIN, i64::MAX, 0, -1, 256, 257, 512, 513]),
+        1 => random.within(0, 3),
+        2 => random.within(-20, 200),
+        _ => random.bits() as i64,
+    }
+}
+
+fn any_numbers(random: &mut Random) -> Vec<i64> {
+    let count = random.below(12);
+    (0..count).map(|_| any_number(random)).collect()
+}
+
+/// Whatever is lent, the calls return; a wrapped sum or a bad index would stop this test.
+#[test]
+fn never_panics() {
+    let mut random = Random::new(4);
+    let random = &mut random;
+    let mut reference = Reference::new();
+    for _ in 0..50_000 {
+        let Book { b, t, held, mut lines } = edge_book(random);
+        let b = if random.once_in(2) { b } else { any_number(random) };
+        let t = if random.once_in(2) { t } else { any_number(random) };
+        let held = if random.once_in(2) { held } else { any_numbers(random) };
+        if random.once_in(2) {
+            lines = any_numbers(random);
+        }
+        let (number, difference) = (any_number(random), any_number(random));
+        let mut out = any_numbers(random);
+        let file: Vec<u8> = (0..random.below(30)).map(|_| random.bits() as u8).collect();
+        reference.report(&file);
+        reference.read(&file, &mut any_numbers(random), &mut out);
+        reference.survey(b, t, &held, &lines, &mut out);
+        reference.listing(b, t, &held, &lines, number, &mut out);
+        reference.not_checked(b, t, &held, &lines, &mut out);
+        reference.rate(b, t, &held, &lines, &out, number);
+        reference.adjust(b, t, &held, &lines, &mut out);
+        reference.rerun(b, t, &held, &mut lines, &mut out, number, difference);
+        reference.withdraw(b, t, &held, &mut lines, &mut out, number);
+    }
+}

@@ -1,0 +1,330 @@
+//! The rules once more, word by word and slowly, on small books with many ties.
+
+use reference::trial::call::own_report;
+use reference::trial::random::Random;
+use reference::trial::shapes::{edge_book, good_book, roots, small_book};
+use reference::trial::Book;
+use reference::*;
+
+/// A line of the book, with its number.
+#[derive(Clone, Copy, Debug)]
+struct Line {
+    number: i64,
+    from: i64,
+    to: i64,
+    difference: i64,
+    length: i64,
+}
+
+impl Line {
+    /// The other end, seen from a mark, if the line touches it.
+    fn beyond(&self, mark: i64) -> Option<i64> {
+        match mark {
+            m if m == self.from => Some(self.to),
+            m if m == self.to => Some(self.from),
+            _ => None,
+        }
+    }
+
+    /// The difference when run from a mark.
+    fn rise_from(&self, mark: i64) -> i64 {
+        if mark == self.from {
+            self.difference
+        } else {
+            -self.difference
+        }
+    }
+}
+
+/// Only standing lines count.
+fn standing(book: &Book) -> Vec<Line> {
+    let numbered = (1..).zip(book.lines.chunks_exact(LINE));
+    let standing = numbered.filter(|(_, l)| l[4] == 1);
+    standing
+        .map(|(number, l)| Line { number, from: l[0], to: l[1], difference: l[2], length: l[3] })
+        .collect()
+}
+
+/// Tree and closing lines, and the number of pieces.
+struct Slow {
+    tree: Vec<Line>,
+    closing: Vec<Line>,
+    pieces: i64,
+}
+
+fn slow_tree(b: i64, lines: &[Line]) -> Slow {
+    let mut slow = Slow { tree: vec![], closing: vec![], pieces: 0 };
+    let mut entered: Vec<i64> = vec![];
+    for root in 1..=b {
+        if entered.contains(&root) {
+            continue;
+        }
+        slow.pieces += 1;
+        let mut candidates: Vec<(i64, i64, Line)> = vec![]; // score, number, line
+        let (mut mark, mut distance) = (root, 0);
+        loop {
+            entered.push(mark);
+            // Every candidate that now has both ends in the tree becomes a closing line.
+            let (mut closed, rest): (Vec<_>, Vec<_>) = candidates
+                .into_iter()
+                .partition(|(_, _, l)| entered.contains(&l.from) && entered.contains(&l.to));
+            closed.sort_by_key(|&(score, number, _)| (score, number));
+            slow.closing.extend(closed.iter().map(|c| c.2));
+            candidates = rest;
+            // A line becomes a candidate when the first of its two ends enters the tree.
+            for l in lines {
+                if l.beyond(mark).is_some_and(|other| !entered.contains(&other)) {
+                    candidates.push((distance + l.length, l.number, *l));
+                }
+            }
+            candidates.sort_by_key(|&(score, number, _)| (score, number));
+            if candidates.is_empty() {
+                break;
+            }
+            let (score, _, l) = candidates.remove(0);
+            slow.tree.push(l);
+            mark = if entered.contains(&l.from) { l.to } else { l.from };
+            distance = score;
+        }
+    }
+    slow
+}
+
+/// A search through every path in a subgraph that ends at a mark.
+struct Search<'a> {
+    subgraph: &'a [Line],
+    end: i64,
+    seen: Vec<i64>,
+    path: Vec<i64>,
+    best: Option<(i64, Vec<i64>)>,
+}
+
+impl Search<'_> {
+    fn go_on(&mut self, at: i64, length: i64) {
+        if at == self.end {
+            let this = (length, self.path.clone());
+            if self.best.as_ref().is_none_or(|best| this < *best) {
+                self.best = Some(this);
+            }
+            return;
+        }
+        self.seen.push(at);
+        for l in self.subgraph {
+            if let Some(next) = l.beyond(at).filter(|m| !self.seen.contains(m)) {
+                self.path.push(l.number);
+                self.go_on(next, length + l.length);
+                self.path.pop();
+            }
+        }
+        self.seen.pop();
+    }
+}
+
+/// The length and line numbers of the path from a line's to end to its from end, if there is one.
+fn slow_path(subgraph: &[Line], line: Line) -> Option<(i64, Vec<i64>)> {
+    let mut search = Search { subgraph, end: line.from, seen: vec![], path: vec![], best: None };
+    search.go_on(line.to, 0);
+    search.best
+}
+
+/// Report rows, and each loop's listing.
+fn slow_loops(t: i64, slow: &Slow) -> (Vec<i64>, Vec<Vec<i64>>) {
+    let mut subgraph = slow.tree.clone();
+    let (mut rows, mut lists) = (vec![], vec![]);
+    for &closing in &slow.closing {
+        let (length, path) = slow_path(&subgraph, closing).expect("the tree joins every piece");
+        let (mut misclosure, mut at) = (closing.difference, closing.to);
+        let mut list = vec![closing.number];
+        for &number in &path {
+            let l = subgraph.iter().find(|l| l.number == number).expect("a line of the path");
+            misclosure += l.rise_from(at);
+            list.push(if l.from == at { number } else { -number });
+            at = l.beyond(at).expect("the path is joined");
+        }
+        assert_eq!(at, closing.from);
+        if path.len() != 1 {
+            subgraph.push(closing);
+        }
+        let length = length + closing.length;
+        let within = misclosure as i128 * misclosure as i128 <= (10 * t * t * length) as i128;
+        let count = list.len() as i64;
+        rows.extend([closing.number, count, length, misclosure, !within as i64]);
+        lists.push(list);
+    }
+    (rows, lists)
+}
+
+/// Lines in no reported loop, by rising number.
+fn slow_not_checked(lines: &[Line], lists: &[Vec<i64>]) -> Vec<i64> {
+    let checked = |number: i64| lists.iter().flatten().any(|&signed| signed.abs() == number);
+    lines.iter().map(|l| l.number).filter(|&number| !checked(number)).collect()
+}
+
+/// Lines whose ends are apart without them.
+fn slow_on_no_circuit(lines: &[Line]) -> Vec<i64> {
+    let apart = |line: &&Line| {
+        let others: Vec<Line> = lines.iter().copied().filter(|l| l.number != line.number).collect();
+        slow_path(&others, **line).is_none()
+    };
+    lines.iter().filter(apart).map(|l| l.number).collect()
+}
+
+/// The heights before the first sweep; or the lowest mark of the first piece without a held mark.
+fn slow_start(book: &Book, tree: &[Line]) -> Result<Vec<i64>, i64> {
+    let roots = roots(book.b, &book.lines);
+    let root = |mark: i64| roots[mark as usize - 1];
+    let mut heights: Vec<Option<i64>> = vec![None; book.b as usize + 1];
+    for piece in (1..=book.b).filter(|&m| root(m) == m) {
+        let of_piece = book.held.chunks_exact(HELD).filter(|entry| root(entry[0]) == piece);
+        let lowest = of_piece.min_by_key(|entry| entry[0]).ok_or(piece)?;
+        heights[lowest[0] as usize] = Some(lowest[1]);
+        // The others follow along the tree.
+        while let Some((mark, height)) = tree.iter().find_map(|l| follow(&heights, l)) {
+            heights[mark as usize] = Some(height);
+        }
+    }
+    for entry in book.held.chunks_exact(HELD) {
+        heights[entry[0] as usize] = Some(entry[1]);
+    }
+    Ok(heights[1..].iter().map(|h| h.expect("the tree reaches every mark")).collect())
+}
+
+/// A mark without a height beside one that has one, and the height it gets.
+fn follow(heights: &[Option<i64>], l: &Line) -> Option<(i64, i64)> {
+    match (heights[l.from as usize], heights[l.to as usize]) {
+        (Some(height), None) => Some((l.to, height + l.difference)),
+        (None, Some(height)) => Some((l.from, height - l.difference)),
+        _ => None,
+    }
+}
+
+/// The move of a mark: g/D to the nearest whole number, halves toward zero.
+fn slow_move(lines: &[Line], heights: &[i64], mark: i64) -> i64 {
+    let height = |m: i64| heights[m as usize - 1];
+    let (mut d, mut g) = (0, 0);
+    for l in lines {
+        if let Some(other) = l.beyond(mark) {
+            let weight = 1_000_000 / l.length;
+            d += weight;
+            g += weight * (height(other) + l.rise_from(other) - height(mark));
+        }
+    }
+    // Of the whole numbers with the least distance from g/D, the one nearest to zero.
+    let about = g / d;
+    (about - 2..=about + 2).min_by_key(|q| ((g - q * d).abs(), q.abs())).unwrap_or(0)
+}
+
+/// The number and place of the refusal, or the sweeps and heights.
+fn slow_adjust(book: &Book, tree: &[Line]) -> Result<(i64, Vec<i64>), (i64, i64)> {
+    let lines = standing(book);
+    let mut heights = slow_start(book, tree).map_err(|mark| (11, mark))?;
+    let held = |mark: i64| book.held.chunks_exact(HELD).any(|entry| entry[0] == mark);
+    for sweep in 1..=10_000 {
+        let before = heights.clone();
+        for mark in (1..=book.b).filter(|&m| !held(m)) {
+            let height = heights[mark as usize - 1] + slow_move(&lines, &heights, mark);
+            heights[mark as usize - 1] = height;
+            if height.abs() > MAX_HEIGHT {
+                return Err((13, mark));
+            }
+        }
+        if heights == before {
+            return Ok((sweep, heights));
+        }
+    }
+    Err((12, 0))
+}
+
+/// A corrected report equals the fresh one of the corrected book; the vacated row is zeros.
+fn corrections(reference: &mut Reference, book: &Book, rows: &[i64], random: &mut Random) {
+    let all = standing(book);
+    if all.is_empty() {
+        return;
+    }
+    let line = all[random.below(all.len())].number;
+    for withdrawing in [false, true] {
+        let (mut book, mut report) = (book.clone(), [rows, &[77]].concat());
+        let Book { b, t, held, lines } = &mut book;
+        let answer = if withdrawing {
+            reference.withdraw(*b, *t, held, lines, &mut report, line)
+        } else {
+            let difference = random.within(-MAX_DIFFERENCE, MAX_DIFFERENCE);
+            reference.rerun(*b, *t, held, lines, &mut report, line, difference)
+        };
+        let mut fresh = own_report(reference, &book);
+        assert_eq!((answer.number, answer.rows as usize), (0, fresh.len() / ROW), "{book:?}");
+        fresh.resize(rows.len(), 0);
+        assert_eq!(report, [&fresh[..], &[77]].concat(), "{book:?}");
+    }
+}
+
+fn same_as_slow(reference: &mut Reference, book: &Book, random: &mut Random) {
+    let Book { b, t, held, lines } = book;
+    let all = standing(book);
+    let slow = slow_tree(*b, &all);
+    let (rows, lists) = slow_loops(*t, &slow);
+    let open = slow_not_checked(&all, &lists);
+    assert_eq!(open, slow_on_no_circuit(&all), "{book:?}");
+
+    let tree: Vec<i64> = slow.tree.iter().map(|l| l.number).collect();
+    assert_eq!(reference.tree(*b, *t, held, lines), tree, "{book:?}");
+    let mut got = vec![0; rows.len()];
+    let answer = reference.survey(*b, *t, held, lines, &mut got);
+    let count = slow.closing.len() as i64;
+    assert_eq!(answer, Answer { number: 0, place: 0, rows: count, pieces: slow.pieces });
+    assert_eq!(got, rows, "{book:?}");
+    for (number, list) in (1..).zip(&lists) {
+        let mut out = vec![0; list.len()];
+        let listed = reference.listing(*b, *t, held, lines, number, &mut out);
+        assert_eq!((listed.number, &out), (0, list), "{book:?}");
+    }
+    let mut out = vec![0; open.len()];
+    let listed = reference.not_checked(*b, *t, held, lines, &mut out);
+    assert_eq!((listed.entries, &out), (open.len() as i64, &open), "{book:?}");
+    corrections(reference, book, &rows, random);
+
+    let mut heights = vec![5; *b as usize];
+    let adjusted = reference.adjust(*b, *t, held, lines, &mut heights);
+    match slow_adjust(book, &slow.tree) {
+        Err((number, place)) => {
+            assert_eq!(adjusted, Adjusted { number, place, sweeps: 0 }, "{book:?}");
+            assert!(heights.iter().all(|&height| height == 5), "{book:?}");
+        }
+        Ok((sweeps, want)) => {
+            assert_eq!(adjusted, Adjusted { number: 0, place: 0, sweeps }, "{book:?}");
+            assert_eq!(heights, want, "{book:?}");
+        }
+    }
+}
+
+#[test]
+fn small_books() {
+    let mut random = Random::new(1);
+    let mut reference = Reference::new();
+    for _ in 0..20_000 {
+        let book = small_book(&mut random);
+        same_as_slow(&mut reference, &book, &mut random);
+    }
+}
+
+#[test]
+fn edge_books() {
+    let mut random = Random::new(2);
+    let mut reference = Reference::new();
+    for _ in 0..500 {
+        let book = edge_book(&mut random);
+        same_as_slow(&mut reference, &book, &mut random);
+    }
+}
+
+/// On books of every size: a corrected report equals the fresh one.
+#[test]
+fn corrections_of_large_books() {
+    let mut random = Random::new(3);
+    let mut reference = Reference::new();
+    for _ in 0..2000 {
+        let book = good_book(&mut random);
+        let rows = own_report(&mut reference, &book);
+        corrections(&mut reference, &book, &rows, &mut random);
+    }
+}
