@@ -1,4 +1,4 @@
-// The public calls on a lent book: survey, listing, not-checked list, re-run and withdrawal.
+// The public calls on a lent book: survey, re-run and withdrawal; list.rt has a loop's lines for the listing to come.
 ghost use mathlib.Core.Path.{_≡_};
 ghost use Rattle.survey.specs.Report.{refusal};
 ghost use Rattle.survey.specs.Survey.{surveyed, surveyOf};
