@@ -25,11 +25,6 @@ use Rattle.adjust.specs.declared.rates.RateAnswer.{RateAnswer}
 unfoldable pub quotient : ℤ → ℤ → Float
 quotient correction length = div binary64 (ofInt binary64 correction) (ofInt binary64 length)
 
--- "A line's answer is either its rate or that the line is withdrawn."
-unfoldable pub rateOf : ℤ → ℤ → ℤ → Rate
-unfolding quotient
-rateOf standing correction length = cond (eqZ standing (pos 0)) Withdrawn (PerKm (quotient correction length))
-
 -- "A row for printing carries line, correction and rate together"; "of a withdrawn line, correction and rate" are 0
 unfoldable pub rowOf : ℕ → ℤ → Rate → RateRow
 rowOf line correction (PerKm rate) = record { line = line; correction = correction; rate = rate }
@@ -43,7 +38,7 @@ correctionAt heights lines i = height heights (natAbs (toAt lines i)) -ℤ heigh
 unfoldable pub refusedRate : ℕ → ℕ → RateAnswer
 refusedRate number place = record { number = number; place = place; line = 0; correction = pos 0; rate = PerKm (fin false 0 (pos 0)) }
 
--- "of a withdrawn line, correction and rate" are 0
+-- "A line's answer is either its rate or that the line is withdrawn"; "of a withdrawn line, correction and rate" are 0
 unfoldable pub lineRate : List ℤ → List ℤ → ℕ → ℕ → RateAnswer
 unfolding correctionAt quotient
 lineRate heights lines line i =

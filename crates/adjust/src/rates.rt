@@ -2,7 +2,7 @@
 ghost use mathlib.Core.Path.{_≡_};
 ghost use lib.IntN.{natAbs};
 ghost use Prim.Native.Nat.{_-_, _<_, _^_};
-ghost use Rattle.adjust.specs.Rates.{quotient, rateOf, rowOf, refusedRate, firstHigh, correctionAt, lineRate, goodRate};
+ghost use Rattle.adjust.specs.Rates.{quotient, rowOf, refusedRate, firstHigh, correctionAt, lineRate, goodRate};
 ghost use Rattle.adjust.specs.Chains.{Place, Lines};
 ghost use lib.ListN.{length};
 ghost use Rattle.adjust.specs.Table.{Working};
@@ -36,22 +36,11 @@ pub struct RateAnswer {
 }
 
 // Both numbers are below 2 to the 53rd, so that the casts are exact; the quotient is rounded once.
-pub fn per_km(correction: i64, length: i64) -> f64
+fn per_km(correction: i64, length: i64) -> f64
     requires { ⌜ natAbs correction < 2 ^ 53 ⌝ ∗ ⌜ natAbs length < 2 ^ 53 ⌝ }
     ensures { λ r. ⌜ r ≡ quotient correction length ⌝ }
 {
     correction as f64 / length as f64
-}
-
-// The answer of a line by its standing.
-pub fn rate_of(standing: i64, correction: i64, length: i64) -> Rate
-    requires { ⌜ natAbs correction < 2 ^ 53 ⌝ ∗ ⌜ natAbs length < 2 ^ 53 ⌝ }
-    ensures { λ r. ⌜ r ≡ rateOf standing correction length ⌝ }
-{
-    if signed::same(standing, 0) {
-        return Rate::Withdrawn;
-    }
-    Rate::PerKm(per_km(correction, length))
 }
 
 // The row of a line for printing: of a withdrawn line the correction and the rate are 0.

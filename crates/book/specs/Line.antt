@@ -18,24 +18,40 @@ use Rattle.book.specs.declared.line.MadeLine.the-variants.{Good, Faulty}
 abbrev pub lineWords : ℕ
 lineWords = 5
 
+-- which of them is which
+abbrev pub fromField : ℕ
+fromField = 0
+
+abbrev pub toField : ℕ
+toField = 1
+
+abbrev pub differenceField : ℕ
+differenceField = 2
+
+abbrev pub lengthField : ℕ
+lengthField = 3
+
+abbrev pub standingField : ℕ
+standingField = 4
+
 -- number k of the line at place i, counted from 0
 abbrev pub field : ℕ → List ℤ → ℕ → ℤ
 field k lines i = getD lines (i * lineWords + k) (pos 0)
 
 abbrev pub fromAt : List ℤ → ℕ → ℤ
-fromAt = field 0
+fromAt = field fromField
 
 abbrev pub toAt : List ℤ → ℕ → ℤ
-toAt = field 1
+toAt = field toField
 
 abbrev pub differenceAt : List ℤ → ℕ → ℤ
-differenceAt = field 2
+differenceAt = field differenceField
 
 abbrev pub lengthAt : List ℤ → ℕ → ℤ
-lengthAt = field 3
+lengthAt = field lengthField
 
 abbrev pub standingAt : List ℤ → ℕ → ℤ
-standingAt = field 4
+standingAt = field standingField
 
 -- how many lines a slice holds
 abbrev pub lineCount : List ℤ → ℕ

@@ -52,6 +52,10 @@ abbrev pub closingNumber : Loop → ℕ
 closingNumber [] = zero
 closingNumber (p ∷ ps) = p .line .number
 
+-- numbers per row
+abbrev pub rowWords : ℕ
+rowWords = 5
+
 -- "A report row is five numbers: closing line, count of lines, length, misclosure, verdict"
 unfoldable pub row : ℕ → Loop → List ℤ
 unfolding wayLength misclosure verdict

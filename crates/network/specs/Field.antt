@@ -6,23 +6,8 @@ use mathlib.Core.List.{List}
 use lib.IntN.{ℤ, pos, natAbs}
 use lib.ListN.{length, getD}
 use Rattle.book.specs.Line.{lineWords}
+pub use Rattle.book.specs.Line.{fromField, toField, differenceField, lengthField, standingField}
 use Rattle.network.specs.Standing.{Line, line}
-
--- the places of a line's numbers
-abbrev pub fromField : ℕ
-fromField = 0
-
-abbrev pub toField : ℕ
-toField = 1
-
-abbrev pub differenceField : ℕ
-differenceField = 2
-
-abbrev pub lengthField : ℕ
-lengthField = 3
-
-abbrev pub standingField : ℕ
-standingField = 4
 
 -- where field k of line i stands; lines are counted from 0 here
 abbrev pub place : ℕ → ℕ → ℕ

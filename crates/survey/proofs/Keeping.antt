@@ -13,8 +13,8 @@ use Rattle.book.specs.declared.Book.{Book}
 use Rattle.survey.specs.GoodLines.{GoodLines}
 use Rattle.survey.specs.Report.{loopsOf, reportOf, counted}
 use Rattle.survey.specs.Survey.{Surveyed, surveyed, surveyGood}
-use Rattle.survey.specs.Correction.{noLine, otherReport, updated, corrected, correctGood, Refresh, Refreshed}
-use Rattle.survey.specs.Kept.{keptOf}
+use Rattle.survey.specs.Correction.{noLine, otherReport, updated, corrected, correctGood}
+use Rattle.survey.specs.Kept.{keptOf, Refresh, Refreshed}
 use Rattle.survey.specs.declared.Answer.{Answer}
 use Rattle.survey.specs.declared.correct.Kept.{Kept}
 use Rattle.survey.specs.declared.correct.Kept.the-variants.{Rows, Other}

@@ -2,13 +2,11 @@
 -- Assumes nothing.
 use mathlib.Core.Bool.{Bool, true, false, not, cond, _||_}
 use mathlib.Core.List.{List, [], _∷_, _++_}
-use mathlib.Core.Path.{_≡_}
-use Prim.Native.Nat.{ℕ, _+_, _-_, _*_, _≤_}
-use lib.Dec.{ltb}
+use Prim.Native.Nat.{ℕ, _+_, _-_, _*_}
 use lib.ListN.{length, take, drop, set, replicate}
 use lib.IntN.{ℤ, pos, natAbs}
 use Rattle.laws.specs.Tests.{outZ, eqZ}
-use Rattle.book.specs.Line.{lineWords, lineCount, standingAt, differenceOut}
+use Rattle.book.specs.Line.{lineWords, differenceField, standingField, lineCount, standingAt, differenceOut}
 use Rattle.book.specs.Test.{testOf}
 use Rattle.book.specs.declared.Book.{Book}
 use Rattle.book.specs.declared.Tested.{Tested}
@@ -66,11 +64,11 @@ placeOf number k = (natAbs number - 1) * lineWords + k
 
 -- "Re-run sets the line's difference to the new one .. and nothing else in the book changes"
 unfoldable pub rerunLines : List ℤ → ℤ → ℤ → List ℤ
-rerunLines lines number difference = set lines (placeOf number 2) difference
+rerunLines lines number difference = set lines (placeOf number differenceField) difference
 
 -- "withdrawal its standing to 0"
 unfoldable pub withdrawLines : List ℤ → ℤ → List ℤ
-withdrawLines lines number = set lines (placeOf number 4) (pos 0)
+withdrawLines lines number = set lines (placeOf number standingField) (pos 0)
 
 -- 4 is also "a new difference outside its limit"
 unfoldable pub rerunOf : ℤ → ℤ → List ℤ → List ℤ → List ℤ → ℤ → ℤ → Corrected
@@ -82,13 +80,3 @@ rerunOf b t held lines report number difference =
 unfoldable pub withdrawOf : ℤ → ℤ → List ℤ → List ℤ → List ℤ → ℤ → Corrected
 unfolding correctTested testOf withdrawLines
 withdrawOf b t held lines report number = correctTested lines report number (withdrawLines lines number) (testOf b t held lines)
-
--- before the report is brought up to date: it kept so many rows, and the book has no more now
-pub record Refresh (k : Book) (lines report : List ℤ) (before : ℕ) : Type 0 where
-  pub fewer : length (reportOf (k .marks) (k .tolerance) lines) ≤ before * 5
-  pub places : before * 5 ≤ length report
-
--- and after: the rows of the book as it stands, zeros in vacated rows, the rest as it was
-pub record Refreshed (k : Book) (lines report report′ : List ℤ) (before : ℕ) (a : Answer) : Type 0 where
-  pub answer : a ≡ counted (k .marks) lines
-  pub report-is : report′ ≡ reportOf (k .marks) (k .tolerance) lines ++ replicate (before * 5 - length (reportOf (k .marks) (k .tolerance) lines)) (pos 0) ++ drop (before * 5) report

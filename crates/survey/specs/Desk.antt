@@ -3,7 +3,6 @@
 use Prim.Native.Nat.{ℕ, _≤_}
 use mathlib.Core.List.{List}
 use lib.ListN.{length}
-use Rattle.tree.specs.Plant.{Below}
 
 pub record Desk (tip long head next far add best seg order rank sort close path : List ℕ) : Type 0 where
   pub tips : 2048 ≤ length tip

@@ -16,7 +16,7 @@ unfoldable pub halvesListed : ℕ → List ℕ → List ℤ
 unfolding halfListed
 halvesListed number path = pos number ∷ map halfListed path
 
--- what the listing asks for: a halves of lines, and a line's number
+-- what the listing asks for: a small number for the closing line, and the first a places of the path filled
 pub record Halves (number a : ℕ) (path : List ℕ) : Type 0 where
   pub small : number < 1024
   pub places : a ≤ length path

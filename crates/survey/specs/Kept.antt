@@ -1,13 +1,16 @@
--- Whether a lent report is the book's own, and of how many rows.
+-- The kept report: whether it is the book's own and of how many rows, and how it is brought up to date.
 -- Assumes nothing.
-use Prim.Native.Nat.{ℕ}
+use Prim.Native.Nat.{ℕ, _-_, _*_, _≤_}
+use mathlib.Core.Path.{_≡_}
 use mathlib.Core.Bool.{cond}
-use mathlib.Core.List.{List}
-use lib.IntN.{ℤ}
-use lib.ListN.{length}
+use mathlib.Core.List.{List, _++_}
+use lib.IntN.{ℤ, pos}
+use lib.ListN.{length, drop, replicate}
 use Rattle.book.specs.declared.Book.{Book}
-use Rattle.survey.specs.Report.{loopsOf, reportOf}
+use Rattle.loops.specs.Row.{rowWords}
+use Rattle.survey.specs.Report.{loopsOf, reportOf, counted}
 use Rattle.survey.specs.Correction.{otherReport}
+use Rattle.survey.specs.declared.Answer.{Answer}
 use Rattle.survey.specs.declared.correct.Kept.{Kept}
 use Rattle.survey.specs.declared.correct.Kept.the-variants.{Rows, Other}
 
@@ -15,3 +18,13 @@ unfoldable pub keptOf : Book → List ℤ → List ℤ → Kept
 unfolding otherReport reportOf loopsOf
 keptOf k lines report =
     cond (otherReport report (reportOf (k .marks) (k .tolerance) lines)) Other (Rows (length (loopsOf (k .marks) lines)))
+
+-- before the report is brought up to date: it kept so many rows, and the book has no more now
+pub record Refresh (k : Book) (lines report : List ℤ) (before : ℕ) : Type 0 where
+  pub fewer : length (reportOf (k .marks) (k .tolerance) lines) ≤ before * rowWords
+  pub places : before * rowWords ≤ length report
+
+-- and after: the rows of the book as it stands, zeros in vacated rows, the rest as it was
+pub record Refreshed (k : Book) (lines report report′ : List ℤ) (before : ℕ) (a : Answer) : Type 0 where
+  pub answer : a ≡ counted (k .marks) lines
+  pub report-is : report′ ≡ reportOf (k .marks) (k .tolerance) lines ++ replicate (before * rowWords - length (reportOf (k .marks) (k .tolerance) lines)) (pos 0) ++ drop (before * rowWords) report

@@ -5,7 +5,7 @@ use mathlib.Core.Path.{_≡_}
 use mathlib.Core.List.{List}
 use lib.IntN.{ℤ, pos, natAbs}
 use Rattle.book.specs.Limits.{mostDifference}
-use Rattle.book.specs.Line.{lineCount, standingAt}
+use Rattle.book.specs.Line.{differenceField, standingField, lineCount, standingAt}
 
 -- the line of this number is in the book, at place i from 0, and stands
 pub record Stands (lines : List ℤ) (number : ℤ) (i : ℕ) : Type 0 where
@@ -15,5 +15,5 @@ pub record Stands (lines : List ℤ) (number : ℤ) (i : ℕ) : Type 0 where
 
 -- what a correction sets: the difference of a line, inside its limit, or its standing to 0
 pub data Sets (field : ℕ) (value : ℤ) : Type 0 where
-  re-run : field ≡ 2 → natAbs value ≤ mostDifference → Sets field value
-  withdrawal : field ≡ 4 → value ≡ pos 0 → Sets field value
+  re-run : field ≡ differenceField → natAbs value ≤ mostDifference → Sets field value
+  withdrawal : field ≡ standingField → value ≡ pos 0 → Sets field value

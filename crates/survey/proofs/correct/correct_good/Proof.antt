@@ -11,7 +11,7 @@ use mir.Facts.{toZ-ofZ}
 use Rattle.survey.specs.Stands.{Stands}
 use Rattle.survey.specs.GoodLines.{GoodLines}
 use Rattle.survey.specs.Report.{loopsOf}
-use Rattle.survey.specs.Correction.{noLine, placeOf, otherReport, corrected, correctGood, Refresh, Refreshed}
+use Rattle.survey.specs.Correction.{noLine, placeOf, otherReport, corrected, correctGood}
 use Rattle.survey.proofs.Keeping.{fresh, is-other, is-kept, corrected-is, refresh-of}
 use Rattle.survey.proofs.Corrected.{stands-of, field-few, corrected-good, corrected-fewer}
 use borrow.Author.Needs.{needs}
