@@ -25,8 +25,8 @@ use Rattle.file.specs.Read.{statedLength, statedVersion, statedT, statedB, stat
 use Rattle.file.proofs.Reading.{held-entries, line-entries}
 use Rattle.survey.specs.Report.{loopsOf}
 use Rattle.survey.specs.Survey.{surveyOf}
-use Rattle.survey.specs.Listing.{listingOf}
-use Rattle.survey.specs.NotChecked.{uncheckedOf, notCheckedOf}
+use Rattle.lists.specs.Listing.{listingOf}
+use Rattle.lists.specs.NotChecked.{uncheckedOf, notCheckedOf}
 use Rattle.survey.specs.Correction.{rerunOf, withdrawOf}
 use Rattle.demands.specs.Tables.{bookFault, surveyRules, loopListing, listingRules, notCheckedRules, correctionRules, rerunRules, withdrawRules, fileRules}
 use Rattle.demands.specs.Calls.{afresh, Readable}

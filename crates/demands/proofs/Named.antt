@@ -22,8 +22,8 @@ use Rattle.book.specs.declared.Book.{Book}
 use Rattle.book.specs.declared.Tested.the-variants.{Good}
 use Rattle.survey.specs.Report.{reportOf, refusal}
 use Rattle.survey.specs.Survey.{surveyTested, surveyOf}
-use Rattle.survey.specs.Listing.{listingTested, listingOf}
-use Rattle.survey.specs.NotChecked.{notCheckedTested, notCheckedOf}
+use Rattle.lists.specs.Listing.{listingTested, listingOf}
+use Rattle.lists.specs.NotChecked.{notCheckedTested, notCheckedOf}
 use Rattle.survey.specs.Correction.{corrected, otherReport, correctGood, correctTested, rerunOf, withdrawOf}
 use Rattle.demands.specs.Tables.{bookFault}
 use Rattle.demands.specs.Calls.{SameAtEveryCall}

@@ -7,8 +7,8 @@ use Rattle.book.specs.Test.{testOf}
 use Rattle.book.specs.declared.Tested.{Tested}
 use Rattle.file.specs.Read.{Outcome, readOf}
 use Rattle.survey.specs.Survey.{Surveyed, surveyOf}
-use Rattle.survey.specs.Listing.{Listing, listingOf}
-use Rattle.survey.specs.NotChecked.{notCheckedOf}
+use Rattle.lists.specs.Listing.{Listing, listingOf}
+use Rattle.lists.specs.NotChecked.{notCheckedOf}
 use Rattle.survey.specs.Correction.{Corrected, rerunOf, withdrawOf}
 
 -- the reader: b, t, h and n, and both buffers

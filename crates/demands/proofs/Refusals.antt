@@ -21,8 +21,8 @@ use Rattle.file.specs.declared.Head.the-variants as head
 use Rattle.file.proofs.Entries.{entries-length}
 use Rattle.survey.specs.Report.{reportOf, refusal, counted}
 use Rattle.survey.specs.Survey.{Surveyed, surveyed, surveyTested, surveyOf}
-use Rattle.survey.specs.Listing.{Listing, listing, unlisted, listingTested, listingOf}
-use Rattle.survey.specs.NotChecked.{uncheckedOf, notCheckedTested, notCheckedOf}
+use Rattle.lists.specs.Listing.{Listing, listing, unlisted, listingTested, listingOf}
+use Rattle.lists.specs.NotChecked.{uncheckedOf, notCheckedTested, notCheckedOf}
 use Rattle.survey.specs.Correction.{Corrected, corrected, correctTested, rerunLines, withdrawLines, rerunOf, withdrawOf}
 use Rattle.demands.specs.Calls.{surveyDone, listDone, correctionDone, readDone, SurveyKeepsToTable, ListingKeepsToTable, NotCheckedKeepsToTable, RerunKeepsToTable, WithdrawalKeepsToTable, ReaderKeepsToTable}
 use Rattle.demands.specs.Tables.{bookFault, heldRule, lineRule, roomRule, roomsRule, surveyRules, loopListing, loopRules, correctionRules, listingRules, notCheckedRules, rerunRules, withdrawRules, fileRules}

@@ -22,8 +22,8 @@ use Rattle.loops.specs.Circuit.{Circuit}
 use Rattle.loops.proofs.Row.{within-exactly-if, over-else, rows-length}
 use Rattle.survey.specs.Report.{loopsOf, reportOf, piecesOf, counted}
 use Rattle.survey.specs.Survey.{surveyOf}
-use Rattle.survey.specs.Listing.{loopAt, listingOf}
-use Rattle.survey.specs.NotChecked.{uncheckedOf, notCheckedOf}
+use Rattle.lists.specs.Listing.{loopAt, listingOf}
+use Rattle.lists.specs.NotChecked.{uncheckedOf, notCheckedOf}
 use Rattle.survey.proofs.Places.{row-at}
 use Rattle.demands.specs.Calls.{listDone}
 use Rattle.demands.specs.Tables.{loopListing, listingRules}

@@ -21,8 +21,8 @@ use Rattle.loops.specs.Row.{closingNumber}
 use Rattle.loops.specs.Circuit.{Circuit}
 use Rattle.survey.specs.Report.{reportOf}
 use Rattle.survey.specs.Survey.{surveyed, surveyOf}
-use Rattle.survey.specs.Listing.{listing}
-use Rattle.survey.specs.NotChecked.{notCheckedOf}
+use Rattle.lists.specs.Listing.{listing}
+use Rattle.lists.specs.NotChecked.{notCheckedOf}
 use Rattle.survey.specs.Correction.{corrected, placeOf, rerunOf}
 use Rattle.demands.specs.TheLoops.{inRow}
 use Rattle.demands.proofs.Done.{survey-done-exactly-if}

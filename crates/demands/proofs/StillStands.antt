@@ -30,7 +30,7 @@ use Rattle.loops.proofs.Basis.{all-closed}
 use Rattle.loops.proofs.Rerun.{rerun-keeps-tree, rerun-keeps-closing-lines, rerun-keeps-pieces, rerun-keeps-listing, rerun-keeps-closing-line, rerun-keeps-count, rerun-keeps-length, rerun-keeps-other-loops, rerun-moves-misclosure}
 use Rattle.loops.proofs.Withdrawal.{withdrawal-keeps-loops, one-loop-goes, loops-never-grow, at-most-one-loop-fewer}
 use Rattle.survey.specs.Report.{loopsOf, piecesOf}
-use Rattle.survey.specs.Listing.{loopAt}
+use Rattle.lists.specs.Listing.{loopAt}
 use Rattle.survey.specs.Correction.{rerunLines, withdrawLines, rerunOf, withdrawOf}
 use Rattle.survey.proofs.Sounding.{good-sound}
 use Rattle.survey.proofs.Places.{loop-at-is}

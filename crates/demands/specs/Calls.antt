@@ -14,8 +14,8 @@ use Rattle.file.specs.Read as read
 use Rattle.file.specs.Read.{Outcome, answered, done, statedLength, statedVersion, fileLength, statedT, statedB, statedH, statedN, heldOf, linesOf}
 use Rattle.survey.specs.Report.{reportOf, refusal, counted}
 use Rattle.survey.specs.Survey.{Surveyed, surveyed, surveyOf}
-use Rattle.survey.specs.Listing.{Listing, listing, unlisted, listingOf}
-use Rattle.survey.specs.NotChecked.{uncheckedOf, notCheckedOf}
+use Rattle.lists.specs.Listing.{Listing, listing, unlisted, listingOf}
+use Rattle.lists.specs.NotChecked.{uncheckedOf, notCheckedOf}
 use Rattle.survey.specs.Correction.{Corrected, corrected, updated, rerunLines, withdrawLines, rerunOf, withdrawOf}
 use Rattle.demands.specs.Rules.{Rule, KeepsToTable}
 use Rattle.demands.specs.Tables.{surveyRules, loopListing, listingRules, notCheckedRules, rerunRules, withdrawRules, fileRules}

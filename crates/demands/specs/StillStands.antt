@@ -12,7 +12,7 @@ use Rattle.loops.specs.Loops.{Loop}
 use Rattle.loops.specs.Row.{listed, closingNumber, row}
 use Rattle.loops.specs.Checked.{runs}
 use Rattle.survey.specs.Report.{loopsOf, piecesOf}
-use Rattle.survey.specs.Listing.{loopAt}
+use Rattle.lists.specs.Listing.{loopAt}
 use Rattle.demands.specs.TheLoops.{treeOf, treeLinesOf, closingLinesOf}
 
 -- the loop is as it was: its lines and their sense, and its row, with misclosure and verdict

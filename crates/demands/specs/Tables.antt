@@ -13,8 +13,8 @@ use Rattle.book.specs.Test.{torn, bookOut}
 use Rattle.file.specs.Read.{statedLength, statedVersion, statedT, statedB, statedH, statedN, fileLength, heldOf, linesOf}
 use Rattle.loops.specs.Row.{listed}
 use Rattle.survey.specs.Report.{loopsOf, reportOf}
-use Rattle.survey.specs.Listing.{loopAt}
-use Rattle.survey.specs.NotChecked.{uncheckedOf}
+use Rattle.lists.specs.Listing.{loopAt}
+use Rattle.lists.specs.NotChecked.{uncheckedOf}
 use Rattle.survey.specs.Correction.{noLine, otherReport}
 use Rattle.demands.specs.Rules.{Rule, rule}
 

@@ -16,7 +16,7 @@ use Rattle.loops.specs.Loops.{Loop}
 use Rattle.loops.specs.Row.{misclosure, closingNumber}
 use Rattle.loops.specs.Checked.{runs}
 use Rattle.survey.specs.Report.{loopsOf}
-use Rattle.survey.specs.Listing.{Listing, loopAt}
+use Rattle.lists.specs.Listing.{Listing, loopAt}
 
 -- "A report row is five numbers: closing line, count of lines, length, misclosure, verdict": number j of row i, rows counted from 0
 abbrev pub inRow : ℕ → List ℤ → ℕ → ℤ

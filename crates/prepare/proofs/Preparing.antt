@@ -5,7 +5,7 @@ use mathlib.Core.Path.{_≡_, refl, _∙_}
 use mathlib.Core.List.{List, [], _∷_, List·Memᴰ, List·Memᴰ·head, List·Memᴰ·tail}
 use lib.IntN.{ℤ}
 use lib.ListN.{length}
-use Rattle.network.specs.Standing.{Line}
+use Rattle.network.specs.Standing.{Line, standing}
 use Rattle.network.specs.Tree.{tree, treeLines, pieces}
 use Rattle.network.specs.Closing.{closing}
 use Rattle.network.specs.Subgraph.{numbers}
@@ -18,7 +18,7 @@ use Rattle.closing.proofs.Members.{length-numbers}
 use Rattle.subgraph.specs.Drawn.{Plot, TreeDrawn}
 use Rattle.subgraph.proofs.Turns.{going-start, queue-start}
 use Rattle.draw.specs.Book.{Sheet}
-use Rattle.prepare.specs.Prepared.{Good, Chained, Orders, Started}
+use Rattle.prepare.specs.Prepared.{Good, Chained, Soil, Seats, BookPlanted, Orders, Started}
 
 pub sheet-of : {n : ℕ} {ls : List ℤ} {tip long head next fars add : List ℕ} → Good n ls → Chained n ls tip long head next fars add → Sheet n ls tip long head next fars add
 sheet-of g c = record {
@@ -103,3 +103,29 @@ module _ {n q : ℕ} {tip long head next fars add best order rank sort close : L
     ends = o .ends;
     adds = o .adds;
   }
+
+-- what the order of the loops asks for, of a planted book
+pub orders-of : {n : ℕ} {ls : List ℤ} {tip long head next fars add best order rank sort close : List ℕ} → Good n ls → BookPlanted n ls tip long best order
+    → n ≤ length head → n ≤ length best → n ≤ length order → Seats n ls next fars add rank sort close
+    → Orders n (length ls / 5 + 1) tip long head next fars add best order rank sort close
+orders-of {ls = ls} g p heads bests orders s = record {
+  some-mark = g .some-mark;
+  few-marks = g .few-marks;
+  some-line = omega arith;
+  few-lines = g .few-lines;
+  tips = p .tips;
+  longs = p .longs;
+  below = p .below;
+  heads = heads;
+  nexts = s .nexts;
+  ends = s .ends;
+  adds = s .adds;
+  bests = bests;
+  orders = orders;
+  ranks = s .ranks;
+  sorts = s .sorts;
+  closes = omega (arith, s .closes);
+  lines = standing ls;
+  listed = p .listed;
+  holding = p .holding;
+}

@@ -37,6 +37,15 @@ pub record Soil (n : ℕ) (best seg order : List ℕ) : Type 0 where
   pub segs : 2 * n ≤ length seg
   pub orders : n ≤ length order
 
+-- room for the order of the loops and for the subgraph as it begins
+pub record Seats (n : ℕ) (ls : List ℤ) (next fars add rank sort close : List ℕ) : Type 0 where
+  pub nexts : 2 * n ≤ length next
+  pub ends : 2 * n ≤ length fars
+  pub adds : 2 * n ≤ length add
+  pub ranks : n ≤ length rank
+  pub sorts : 2 * (length ls / 5 + 1) ≤ length sort
+  pub closes : length ls / 5 ≤ length close
+
 -- the tables and the tree of the standing lines
 pub record BookPlanted (n : ℕ) (ls : List ℤ) (tip long best order : List ℕ) : Type 0 where
   pub tips : Tips n tip
@@ -76,3 +85,8 @@ pub record Started (n : ℕ) (lines : List Line) (tip head next fars add close :
 abbrev pub Ordered : ℕ → ℕ → List ℕ → List ℕ → List ℕ → List ℕ → List ℕ → List ℕ → List ℕ → List ℕ → List ℕ → ℕ → ℕ → ℕ → Type 0
 Ordered n q tip long best order head next fars add close count nodes parts =
     (lines : List Line) → Listed lines n q tip long → Holding (tree (n - 1) lines) best order tip → Started n lines tip head next fars add close count nodes parts
+
+-- a lent book before its first turn
+pub record BookStarted (n : ℕ) (ls : List ℤ) (tip long head next fars add best order close : List ℕ) (count nodes parts : ℕ) : Type 0 where
+  pub planted : BookPlanted n ls tip long best order
+  pub started : Started n (standing ls) tip head next fars add close count nodes parts

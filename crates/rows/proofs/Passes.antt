@@ -19,6 +19,7 @@ use Rattle.loops.specs.Loops.{Loop}
 use Rattle.loops.specs.Row.{signed, misclosure, lineAllows, allowances, total, within, verdict, row}
 use Rattle.chains.specs.Chains.{codeOf, codes, halves}
 use Rattle.chains.specs.Listed.{Listed}
+use Rattle.search.specs.Front.{Written}
 use Rattle.rows.specs.Sums.{lengthOf, riseAt, riseOf, verdictOf, rowOf, HalfOk}
 
 -- ---- a standing line's difference stands in the book
@@ -77,6 +78,20 @@ pub path-lines : (b : ℕ) (sub : List Line) (u r : ℕ) (p : Pass) → List·Me
 unfolding shortest
 path-lines b sub u r p m = descend-lines sub (grow sub (r ∷ []) b) (orZero (distance (grow sub (r ∷ []) b) u)) u p m
 
+-- ---- a path as it stands in the array
+
+pub codes-count : (ps : List Pass) → length (codes ps) ≡ length ps
+unfolding codes
+codes-count [] = refl
+codes-count (p ∷ ps) = ap suc (codes-count ps)
+
+pub path-spelt : (n : ℕ) (ps : List Pass) (out out′ : List ℕ) (count : ℕ) → n ≤ length out → Written n ps out out′ count → take count out′ ≡ codes ps
+path-spelt n ps out out′ count room w =
+    let c = codes-count ps in
+    ap₂ take (w .count) (w .places)
+    ∙ ap (take (length ps)) (sets-eq (codes ps) out 0 (omega (arith, w .count, w .few)))
+    ∙ take-at (codes ps) (drop (0 + length (codes ps)) out) (length ps) c
+
 -- ---- the sums
 
 module _ (n q : ℕ) (ls : List ℤ) (tip long : List ℕ) (li : Listed (standing ls) n q tip long) where
@@ -109,11 +124,6 @@ module _ (n q : ℕ) (ls : List ℤ) (tip long : List ℕ) (li : Listed (standin
   codes-rise [] f = refl
   codes-rise (p ∷ ps) f = ap₂ (λ (x y : ℤ). x +ℤ y) (code-rise p (f p (List·Memᴰ·head refl))) (codes-rise ps (λ x i. f x (List·Memᴰ·tail i)))
 
-  pub codes-count : (ps : List Pass) → length (codes ps) ≡ length ps
-  unfolding codes
-  codes-count [] = refl
-  codes-count (p ∷ ps) = ap suc (codes-count ps)
-
   -- what a loop allows, by its length
   allowed : (t : ℕ) (lp : Loop) → total (allowances t lp) ≡ t * t * wayLength lp
   unfolding total allowances lineAllows wayLength
@@ -140,7 +150,7 @@ module _ (n q : ℕ) (ls : List ℤ) (tip long : List ℕ) (li : Listed (standin
       all p (List·Memᴰ·head e) = subst (λ (x : Pass). List·Memᴰ (x .line) (standing ls)) (sym e) i
       all p (List·Memᴰ·tail m) = f p m
 
-  -- ---- the path as it stands in the array
+  -- ---- every half is that of a line
 
   half-ok : (l : Line) → List·Memᴰ l (standing ls) → q ≡ length ls / 5 + 1 → (t : Bool) → HalfOk ls (codeOf t (l .number))
   half-ok l i e true = let s = li .sound l i in record { low = omega (arith, s .numbered); high = omega (arith, li .numbered l i); few = omega (arith, s .number) }
@@ -154,8 +164,3 @@ module _ (n q : ℕ) (ls : List ℤ) (tip long : List ℕ) (li : Listed (standin
   codes-ok [] f e j h = absurd (omega arith)
   codes-ok (p ∷ ps) f e zero h = half-ok (p .line) (f p (List·Memᴰ·head refl)) e (p .forward)
   codes-ok (p ∷ ps) f e (suc j) h = codes-ok ps (λ x i. f x (List·Memᴰ·tail i)) e j (omega arith)
-
-  pub path-taken : (out : List ℕ) (ps : List Pass) → length ps ≤ length out → take (length ps) (sets out 0 (codes ps)) ≡ codes ps
-  path-taken out ps h =
-      let c = codes-count ps in
-      ap (take (length ps)) (sets-eq (codes ps) out 0 (omega arith)) ∙ take-at (codes ps) (drop (0 + length (codes ps)) out) (length ps) c

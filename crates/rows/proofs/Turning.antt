@@ -20,8 +20,8 @@ use Rattle.subgraph.specs.Turn.{Taking, Takes, Took, Taken}
 use Rattle.subgraph.proofs.Turns.{Next, going-turn, going-next, going-more}
 use Rattle.laws.proofs.Lists.{pour}
 use Rattle.rows.specs.Sums.{HalfOk, RowAsked, rowOf}
-use Rattle.rows.specs.Turns.{Tables, NodesRoom, Due, RowDone, RowTaken, RowsAsked, RowsAt}
-use Rattle.rows.proofs.Passes.{path-lines, row-is, closing-ok, codes-ok, path-taken}
+use Rattle.rows.specs.Turns.{Tables, NodesRoom, Due, TurnDone, RowDone, RowTaken, RowsAsked, RowsAt}
+use Rattle.rows.proofs.Passes.{path-lines, path-spelt, row-is, closing-ok, codes-ok}
 
 module _ {ls : List ℤ} {n cnt number t : ℕ} {tip long head next fars add : List ℕ} (tb : Tables ls n t tip long) (d : Due ls n cnt number tip head next fars add) where
   x : Next n (standing ls) tip (d .close) (d .i) cnt head next fars add (d .going)
@@ -56,9 +56,7 @@ module _ {ls : List ℤ} {n cnt number t : ℕ} {tip long head next fars add : L
     took = tk (length ls / 5 + 1) (standing ls) (d .going .sub) (x .c) taking
 
     spelt : take count path′ ≡ codes (shortest (n - 1) (only (d .going .sub) (standing ls)) (x .c .to) (x .c .from))
-    spelt =
-        let w = took .written in
-        ap₂ take (w .count) (w .places) ∙ path-taken n (length ls / 5 + 1) ls tip long (tb .listed) path path-of (omega (arith, w .count, w .few))
+    spelt = path-spelt n path-of path path′ count room (took .written)
 
     pub row-asked : RowAsked ls long path′ count number t
     row-asked = record {
@@ -77,14 +75,20 @@ module _ {ls : List ℤ} {n cnt number t : ℕ} {tip long head next fars add : L
         w : Written n (shortest (n - 1) (only (d .going .sub) (standing ls)) (x .c .to) (x .c .from)) path path′ count
         w = took .written
 
-    pub row-done : (out′ : List ℤ) → out′ ≡ rowOf t ls long number (take count path′) → RowDone ls n cnt number t tip head next fars add head′ next′ fars′ add′ out′ nodes d
-    row-done out′ e = record {
+    pub turn-done : TurnDone ls n cnt number t tip long head next fars add head′ next′ fars′ add′ path′ count nodes d
+    turn-done = record {
       going = going-next n (standing ls) tip (d .close) (d .i) cnt head next fars add (d .going) x took;
-      lp = pass (x .c) true ∷ shortest (n - 1) (only (d .going .sub) (standing ls)) (x .c .to) (x .c .from);
+      c = x .c;
+      path = shortest (n - 1) (only (d .going .sub) (standing ls)) (x .c .to) (x .c .from);
       more = going-more n (standing ls) tip (d .close) (d .i) cnt head next fars add (d .going) x took;
-      its = e ∙ ap₂ (λ (k : ℕ) (hs : List ℕ). rowOf t ls long k hs) (d .number-is ∙ x .number) spelt
+      its = d .number-is ∙ x .number;
+      spelt = spelt;
+      row-is = ap₂ (λ (k : ℕ) (hs : List ℕ). rowOf t ls long k hs) (d .number-is ∙ x .number) spelt
           ∙ row-is n (length ls / 5 + 1) ls tip long (tb .listed) t (x .c) path-of (x .isLine) lines-of;
     }
+
+    pub row-done : (out′ : List ℤ) → out′ ≡ rowOf t ls long number (take count path′) → RowDone ls n cnt number t tip head next fars add head′ next′ fars′ add′ out′ nodes d
+    row-done out′ e = let z = turn-done in record { going = z .going; lp = pass (z .c) true ∷ z .path; more = z .more; its = e ∙ z .row-is }
 
 -- ---- row by row
 

@@ -4,16 +4,17 @@ use mathlib.Core.Path.{_≡_}
 use mathlib.Core.Bool.{true}
 use mathlib.Core.List.{List, [], _∷_, _++_}
 use lib.IntN.{ℤ}
-use lib.ListN.{length, getD, drop}
-use Rattle.network.specs.Standing.{standing}
+use lib.ListN.{length, getD, take, drop}
+use Rattle.network.specs.Standing.{Line, standing}
+use Rattle.network.specs.Path.{Pass, pass}
 use Rattle.loops.specs.Loops.{Loop, loops}
 use Rattle.loops.specs.Row.{row, rows}
 use Rattle.nearest.specs.Heap.{leafLimit}
-use Rattle.chains.specs.Chains.{Tips, numberLimit}
+use Rattle.chains.specs.Chains.{Tips, codes, numberLimit}
 use Rattle.chains.specs.Listed.{Longs, Listed}
 use Rattle.search.specs.Front.{Rooms}
 use Rattle.subgraph.specs.Turn.{Going}
-use Rattle.rows.specs.Sums.{Gentle, loosest}
+use Rattle.rows.specs.Sums.{Gentle, rowOf, loosest}
 
 -- what does not change from turn to turn: the book, its tables, the tolerance
 pub record Tables (ls : List ℤ) (n t : ℕ) (tip long : List ℕ) : Type 0 where
@@ -37,6 +38,16 @@ pub record Due (ls : List ℤ) (n cnt number : ℕ) (tip head next fars add : Li
   pub going : Going n i cnt (standing ls) tip close head next fars add
   pub left : i < length (loops (n - 1) (standing ls))
   pub number-is : number ≡ getD close i 0
+
+-- the turn is over and the loop done: its closing line c, and its path, spelt in the first count places of spelling
+pub record TurnDone (ls : List ℤ) (n cnt number t : ℕ) (tip long head next fars add head′ next′ fars′ add′ spelling : List ℕ) (count nodes : ℕ) (d : Due ls n cnt number tip head next fars add) : Type 0 where
+  pub going : Going n (d .i + 1) nodes (standing ls) tip (d .close) head′ next′ fars′ add′
+  pub c : Line
+  pub path : List Pass
+  pub more : going .done ≡ d .going .done ++ ((pass c true ∷ path) ∷ [])
+  pub its : number ≡ c .number
+  pub spelt : take count spelling ≡ codes path
+  pub row-is : rowOf t ls long number (take count spelling) ≡ row t (pass c true ∷ path)
 
 -- the turn is over, the loop is done, and out′ has its row
 pub record RowDone (ls : List ℤ) (n cnt number t : ℕ) (tip head next fars add head′ next′ fars′ add′ : List ℕ) (out′ : List ℤ) (nodes : ℕ) (d : Due ls n cnt number tip head next fars add) : Type 0 where

@@ -16,7 +16,7 @@ use Rattle.loops.specs.Loops.{Loop}
 use Rattle.loops.specs.AllLoops.{LoopsOf, no-loop, loop-then}
 use Rattle.loops.specs.Row.{row, rows}
 use Rattle.loops.proofs.Row.{row-is-five}
-use Rattle.survey.specs.Listing.{loopAt}
+use Rattle.listing.specs.Turns.{loopAt}
 
 -- the loop at a place below the count is one of the loops
 pub loop-at-is : (ls : List Loop) (i : ℕ) → i < length ls → List·Memᴰ (loopAt ls i) ls

@@ -13,10 +13,9 @@ use Rattle.network.specs.Standing.{standing}
 use Rattle.network.specs.Tree.{tree, pieces}
 use Rattle.loops.specs.Loops.{loops}
 use Rattle.loops.specs.Row.{rows}
-use Rattle.chains.specs.Listed.{Listed}
 use Rattle.search.specs.Front.{Room, Rooms}
-use Rattle.prepare.specs.Prepared.{Good, Chained, Soil, BookPlanted, Orders, Started, Ordered}
-use Rattle.rows.specs.Turns.{Tables, NodesRoom, RowsAsked}
+use Rattle.prepare.specs.Prepared.{Good, Chained, Soil, Seats, BookPlanted, Started}
+use Rattle.rows.specs.Turns.{Tables, NodesRoom}
 use Rattle.survey.specs.GoodLines.{GoodLines}
 use Rattle.survey.specs.Desk.{Desk}
 use Rattle.survey.specs.Report.{loopsOf, reportOf, piecesOf, counted, refusal}
@@ -53,53 +52,37 @@ module _ (k : Book) (ls : List ℤ) (g : GoodLines k ls) where
     pub soil-of : Soil (k .marks + 1) best seg order
     soil-of = record { bests = omega (arith, d .bests, g .few-marks); segs = omega (arith, d .segs, g .few-marks); orders = omega (arith, d .orders, g .few-marks) }
 
-    pub rooms-of : Rooms (k .marks + 1) best seg path
-    rooms-of = record {
+    pub seats-of : Seats (k .marks + 1) ls next far add rank sort close
+    seats-of = record {
+      nexts = omega (arith, d .nexts, g .few-marks);
+      ends = omega (arith, d .fars, g .few-marks);
+      adds = omega (arith, d .adds, g .few-marks);
+      ranks = omega (arith, d .ranks, g .few-marks);
+      sorts = omega (arith, d .sorts, g .few, lines-are);
+      closes = omega (arith, d .closes, g .few, lines-are);
+    }
+
+    -- the turns ask for the same room again, in tables that kept their lengths
+    pub nodes-of : (next′ far′ add′ : List ℕ) → length next′ ≡ length next → length far′ ≡ length far → length add′ ≡ length add → NodesRoom ls next′ far′ add′
+    nodes-of next′ far′ add′ nexts fars adds =
+        let s = few-standing ls in
+        record { nexts = omega (arith, d .nexts, s, g .whole, g .few); ends = omega (arith, d .fars, s, g .whole, g .few); adds = omega (arith, d .adds, s, g .whole, g .few) }
+
+    pub rooms-of : (best′ seg′ : List ℕ) → length best′ ≡ length best → length seg′ ≡ length seg → Rooms (k .marks + 1) best′ seg′ path
+    rooms-of best′ seg′ bests segs = record {
       room = record { few = omega (arith, g .few-marks); bests = omega (arith, d .bests, g .few-marks); segs = omega (arith, d .segs, g .few-marks) };
       outs = omega (arith, d .paths, g .few-marks);
     }
 
-    pub nodes-of : NodesRoom ls next far add
-    nodes-of =
-        let s = few-standing ls in
-        record { nexts = omega (arith, d .nexts, s, g .whole, g .few); ends = omega (arith, d .fars, s, g .whole, g .few); adds = omega (arith, d .adds, s, g .whole, g .few) }
-
-    module _ (p : BookPlanted (k .marks + 1) ls tip long best order) where
-      pub listed-of : Listed (standing ls) (k .marks + 1) (k .lines + 1) tip long
-      listed-of = subst (λ (q : ℕ). Listed (standing ls) (k .marks + 1) (q + 1) tip long) lines-are (p .listed)
-
-      pub orders-of : Orders (k .marks + 1) (k .lines + 1) tip long head next far add best order rank sort close
-      orders-of = record {
-        some-mark = omega arith;
-        few-marks = omega (arith, g .few-marks);
-        some-line = omega arith;
-        few-lines = omega (arith, g .few);
-        tips = p .tips;
-        longs = p .longs;
-        below = p .below;
-        heads = omega (arith, d .heads, g .few-marks);
-        nexts = omega (arith, d .nexts, g .few-marks);
-        ends = omega (arith, d .fars, g .few-marks);
-        adds = omega (arith, d .adds, g .few-marks);
-        bests = omega (arith, d .bests, g .few-marks);
-        orders = omega (arith, d .orders, g .few-marks);
-        ranks = omega (arith, d .ranks, g .few-marks);
-        sorts = omega (arith, d .sorts, g .few);
-        closes = omega (arith, d .closes, g .few);
-        lines = standing ls;
-        listed = listed-of;
-        holding = p .holding;
-      }
-
-      pub tables-of : Tables ls (k .marks + 1) (k .tolerance) tip long
-      tables-of = record {
-        few = omega (arith, g .few-marks);
-        gentle = λ i h. g .each i (omega (arith, lines-are)) .difference;
-        tolerance = g .small-tolerance;
-        tips = p .tips;
-        longs = p .longs;
-        listed = p .listed;
-      }
+  pub tables-of : (t : ℕ) → t ≤ k .tolerance → {tip long best order : List ℕ} → BookPlanted (k .marks + 1) ls tip long best order → Tables ls (k .marks + 1) t tip long
+  tables-of t h p = record {
+    few = omega (arith, g .few-marks);
+    gentle = λ i h. g .each i (omega (arith, lines-are)) .difference;
+    tolerance = omega (arith, h, g .small-tolerance);
+    tips = p .tips;
+    longs = p .longs;
+    listed = p .listed;
+  }
 
   -- how many loops there are
   module _ (tip head next far add close : List ℕ) (count nodes parts : ℕ) (s : Started (k .marks + 1) (standing ls) tip head next far add close count nodes parts) where

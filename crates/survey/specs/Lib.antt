@@ -2,9 +2,6 @@ pub mod GoodLines
 pub mod Desk
 pub mod Report
 pub mod Survey
-pub mod Halves
-pub mod Listing
-pub mod NotChecked
 pub mod Stands
 pub mod Correction
 pub mod Kept

@@ -1,4 +1,4 @@
-// The public calls on a lent book: survey, re-run and withdrawal; list.rt has a loop's lines for the listing to come.
+// The public calls on a lent book and its report: survey, re-run and withdrawal.
 ghost use mathlib.Core.Path.{_≡_};
 ghost use Rattle.survey.specs.Report.{refusal};
 ghost use Rattle.survey.specs.Survey.{surveyed, surveyOf};
@@ -6,7 +6,6 @@ ghost use Rattle.survey.specs.Correction.{corrected, rerunOf, withdrawOf
 
 mod correct;
 mod kept;
-mod list;
 mod work;
 
 use book::Tested;
@@ -18,13 +17,6 @@ pub struct Answer {
     pub place: usize,
     pub rows: usize,
     pub pieces: usize,
-}
-
-// What a listing answers.
-pub struct Listed {
-    pub number: usize,
-    pub place: usize,
-    pub entries: usize,
 }
 
 pub fn refuse(number: usize, place: usize) -> Answer

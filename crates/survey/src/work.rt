@@ -32,9 +32,8 @@ fn survey_in(
     ensures { λ r. ⌜ surveyed r (now (rows .exit)) ≡ surveyGood book (now (lines .entry)) (now (rows .entry)) ⌝ }
 {
     let n = book.marks + 1;
-    let q = book.lines + 1;
-    prepare::plant_book(lines, tip, long, head, next, far, add, best, seg, order, n);
-    let start = prepare::order_loops(
+    let start = prepare::start_book(
+        lines,
         tip,
         long,
         head,
@@ -42,12 +41,12 @@ fn survey_in(
         far,
         add,
         best,
+        seg,
         order,
         rank,
         sort,
         close,
         n,
-        q,
     );
     let count = start.count;
     if rows.len() < count * ROW_WORDS {

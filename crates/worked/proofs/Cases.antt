@@ -13,8 +13,8 @@ use Rattle.network.specs.Subgraph.{numbers}
 use Rattle.network.specs.Walk.{pass}
 use Rattle.loops.specs.Row.{verdict}
 use Rattle.survey.specs.Survey.{Surveyed, surveyOf}
-use Rattle.survey.specs.Listing.{Listing, listingOf}
-use Rattle.survey.specs.NotChecked.{notCheckedOf}
+use Rattle.lists.specs.Listing.{Listing, listingOf}
+use Rattle.lists.specs.NotChecked.{notCheckedOf}
 use Rattle.survey.specs.Correction.{Corrected, rerunOf, withdrawOf, withdrawLines}
 use Rattle.worked.specs.Network.{lines, held}
 use mathlib.Core.Bool.{true}

@@ -1,8 +1,8 @@
 -- What the listing of one loop answers, and what the lent output then holds: refusals 4, 6, 7, 8 and 10.
 -- Assumes nothing.
 use mathlib.Core.Bool.{cond}
-use mathlib.Core.List.{List, [], _∷_, _++_, map}
-use Prim.Native.Nat.{ℕ, zero, suc, _-_}
+use mathlib.Core.List.{List, _++_, map}
+use Prim.Native.Nat.{ℕ, _-_}
 use lib.Dec.{ltb}
 use lib.ListN.{length, drop}
 use lib.IntN.{ℤ, pos, natAbs}
@@ -11,14 +11,17 @@ use Rattle.book.specs.Test.{testOf}
 use Rattle.book.specs.declared.Book.{Book}
 use Rattle.book.specs.declared.Tested.{Tested}
 use Rattle.book.specs.declared.Tested.the-variants.{Good, Refused}
-use Rattle.loops.specs.Loops.{Loop}
 use Rattle.loops.specs.Row.{listed}
+pub use Rattle.listing.specs.Turns.{loopAt}
 use Rattle.survey.specs.Report.{loopsOf}
-use Rattle.survey.specs.declared.Listed.{Listed}
+use Rattle.lists.specs.declared.Listed.{Listed}
 
 -- "a listing its entries"
 abbrev pub unlisted : ℕ → ℕ → Listed
 unlisted number place = record { number = number; place = place; entries = 0 }
+
+abbrev pub entered : ℕ → Listed
+entered entries = record { number = 0; place = 0; entries = entries }
 
 -- the answer, and the output after the call
 pub record Listing : Type 0 where
@@ -32,13 +35,7 @@ listing a out = record { answer = a; out = out }
 unfoldable pub listOf : List ℤ → List ℤ → Listing
 listOf list out =
     cond (ltb (length out) (length list)) (listing (unlisted 10 0) out)
-    (listing (record { number = 0; place = 0; entries = length list }) (list ++ drop (length list) out))
-
--- the loop at place i, counted from 0
-unfoldable pub loopAt : List Loop → ℕ → Loop
-loopAt [] i = []
-loopAt (l ∷ ls) zero = l
-loopAt (l ∷ ls) (suc i) = loopAt ls i
+    (listing (entered (length list)) (list ++ drop (length list) out))
 
 -- "lines and sense are listed from the book, loop by loop", by the loop's number from 1
 unfoldable pub listingGood : Book → List ℤ → ℤ → List ℤ → Listing

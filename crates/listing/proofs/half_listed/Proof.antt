@@ -8,12 +8,12 @@ use mir.Val.{toZ, ofZ}
 use mir.Facts.{toZ-pos, toZ-ofZ}
 use borrow.Author.Tests.{eq-eqb, ne-eqb}
 use Rattle.laws.proofs.Signed.{back}
-use Rattle.survey.specs.Halves.{halfListed}
+use Rattle.listing.specs.Halves.{halfListed}
 use borrow.Author.Needs.{needs}
-use Rattle.survey.proofs.list.half_listed.Statement.{statement}
-use Rattle.survey.proofs.list.half_listed.Tie as tie
-use Rattle.survey.proofs.list.half_listed.Reads as reads
-use Rattle.survey.proofs.list.half_listed.Lts as lts
+use Rattle.listing.proofs.half_listed.Statement.{statement}
+use Rattle.listing.proofs.half_listed.Tie as tie
+use Rattle.listing.proofs.half_listed.Reads as reads
+use Rattle.listing.proofs.half_listed.Lts as lts
 use Rattle.signed.proofs.sub.Reads as sub-reads
 
 cast-number : tie.Need-cast-number

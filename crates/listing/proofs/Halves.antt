@@ -8,10 +8,10 @@ use mathlib.Core.List.{List, [], _∷_, _++_, map}
 use lib.IntN.{ℤ, pos}
 use lib.ListN.{length, take, drop, getD, set, length-set, length-take, length-map}
 use lib.Seq.{take-suc-set, drop-set-lt, getD-take}
-use Rattle.survey.specs.Halves.{halfListed, halvesListed, Halves}
-use Rattle.survey.proofs.Laid.{Laid, laid-end}
+use Rattle.listing.specs.Halves.{halfListed, halvesListed, Halves}
+use Rattle.listing.proofs.Laid.{Laid, laid-end}
 
-getD-map : {A B : Type 0} (f : A → B) (xs : List A) (i : ℕ) (a : A) (b : B) → i < length xs → getD (map f xs) i b ≡ f (getD xs i a)
+pub getD-map : {A B : Type 0} (f : A → B) (xs : List A) (i : ℕ) (a : A) (b : B) → i < length xs → getD (map f xs) i b ≡ f (getD xs i a)
 getD-map f [] i a b h = absurd (omega arith)
 getD-map f (x ∷ xs) zero a b h = refl
 getD-map f (x ∷ xs) (suc i) a b h = getD-map f xs i a b (omega arith)

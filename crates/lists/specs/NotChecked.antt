@@ -1,15 +1,17 @@
 -- What the not-checked list answers, and what the lent output then holds: refusals 4, 6, 7 and 10.
 -- Assumes nothing.
 use mathlib.Core.List.{List, map}
-use Prim.Native.Nat.{ℕ}
+use Prim.Native.Nat.{ℕ, _<_}
 use lib.IntN.{ℤ, pos}
+use lib.ListN.{length, getD}
 use Rattle.book.specs.Test.{testOf}
 use Rattle.book.specs.declared.Tested.{Tested}
 use Rattle.book.specs.declared.Tested.the-variants.{Good, Refused}
 use Rattle.network.specs.Standing.{standing}
 use Rattle.loops.specs.Checked.{notChecked}
+use Rattle.chains.specs.Chains.{numberLimit}
 use Rattle.survey.specs.Report.{loopsOf}
-use Rattle.survey.specs.Listing.{Listing, listing, unlisted, listOf}
+use Rattle.lists.specs.Listing.{Listing, listing, unlisted, listOf}
 
 -- the standing lines that no loop checks, "by rising line number"; what that means by circuits is a theorem of crate loops
 unfoldable pub uncheckedOf : ℕ → List ℤ → List ℤ
@@ -24,3 +26,7 @@ notCheckedTested lines out (Good k) = listOf (uncheckedOf (k .marks) lines) out
 unfoldable pub notCheckedOf : ℤ → ℤ → List ℤ → List ℤ → List ℤ → Listing
 unfolding notCheckedTested testOf
 notCheckedOf b t held lines out = notCheckedTested lines out (testOf b t held lines)
+
+-- line numbers, as the work writes them
+abbrev pub Numbers : List ℕ → Type 0
+Numbers list = (i : ℕ) → i < length list → getD list i 0 < numberLimit

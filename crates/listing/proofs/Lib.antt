@@ -1,0 +1,3 @@
+pub mod Laid
+pub mod Halves
+pub mod Turns

@@ -1,0 +1,55 @@
+use mir.Facts.{toZ-ofZ}
+use mathlib.Core.Path.{_≡_, sym, _∙_}
+use Rattle.book.specs.Test.{testOf}
+use Rattle.book.proofs.Goods.{tested-good}
+use Rattle.survey.proofs.Sounding.{good-lines}
+use Rattle.lists.specs.Listing.{listingTested, listingOf}
+use borrow.Author.Needs.{needs}
+use Rattle.lists.proofs.listing.Statement.{statement}
+use Rattle.lists.proofs.listing.Tie as tie
+
+test-requires : tie.Need-test-requires
+test-requires c κs = search needs
+
+enum-known-r : tie.Need-enum-known-r
+enum-known-r c = search needs
+
+unlisted-requires : tie.Need-unlisted-requires
+unlisted-requires c κs = search needs
+
+enum-known-book : tie.Need-enum-known-book
+enum-known-book c = search needs
+
+-- what the test answered, at the numbers that were lent
+tested : (c : tie.After-test) → (let a = c .before .args in c .test .result ≡ testOf (a .b) (a .t) (a .held .now) (a .lines .now))
+tested c = c .test .ensures ∙ search needs
+
+listing-good-requires : tie.Need-listing-good-requires
+listing-good-requires c κs =
+    let g = c .before .before in
+    let a = c .before .before .before .before .before .args in
+    good-lines _ _ _ _ _ (tested-good (a .b) (a .t) (a .held .now) (a .lines .now) (g .book .given .0 .0) (sym (tested (c .before .before .before .before)) ∙ g .book .given .1))
+
+returns : tie.Need-returns
+unfolding listingOf listingTested
+returns c = rw (← (tested (c .before .before .before .before)), c .before .before .r .given .1, c .unlisted .ensures)
+
+same-length : tie.Need-same-length
+same-length c = search needs
+
+returns-2 : tie.Need-returns-2
+unfolding listingOf listingTested
+returns-2 c = rw (← (tested (c .before .before .before .before .before .before)), c .before .before .before .before .book .given .1) (simp (toZ-ofZ (c .before .before .before .before .before .before .before .fits .number)) at (c .before .listing-good .ensures))
+
+pub listing-spec : {M : Type 1} → statement M
+listing-spec =
+    tie.close
+    (tie.spec
+    test-requires
+    enum-known-r
+    unlisted-requires
+    enum-known-book
+    listing-good-requires
+    returns
+    same-length
+    returns-2)

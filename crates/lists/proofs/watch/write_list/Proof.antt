@@ -1,0 +1,94 @@
+use Prim.Native.Nat.{_-_}
+use native.Mathlib.Omega.{arith}
+use mathlib.Core.Path.{sym, _∙_}
+use mathlib.Core.List.{map}
+use lib.IntN.{pos}
+use lib.ListN.{length, length-map}
+use Rattle.laws.proofs.Signed.{stored}
+use Rattle.listing.proofs.Laid.{Laid, laid-start, laid-next, laid-end}
+use Rattle.listing.proofs.Halves.{getD-map}
+use Rattle.lists.proofs.Lists.{list-ten, list-whole}
+use borrow.Author.Needs.{needs}
+use Rattle.lists.proofs.watch.write_list.Statement.{statement}
+use Rattle.lists.proofs.watch.write_list.Tie as tie
+
+abbrev Inv-loop : tie.InvT-loop
+Inv-loop list out₀ count i₀ out i = Laid (map pos list) out₀ out i
+
+abbrev μ-loop : tie.MeasureT-loop
+μ-loop list out₀ count i₀ out i = length list - i
+
+unlisted-requires : tie.Need-unlisted-requires Inv-loop μ-loop
+unlisted-requires c κs = search needs
+
+returns : tie.Need-returns Inv-loop μ-loop
+returns c =
+    let s = c .before .before .before in
+    rw (c .unlisted .ensures) (list-ten _ (s .args .out .now) (omega (arith, length-map (s .args .list .now) pos, c .before .if1 .taken)))
+
+loop-holds : tie.Need-loop-holds Inv-loop μ-loop
+loop-holds c = laid-start _ _
+
+mul-signed-count : tie.Need-mul-signed-count Inv-loop μ-loop
+mul-signed-count c = omega arith
+
+shared-slice-read-signed-count : tie.Need-shared-slice-read-signed-count Inv-loop μ-loop
+shared-slice-read-signed-count c = omega arith
+
+signed-count-requires : tie.Need-signed-count-requires Inv-loop μ-loop
+signed-count-requires c κs = omega (arith, c .before .before .before .before .before .pre (c .before .before .loop .i) (omega arith))
+
+mul-t13 : tie.Need-mul-t13 Inv-loop μ-loop
+mul-t13 c = omega arith
+
+slice-set-from-out : tie.Need-slice-set-from-out Inv-loop μ-loop
+slice-set-from-out c = omega arith
+
+add-i : tie.Need-add-i Inv-loop μ-loop
+add-i c = omega arith
+
+loop-less : tie.Need-loop-less Inv-loop μ-loop
+loop-less c = omega arith
+
+loop-again : tie.Need-loop-again Inv-loop μ-loop
+loop-again c =
+    let l = c .before .before .before in
+    let s = c .before .before .before .before .before .before in
+    let n = length-map (s .args .list .now) pos in
+    laid-next _ _ _ (l .loop .i) _ (pos 0) (omega (arith, n, c .before .before .before .before .if1 .left)) (omega (arith, n))
+    (stored _ (c .signed-count .ok) (c .signed-count .ensures) ∙ sym (getD-map pos (s .args .list .now) (l .loop .i) 0 (pos 0) (omega arith)))
+    (l .loop .inv)
+
+entered-requires : tie.Need-entered-requires Inv-loop μ-loop
+entered-requires c κs = search needs
+
+same-length : tie.Need-same-length Inv-loop μ-loop
+same-length c = c .before .before .loop .inv .as-long
+
+returns-2 : tie.Need-returns-2 Inv-loop μ-loop
+returns-2 c =
+    let s = c .before .before .before .before .before in
+    let n = length-map (s .args .list .now) pos in
+    let w = list-whole (map pos (s .args .list .now)) (s .args .out .now) (omega (arith, n, c .before .before .before .if1 .left)) in
+    rw (c .entered .ensures, laid-end _ _ _ (c .before .before .loop .i) (omega (arith, n)) (c .before .before .loop .inv), n) (rw n at w)
+
+pub write-list-spec : {M : Type 1} → statement M
+write-list-spec =
+    tie.close
+    (tie.spec
+    Inv-loop
+    μ-loop
+    unlisted-requires
+    returns
+    loop-holds
+    mul-signed-count
+    shared-slice-read-signed-count
+    signed-count-requires
+    mul-t13
+    slice-set-from-out
+    add-i
+    loop-less
+    loop-again
+    entered-requires
+    same-length
+    returns-2)

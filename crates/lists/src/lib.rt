@@ -1,0 +1,56 @@
+// The two lists of a lent book: the lines of a loop, and the lines that are not checked.
+ghost use mathlib.Core.Path.{_≡_};
+ghost use Rattle.lists.specs.Listing.{listing, unlisted, entered, listingOf};
+ghost use Rattle.lists.specs.NotChecked.{notCheckedOf};
+
+mod list;
+mod watch;
+
+use book::Tested;
+
+// What a listing answers.
+pub struct Listed {
+    pub number: usize,
+    pub place: usize,
+    pub entries: usize,
+}
+
+pub fn unlisted(number: usize, place: usize) -> Listed
+    ensures { λ r. ⌜ r ≡ unlisted number place ⌝ }
+{
+    Listed {
+        number,
+        place,
+        entries: 0,
+    }
+}
+
+pub fn entered(entries: usize) -> Listed
+    ensures { λ r. ⌜ r ≡ entered entries ⌝ }
+{
+    Listed {
+        number: 0,
+        place: 0,
+        entries,
+    }
+}
+
+// The lines of one loop of the book, by the loop's number from 1, its closing line first. A refusal leaves the output as it was.
+pub fn listing(b: i64, t: i64, held: &[i64], lines: &[i64], number: i64, out: &mut [i64]) -> Listed
+    ensures { λ r. ⌜ listing r (now (out .exit)) ≡ listingOf b t (now (held .entry)) (now (lines .entry)) number (now (out .entry)) ⌝ }
+{
+    match book::test(b, t, held, lines) {
+        Tested::Refused(r) => unlisted(r.number, r.place),
+        Tested::Good(book) => list::listing_good(book, lines, number, out),
+    }
+}
+
+// The standing lines that no closed circuit passes, by rising number. A refusal leaves the output as it was.
+pub fn not_checked(b: i64, t: i64, held: &[i64], lines: &[i64], out: &mut [i64]) -> Listed
+    ensures { λ r. ⌜ listing r (now (out .exit)) ≡ notCheckedOf b t (now (held .entry)) (now (lines .entry)) (now (out .entry)) ⌝ }
+{
+    match book::test(b, t, held, lines) {
+        Tested::Refused(r) => unlisted(r.number, r.place),
+        Tested::Good(book) => watch::not_checked_good(book, lines, out),
+    }
+}

@@ -1,0 +1,66 @@
+// "Say what you are not watching": the not-checked list of a tested book, in tables of its own on the stack.
+ghost use mathlib.Core.Path.{_≡_};
+ghost use mathlib.Core.List.{map};
+ghost use lib.IntN.{pos};
+ghost use Rattle.survey.specs.GoodLines.{GoodLines};
+ghost use Rattle.lists.specs.Listing.{listing, listOf};
+ghost use Rattle.lists.specs.NotChecked.{Numbers, uncheckedOf};
+use crate::Listed;
+use book::Book;
+
+// Refusal 10, or the list.
+fn write_list(list: &[u64], out: &mut [i64]) -> Listed
+    requires { ⌜ Numbers (now list) ⌝ }
+    ensures { λ r. ⌜ listing r (now (out .exit)) ≡ listOf (map pos (now (list .entry))) (now (out .entry)) ⌝ }
+{
+    let count = list.len();
+    if out.len() < count {
+        return crate::unlisted(10, 0);
+    }
+    let mut i = 0;
+    while i < count {
+        out[i] = signed::signed_count(list[i] as usize);
+        i += 1;
+    }
+    crate::entered(count)
+}
+
+// The not-checked list of a tested book.
+pub fn not_checked_good(book: Book, lines: &[i64], out: &mut [i64]) -> Listed
+    requires { ⌜ GoodLines book (now lines) ⌝ }
+    ensures { λ r. ⌜ listing r (now (out .exit)) ≡ listOf (uncheckedOf (book .marks) (now (lines .entry))) (now (out .entry)) ⌝ }
+{
+    let mut tip = [0u64; 2048];
+    let mut long = [0u64; 1024];
+    let mut head = [0u64; 257];
+    let mut next = [0u64; 1024];
+    let mut far = [0u64; 1024];
+    let mut add = [0u64; 1024];
+    let mut best = [0u64; 257];
+    let mut seg = [0u64; 514];
+    let mut order = [0u64; 257];
+    let mut rank = [0u64; 257];
+    let mut sort = [0u64; 1026];
+    let mut close = [0u64; 512];
+    let mut marked = [0u64; 1024];
+    let mut list = [0u64; 512];
+    let count = unchecked::list_book(
+        lines,
+        &mut tip[..],
+        &mut long[..],
+        &mut head[..],
+        &mut next[..],
+        &mut far[..],
+        &mut add[..],
+        &mut best[..],
+        &mut seg[..],
+        &mut order[..],
+        &mut rank[..],
+        &mut sort[..],
+        &mut close[..],
+        &mut marked[..],
+        &mut list[..],
+        book.marks + 1,
+    );
+    write_list(&list[..count], out)
+}
