@@ -9,7 +9,7 @@ use lib.Dec.{eqb}
 use lib.IntN.{ℤ, pos, negℤ}
 use lib.ListN.{length, getD, take, length-append}
 use borrow.Author.Tests.{eq-eqb, ne-eqb}
-use Rattle.network.specs.Standing.{standing}
+use Rattle.network.specs.Standing.{Line, standing}
 use Rattle.network.specs.Path.{Pass, pass}
 use Rattle.loops.specs.Loops.{Loop, loops, loopsFrom}
 use Rattle.loops.specs.Row.{signed, listed}
@@ -32,6 +32,13 @@ unfolding codes
 codes-listed [] = refl
 codes-listed (p ∷ ps) = ap₂ (λ (x : ℤ) (xs : List ℤ). x ∷ xs) (code-listed (p .forward) (p .line .number)) (codes-listed ps)
 
+-- the closing line c and its path, spelt
+pub spelt-listed : (number count : ℕ) (spelling : List ℕ) (c : Line) (path : List Pass) → number ≡ c .number → take count spelling ≡ codes path
+    → halvesListed number (take count spelling) ≡ map listed (pass c true ∷ path)
+unfolding halvesListed
+spelt-listed number count spelling c path e s =
+    ap₂ (λ (k : ℕ) (hs : List ℕ). pos k ∷ map halfListed hs) e s ∙ ap (λ (xs : List ℤ). pos (c .number) ∷ xs) (codes-listed path)
+
 -- ---- the loop after those that are done
 
 loop-after : (done : List Loop) (l : Loop) (rest : List Loop) (i : ℕ) → length done ≡ i → loopAt ((done ++ (l ∷ [])) ++ rest) i ≡ l
@@ -52,7 +59,6 @@ module _ {ls : List ℤ} {n cnt number : ℕ} {tip long head next fars add : Lis
   z = turn-done tb d room tk
 
   pub loop-found : LoopFound ls n (d .i) (d .close) path′ count
-  unfolding halvesListed
   loop-found =
       let a = row-asked tb d room tk in
       record {
@@ -61,8 +67,7 @@ module _ {ls : List ℤ} {n cnt number : ℕ} {tip long head next fars add : Lis
           places = a .coded .places;
           halves = λ j h. a .coded .ok j h .few;
         };
-        its = ap₂ (λ (k : ℕ) (hs : List ℕ). pos k ∷ map halfListed hs) (sym (d .number-is) ∙ z .its) (z .spelt)
-            ∙ ap (λ (xs : List ℤ). pos (z .c .number) ∷ xs) (codes-listed (z .path))
+        its = spelt-listed (getD (d .close) (d .i) 0) count path′ (z .c) (z .path) (sym (d .number-is) ∙ z .its) (z .spelt)
             ∙ sym (ap (map listed) found);
       }
     where

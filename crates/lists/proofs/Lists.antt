@@ -109,6 +109,12 @@ module _ (k : Book) (ls : List ℤ) (g : GoodLines k ls) where
       let w = of-standing ls l m in
       omega (arith, ap (λ (x : Line). x .number) (w .1 .its), w .1 .isThere, g .whole, g .few)
 
+  pub few-listed : length (uncheckedOf (k .marks) ls) ≤ 512
+  unfolding uncheckedOf
+  few-listed =
+      let open-lines = notChecked (loopsOf (k .marks) ls) (standing ls) in
+      omega (arith, length-map open-lines pos, few-unchecked (loopsOf (k .marks) ls) (standing ls), few-standing ls, g .whole, g .few)
+
   module _ {list list′ : List ℕ} {a : ℕ} (room : 512 ≤ length list) (put : BookListed (k .marks + 1) ls list list′ a) where
     abbrev open-lines : List ℕ
     open-lines = notChecked (loops (k .marks + 1 - 1) (standing ls)) (standing ls)

@@ -4,7 +4,7 @@ ghost use Rattle.lists.specs.Listing.{listing, unlisted, entered, listin
 ghost use Rattle.lists.specs.NotChecked.{notCheckedOf};
 
 mod list;
-mod watch;
+pub mod watch;
 
 use book::Tested;
 

@@ -1,0 +1,101 @@
+-- The report of a file is that of what the reader gives. Assumes nothing.
+use Prim.Native.Nat.{ℕ, _+_, _*_, _≤_, _<_}
+use native.Mathlib.Omega.{arith}
+use mathlib.Core.Path.{_≡_, refl, sym, _∙_, ap, subst}
+use mathlib.Core.Bool.{cond}
+use mathlib.Core.List.{List, _++_}
+use lib.Dec.{eqb}
+use lib.IntN.{ℤ, pos}
+use lib.ListN.{length, take, drop}
+use lib.Seq.{take-at}
+use borrow.Author.Tests.{ne-eqb, le-ltb}
+use Rattle.book.specs.Test.{testOf}
+use Rattle.book.specs.declared.Book.{Book}
+use Rattle.book.specs.declared.Tested.{Tested}
+use Rattle.book.specs.declared.Tested.the-variants.{Good, Refused}
+use Rattle.book.proofs.Goods.{tested-numbered}
+use Rattle.file.specs.Read.{Outcome, headOf, heldOf, linesOf, roomOf, testedOf, bodyOf, afterHead, readOf}
+use Rattle.file.specs.Owed.{BookRead}
+use Rattle.file.specs.declared.Head as head
+use Rattle.file.specs.declared.Head.{Head}
+use Rattle.file.specs.declared.ReadAnswer.{ReadAnswer}
+use Rattle.file.specs.declared.entry.Kind.the-variants.{Line}
+use Rattle.file.proofs.Entries.{entries-length}
+use Rattle.file.proofs.Heads.{head-states, head-numbered}
+use Rattle.file.proofs.Reading.{zero-is-read}
+use Rattle.survey.specs.GoodLines.{GoodLines}
+use Rattle.survey.proofs.Sounding.{good-lines}
+use Rattle.text.specs.Report.{refusedText}
+use Rattle.page.specs.Page.{bookPage, testedPage, statedPage, pageOf}
+
+-- of what was read: the book's report, or the refusal's line
+unfoldable pub readPage : Outcome → List ℕ
+readPage o =
+    let a = o .answer in
+    cond (eqb (a .number) 0) (bookPage (a .b) (a .t) (a .n) (take (a .n * 5) (o .lines))) (refusedText (a .number) (a .place))
+
+lines-length : (file : List ℕ) (h n : ℕ) → length (linesOf file h n) ≡ n * 5
+unfolding linesOf
+lines-length file h n = entries-length Line file (13 + h * 10) n
+
+module _ (file : List ℕ) (held lines : List ℤ) (held-room : 512 ≤ length held) (lines-room : 2560 ≤ length lines) where
+  room-page : (k : Book) → k .held ≤ 256 → k .lines ≤ 512 → readPage (roomOf file k held lines) ≡ bookPage (k .marks) (k .tolerance) (k .lines) (linesOf file (k .held) (k .lines))
+  unfolding readPage roomOf
+  room-page k h n = rw (
+    le-ltb (length held) (k .held * 2) (omega arith),
+    le-ltb (length lines) (k .lines * 5) (omega arith),
+    take-at (linesOf file (k .held) (k .lines)) (drop (k .lines * 5) lines) (k .lines * 5) (lines-length file (k .held) (k .lines)),
+  )
+
+  body-page : (k : Book) → k .held ≤ 256 → k .lines ≤ 512
+      → readPage (bodyOf file k held lines) ≡ testedPage k (linesOf file (k .held) (k .lines)) (testOf (pos (k .marks)) (pos (k .tolerance)) (heldOf file (k .held)) (linesOf file (k .held) (k .lines)))
+  unfolding readPage bodyOf testedOf testedPage
+  body-page k h n = go (testOf (pos (k .marks)) (pos (k .tolerance)) (heldOf file (k .held)) (linesOf file (k .held) (k .lines))) refl
+    where
+      go : (o : Tested) → testOf (pos (k .marks)) (pos (k .tolerance)) (heldOf file (k .held)) (linesOf file (k .held) (k .lines)) ≡ o
+          → readPage (testedOf file k held lines o) ≡ testedPage k (linesOf file (k .held) (k .lines)) o
+      go (Refused r) e =
+          let w = tested-numbered (pos (k .marks)) (pos (k .tolerance)) (heldOf file (k .held)) (linesOf file (k .held) (k .lines)) r e in
+          rw (ne-eqb (r .number) 0 (λ z. omega (arith, w .low)))
+      go (Good book) e = room-page k h n
+
+  pub page-read : readPage (readOf file held lines) ≡ pageOf file
+  unfolding readPage pageOf statedPage readOf afterHead
+  page-read = go (headOf file) refl
+    where
+      go : (o : Head) → headOf file ≡ o → readPage (afterHead file held lines o) ≡ statedPage file o
+      go (head.the-variants.Refused number) e =
+          let w = head-numbered file number e in
+          rw (ne-eqb number 0 (λ z. omega (arith, w .0)))
+      go (head.the-variants.States k) e = let s = head-states file k e in body-page k (s .few-held) (s .few-lines)
+
+  -- what a call gave
+  module _ (o : Outcome) (e : o ≡ readOf file held lines) where
+    is-page : readPage o ≡ pageOf file
+    is-page = ap readPage e ∙ page-read
+
+    -- a refusal
+    pub refused-page : (o .answer .number ≡ 0 → ⊥) → refusedText (o .answer .number) (o .answer .place) ≡ pageOf file
+    unfolding readPage
+    refused-page n = rw (ne-eqb (o .answer .number) 0 n) at is-page
+
+    -- a book
+    module _ (zero : o .answer .number ≡ 0) where
+      r : BookRead file held lines o
+      r = subst (λ (x : Outcome). BookRead file held lines x) (sym e) (zero-is-read file held lines (sym (ap (λ (x : Outcome). x .answer .number) e) ∙ zero))
+
+      lines-are : take (r .book .lines * 5) (o .lines) ≡ linesOf file (r .book .held) (r .book .lines)
+      lines-are =
+          ap (take (r .book .lines * 5)) (r .lines-now)
+          ∙ take-at (linesOf file (r .book .held) (r .book .lines)) (drop (r .book .lines * 5) lines) (r .book .lines * 5) (lines-length file (r .book .held) (r .book .lines))
+
+      pub few-read : o .answer .n ≤ 512
+      few-read = omega (arith, ap (λ (x : ReadAnswer). x .n) (r .answer), r .good .few-lines)
+
+      pub good-read : GoodLines (record { marks = o .answer .b; tolerance = o .answer .t; held = o .answer .h; lines = o .answer .n }) (take (o .answer .n * 5) (o .lines))
+      good-read = subst (λ (x : ReadAnswer). GoodLines (record { marks = x .b; tolerance = x .t; held = x .h; lines = x .n }) (take (x .n * 5) (o .lines))) (sym (r .answer))
+          (subst (λ (l : List ℤ). GoodLines (r .book) l) (sym lines-are) (good-lines (r .book) (pos (r .book .marks)) (pos (r .book .tolerance)) (heldOf file (r .book .held)) (linesOf file (r .book .held) (r .book .lines)) (r .good)))
+
+      pub book-page : bookPage (o .answer .b) (o .answer .t) (o .answer .n) (take (o .answer .n * 5) (o .lines)) ≡ pageOf file
+      unfolding readPage
+      book-page = rw zero at is-page

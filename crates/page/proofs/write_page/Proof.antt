@@ -1,0 +1,72 @@
+use native.Mathlib.Omega.{arith}
+use lib.ListN.{length-take}
+use Rattle.page.proofs.Filed.{refused-page, few-read, good-read, book-page}
+use borrow.Author.Needs.{needs}
+use Rattle.page.proofs.write_page.Statement.{statement}
+use Rattle.page.proofs.write_page.Tie as tie
+
+slice-aggregate-read : tie.Need-slice-aggregate-read
+slice-aggregate-read c = search needs
+
+slice-aggregate-read-2 : tie.Need-slice-aggregate-read-2
+slice-aggregate-read-2 c = search needs
+
+read-requires : tie.Need-read-requires
+read-requires c κs = search needs
+
+refused-text-requires : tie.Need-refused-text-requires
+refused-text-requires c κs = search needs
+
+same-length : tie.Need-same-length
+same-length c = search needs
+
+returns : tie.Need-returns
+returns c =
+    let w = c .before .before .before .before .before .before .before .before .read in
+    rw (refused-page _ _ _ (search needs) (search needs) _ (w .ensures) (c .before .before .before .before .if1 .taken)) at (c .before .before .refused-text .ensures)
+
+mul-words : tie.Need-mul-words
+mul-words c =
+    let w = c .before .before .before .before .before .read in
+    omega (arith, few-read _ _ _ (search needs) (search needs) _ (w .ensures) (c .before .if1 .left))
+
+array-share-prefix-lines : tie.Need-array-share-prefix-lines
+array-share-prefix-lines c =
+    let w = c .before .before .before .before .before .read in
+    omega (arith, few-read _ _ _ (search needs) (search needs) _ (w .ensures) (c .before .if1 .left), w .kept .1 .1 .0)
+
+slice-aggregate-put-book : tie.Need-slice-aggregate-put-book
+slice-aggregate-put-book c =
+    let w = c .before .before .before .before .before .before .read in
+    let f = few-read _ _ _ (search needs) (search needs) _ (w .ensures) (c .before .before .if1 .left) in
+    simp length-take (omega (arith, f, w .kept .1 .1 .0))
+
+put-book-requires : tie.Need-put-book-requires
+put-book-requires c κs =
+    let w = c .before .before .before .before .before .before .before .read in
+    good-read _ _ _ (search needs) (search needs) _ (w .ensures) (c .before .before .before .if1 .left)
+
+same-length-2 : tie.Need-same-length-2
+same-length-2 c = search needs
+
+returns-2 : tie.Need-returns-2
+returns-2 c =
+    let w = c .before .before .before .before .before .before .before .before .before .before .read in
+    rw (book-page _ _ _ (search needs) (search needs) _ (w .ensures) (c .before .before .before .before .before .before .if1 .left)) at (c .before .before .put-book .ensures)
+
+pub write-page-spec : {M : Type 1} → statement M
+write-page-spec =
+    tie.close
+    (tie.spec
+    slice-aggregate-read
+    slice-aggregate-read-2
+    read-requires
+    refused-text-requires
+    same-length
+    returns
+    mul-words
+    array-share-prefix-lines
+    slice-aggregate-put-book
+    put-book-requires
+    same-length-2
+    returns-2)

@@ -1,0 +1,58 @@
+-- Document 01, "Worked network": what "the report program, given this book's file on standard input, prints exactly".
+-- Assumes nothing.
+use mathlib.Core.List.{List, [], _∷_, _++_, map}
+use Prim.Native.Nat.{ℕ, suc}
+use lib.IntN.{ℤ, pos}
+use lib.ListN.{length}
+use Rattle.book.specs.Test.{testOf}
+use Rattle.book.specs.declared.Book.{Book}
+use Rattle.book.specs.declared.Tested.{Tested}
+use Rattle.book.specs.declared.Tested.the-variants.{Good, Refused}
+use Rattle.file.specs.Read.{headOf, heldOf, linesOf}
+use Rattle.file.specs.declared.Head as head
+use Rattle.file.specs.declared.Head.{Head}
+use Rattle.network.specs.Path.{wayLength}
+use Rattle.loops.specs.Loops.{Loop}
+use Rattle.loops.specs.Row.{listed, misclosure, verdict}
+use Rattle.survey.specs.Report.{loopsOf, piecesOf}
+use Rattle.lists.specs.NotChecked.{uncheckedOf}
+use Rattle.text.specs.Report.{headText, loopText, notCheckedText, refusedText}
+
+-- the line of one loop
+unfoldable pub loopLine : ℕ → ℕ → Loop → List ℕ
+unfolding loopText wayLength misclosure verdict
+loopLine t number lp = loopText number (pos (wayLength lp)) (misclosure lp) (verdict t lp) (map listed lp)
+
+-- the lines of the loops, which are numbered as they come
+unfoldable pub loopLines : ℕ → ℕ → List Loop → List ℕ
+unfolding loopLine
+loopLines t number [] = []
+loopLines t number (lp ∷ rest) = loopLine t number lp ++ loopLines t (suc number) rest
+
+-- the report of a book of b marks and n lines up to its loops
+unfoldable pub loopsPage : ℕ → ℕ → ℕ → List ℤ → List ℕ
+unfolding headText loopLines loopsOf piecesOf
+loopsPage b t n lines = headText b n (piecesOf b lines) (length (loopsOf b lines)) ++ loopLines t 1 (loopsOf b lines)
+
+-- and with the lines that are not checked
+unfoldable pub bookPage : ℕ → ℕ → ℕ → List ℤ → List ℕ
+unfolding loopsPage notCheckedText uncheckedOf
+bookPage b t n lines = loopsPage b t n lines ++ notCheckedText (uncheckedOf b lines)
+
+-- of a file's book, by the test of every call: its report, or "for a refused file .. one line instead"
+unfoldable pub testedPage : Book → List ℤ → Tested → List ℕ
+unfolding bookPage refusedText
+testedPage k lines (Refused r) = refusedText (r .number) (r .place)
+testedPage k lines (Good book) = bookPage (k .marks) (k .tolerance) (k .lines) lines
+
+unfoldable pub statedPage : List ℕ → Head → List ℕ
+unfolding testedPage refusedText testOf heldOf linesOf
+statedPage file (head.the-variants.Refused number) = refusedText number 0
+statedPage file (head.the-variants.States k) =
+    let lines = linesOf file (k .held) (k .lines) in
+    testedPage k lines (testOf (pos (k .marks)) (pos (k .tolerance)) (heldOf file (k .held)) lines)
+
+-- of a file
+unfoldable pub pageOf : List ℕ → List ℕ
+unfolding statedPage headOf
+pageOf file = statedPage file (headOf file)
