@@ -1,0 +1,83 @@
+#!/usr/bin/env python3
+"""Writes the book files of books/ from the tables below: tests/books.py [FOLDER]"""
+import os
+import sys
+
+from reader_cases import book, held, line
+
+
+def file_of(tolerance, marks, heights, lines):
+    return book(marks, tolerance, [held(*h) for h in heights], [line(*l) for l in lines])
+
+
+# from, to, difference in micrometres, length in metres
+WORKED = [
+    (1, 3, 6_345_000, 1600),
+    (2, 3, 4_235_000, 2500),
+    (5, 2, 3_060_000, 1000),
+    (5, 1, 920_000, 4000),
+    (1, 4, 3_895_000, 1600),
+    (4, 3, 2_410_000, 1250),
+    (5, 4, 4_820_000, 2000),
+]
+
+# Six marks, seven equal links: two squares side by side, 1-2-5-4 and 2-3-6-5.
+FIGURE = [
+    (1, 2, 1_000_000, 1000),
+    (2, 3, -400_000, 1000),
+    (4, 5, 700_000, 1000),
+    (5, 6, 100_000, 1000),
+    (1, 4, 250_000, 1000),
+    (2, 5, -51_000, 1000),
+    (3, 6, 452_000, 1000),
+]
+
+# A checked triangle, and a line out past its last junction to three final marks.
+PAST_THE_LAST_JUNCTION = [
+    (1, 2, 1_204_000, 800),
+    (2, 3, -310_500, 650),
+    (3, 1, -893_000, 900),
+    (3, 4, 2_015_000, 1200),
+    (4, 5, 480_000, 400),
+    (4, 6, -1_090_000, 1500),
+    (6, 7, 75_000, 300),
+]
+
+# A ring of three and a ring of two, with no line between them.
+TWO_PIECES = [
+    (1, 2, 500_000, 700),
+    (4, 5, 812_000, 1100),
+    (2, 3, 250_000, 400),
+    (5, 4, -811_000, 1100),
+    (3, 1, -749_000, 900),
+]
+
+# Four lines from one mark to another, each closing on the shortest before it.
+PARALLEL = [
+    (1, 2, 1_000_000, 500),
+    (1, 2, 1_001_000, 400),
+    (2, 1, -1_000_500, 400),
+    (1, 2, 1_050_000, 600),
+]
+
+BOOKS = {
+    "worked": file_of(120, 5, [(1, 100_000_000)], WORKED),
+    "memorandum_figure": file_of(40, 6, [(1, 0)], FIGURE),
+    "past_the_last_junction": file_of(80, 7, [(1, 52_310_000)], PAST_THE_LAST_JUNCTION),
+    "two_pieces": file_of(40, 5, [(1, 0), (4, 10_000_000)], TWO_PIECES),
+    "parallel_lines": file_of(40, 2, [(1, 0)], PARALLEL),
+    # the worked network with line 3 run from mark 5 to itself
+    "damaged": file_of(120, 5, [(1, 100_000_000)], WORKED[:2] + [(5, 5, 3_060_000, 1000)] + WORKED[3:]),
+}
+
+
+def main():
+    folder = sys.argv[1] if len(sys.argv) > 1 else os.path.join(os.path.dirname(__file__), "..", "books")
+    os.makedirs(folder, exist_ok=True)
+    for name, data in BOOKS.items():
+        with open(os.path.join(folder, name + ".book"), "wb") as out:
+            out.write(data)
+
+
+if __name__ == "__main__":
+    main()
