@@ -1,0 +1,217 @@
+// What is printed, in a surveyor's words.
+ghost use Prim.Native.Nat.{_≤_, _+_};
+ghost use lib.ListN.{length};
+use crate::LINES_WORDS;
+use crate::REPORT_WORDS;
+use crate::Step;
+
+// The three sheets in which a number can change.
+pub enum Sheet {
+    Held,
+    Lines,
+    Report,
+}
+
+const HELD_WORDS: usize = 2;
+
+const LINE_WORDS: usize = 5;
+
+const ROW_WORDS: usize = 5;
+
+const REPORT_ROWS: usize = 4;
+
+fn put(text: &[u8]) {
+    io::write_all(cases::STDOUT, text);
+}
+
+pub fn put_note(note: &[u8]) {
+    put(note);
+    put(b"\n");
+}
+
+pub fn put_read(a: file::ReadAnswer) {
+    put(b"  READ:");
+    cases::put(a.number);
+    put(b" AT");
+    cases::put(a.place);
+    put(b", MARKS");
+    cases::put(a.b);
+    put(b", TOLERANCE");
+    cases::put(a.t);
+    put(b", HELD");
+    cases::put(a.h);
+    put(b", LINES");
+    cases::put(a.n);
+    put(b"\n");
+}
+
+// `RE-RUN 6 TO 2428000:`
+pub fn put_call(step: Step) {
+    let kind = step.kind;
+    match kind {
+        crate::SURVEY => put(b"  SURVEY"),
+        crate::RERUN => {
+            put(b"  RE-RUN");
+            cases::put_signed(step.which);
+            put(b" TO");
+            cases::put_signed(step.value);
+        }
+        _ => {
+            put(b"  WITHDRAW");
+            cases::put_signed(step.which);
+        }
+    }
+    put(b":");
+}
+
+// `DONE, 0 AT 0, ROWS 3, PIECES 1`
+pub fn put_answer(a: survey::Answer) {
+    if a.number == 0 {
+        put(b" DONE,");
+    } else {
+        put(b" REFUSED,");
+    }
+    cases::put(a.number);
+    put(b" AT");
+    cases::put(a.place);
+    put(b", ROWS");
+    cases::put(a.rows);
+    put(b", PIECES");
+    cases::put(a.pieces);
+    put(b"\n");
+}
+
+// `LINE 6: DIFFERENCE 2410000 BECOMES 2428000`
+pub fn put_change(sheet: Sheet, at: usize, was: i64, is: i64) {
+    match sheet {
+        Sheet::Held => put_held_place(at),
+        Sheet::Lines => put_line_place(at),
+        Sheet::Report => put_row_place(at),
+    }
+    cases::put_signed(was);
+    put(b" BECOMES");
+    cases::put_signed(is);
+    put(b"\n");
+}
+
+fn put_held_place(at: usize) {
+    put(b"    HELD");
+    cases::put(at / HELD_WORDS + 1);
+    match at % HELD_WORDS {
+        0 => put(b": MARK"),
+        _ => put(b": HEIGHT"),
+    }
+}
+
+fn put_line_place(at: usize) {
+    put(b"    LINE");
+    cases::put(at / LINE_WORDS + 1);
+    match at % LINE_WORDS {
+        0 => put(b": FROM"),
+        1 => put(b": TO"),
+        2 => put(b": DIFFERENCE"),
+        3 => put(b": LENGTH"),
+        _ => put(b": STANDING"),
+    }
+}
+
+fn put_row_place(at: usize) {
+    put(b"    ROW");
+    cases::put(at / ROW_WORDS + 1);
+    match at % ROW_WORDS {
+        0 => put(b": CLOSING LINE"),
+        1 => put(b": LINES"),
+        2 => put(b": LENGTH"),
+        3 => put(b": MISCLOSURE"),
+        _ => put(b": VERDICT"),
+    }
+}
+
+// Each number of the book's lines that changed.
+pub fn put_book(were: &[i64; LINES_WORDS], are: &[i64; LINES_WORDS]) {
+    if same(were, are) {
+        put(b"    BOOK AS IT WAS\n");
+    }
+    let mut i = 0;
+    while i < LINES_WORDS {
+        if were[i] != are[i] {
+            put_change(Sheet::Lines, i, were[i], are[i]);
+        }
+        i += 1;
+    }
+}
+
+fn same(s: &[i64], t: &[i64]) -> bool {
+    if s.len() != t.len() {
+        return false;
+    }
+    let mut i = 0;
+    while i < s.len() {
+        if s[i] != t[i] {
+            return false;
+        }
+        i += 1;
+    }
+    true
+}
+
+// A refusal leaves the report; else its rows are printed, and which of them stand as they did.
+pub fn put_report(number: usize, was: &[i64; REPORT_WORDS], is: &[i64; REPORT_WORDS]) {
+    if number != 0 && same(was, is) {
+        put(b"    REPORT AS IT WAS\n");
+        return;
+    }
+    let mut row = 0;
+    while row < REPORT_ROWS {
+        put_row_at(was, is, row * ROW_WORDS);
+        row += 1;
+    }
+}
+
+fn put_row_at(was: &[i64], is: &[i64], at: usize)
+    requires { ⌜ at + 5 ≤ length (now was) ⌝ ∗ ⌜ at + 5 ≤ length (now is) ⌝ }
+{
+    put(b"    ROW");
+    cases::put(at / ROW_WORDS + 1);
+    put_row(&is[at..at + ROW_WORDS]);
+    if same(&was[at..at + ROW_WORDS], &is[at..at + ROW_WORDS]) {
+        put(b", AS IT WAS");
+    }
+    put(b"\n");
+}
+
+// A row in words; what names no closing line, number by number.
+fn put_row(row: &[i64])
+    requires { ⌜ 5 ≤ length (now row) ⌝ }
+{
+    if row[0] < 1 {
+        put(b": EMPTY");
+        put_numbers(row);
+        return;
+    }
+    put(b": CLOSING LINE");
+    cases::put_signed(row[0]);
+    put(b", LINES");
+    cases::put_signed(row[1]);
+    put(b", LENGTH");
+    cases::put_signed(row[2]);
+    put(b", MISCLOSURE");
+    cases::put_signed(row[3]);
+    put_verdict(row[4]);
+}
+
+fn put_verdict(verdict: i64) {
+    match verdict {
+        0 => put(b", WITHIN"),
+        1 => put(b", OVER"),
+        _ => cases::put_signed(verdict),
+    }
+}
+
+fn put_numbers(s: &[i64]) {
+    let mut i = 0;
+    while i < s.len() {
+        cases::put_signed(s[i]);
+        i += 1;
+    }
+}
