@@ -13,10 +13,10 @@ pub fn differs(report: &[i64], rows: &[i64]) -> bool
     if report.len() < rows.len() {
         return true;
     }
-    let mut i = 0;
-    while i < rows.len() {
-        if signed::same(report[i], rows[i]) {
-            i += 1;
+    let mut place = 0;
+    while place < rows.len() {
+        if signed::same(report[place], rows[place]) {
+            place += 1;
         } else {
             return true;
         }

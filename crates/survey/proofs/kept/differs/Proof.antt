@@ -14,10 +14,10 @@ use Rattle.survey.proofs.kept.differs.Lts as lts
 use Rattle.signed.proofs.same.Reads as same-reads
 
 abbrev Inv-loop : tie.InvT-loop
-Inv-loop report rows i₀ i = Compared report rows i
+Inv-loop report rows place₀ place = Compared report rows place
 
 abbrev μ-loop : tie.MeasureT-loop
-μ-loop report rows i₀ i = length rows - i
+μ-loop report rows place₀ place = length rows - place
 
 returns : tie.Need-returns Inv-loop μ-loop
 returns c = too-short _ _ (c .if1 .taken)
@@ -39,14 +39,14 @@ shared-slice-copy-out-same-2 c = omega arith
 
 -- the flag that the code has is the definition's test
 flag : (c : tie.After-same Inv-loop μ-loop) → (let l = c .before .before .before .before in let g = l .before .before .args in
-    c .same .result ≡ eqZ (getD (g .report .now) (l .loop .i) (pos 0)) (getD (g .rows .now) (l .loop .i) (pos 0)))
+    c .same .result ≡ eqZ (getD (g .report .now) (l .loop .place) (pos 0)) (getD (g .rows .now) (l .loop .place) (pos 0)))
 flag c = c .same .ensures ∙ search needs
 
 same-requires : tie.Need-same-requires Inv-loop μ-loop
 same-requires c κs = tt
 
-add-i : tie.Need-add-i Inv-loop μ-loop
-add-i c = omega arith
+add-place : tie.Need-add-place Inv-loop μ-loop
+add-place c = omega arith
 
 loop-less : tie.Need-loop-less Inv-loop μ-loop
 loop-less c = omega arith
@@ -55,16 +55,16 @@ loop-again : tie.Need-loop-again Inv-loop μ-loop
 loop-again c =
     let in-loop = c .before .before .before .before in
     let l = in-loop .before in
-    compare-next _ _ (l .before .if1 .left) (l .loop .i) (in-loop .loop-test .taken) (l .loop .inv) (sym (flag (c .before)) ∙ c .if2 .taken)
+    compare-next _ _ (l .before .if1 .left) (l .loop .place) (in-loop .loop-test .taken) (l .loop .inv) (sym (flag (c .before)) ∙ c .if2 .taken)
 
 returns-2 : tie.Need-returns-2 Inv-loop μ-loop
 returns-2 c =
     let in-loop = c .before .before .before .before in
     let l = in-loop .before in
-    compare-stop _ _ (l .before .if1 .left) (l .loop .i) (in-loop .loop-test .taken) (l .loop .inv) (sym (flag (c .before)) ∙ c .if2 .left)
+    compare-stop _ _ (l .before .if1 .left) (l .loop .place) (in-loop .loop-test .taken) (l .loop .inv) (sym (flag (c .before)) ∙ c .if2 .left)
 
 returns-3 : tie.Need-returns-3 Inv-loop μ-loop
-returns-3 c = compare-end _ _ (c .before .loop .i) (c .loop-test .left) (c .before .loop .inv)
+returns-3 c = compare-end _ _ (c .before .loop .place) (c .loop-test .left) (c .before .loop .inv)
 
 pub differs-spec : {M : Type 1} → statement M
 differs-spec =
@@ -79,7 +79,7 @@ differs-spec =
     mul-same-2
     shared-slice-copy-out-same-2
     same-requires
-    add-i
+    add-place
     loop-less
     loop-again
     returns-2
