@@ -182,7 +182,7 @@ def played():
         if kind == READ:
             b, t, h, n, held, numbers = answer(WORKED)
             lines = [list(numbers[i : i + 5]) for i in range(0, 5 * n, 5)]
-            text += f"  READ: 0 AT 0, MARKS {b}, TOLERANCE {t}, HELD {h}, LINES {n}\n"
+            text += f"  READ: 0 AT 0, MARKS {b}, LINES {n}\n"
         elif kind == PEN_IN_HELD:
             text += change("HELD", HELD_NAMES, which, held[which], value)
             held[which] = value

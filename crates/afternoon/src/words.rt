@@ -24,24 +24,27 @@ fn put(text: &[u8]) {
     io::write_all(cases::STDOUT, text);
 }
 
+// A word and its number, as `, ROWS 3`.
+fn count(word: &[u8], n: usize) {
+    put(word);
+    cases::put(n);
+}
+
+fn amount(word: &[u8], x: i64) {
+    put(word);
+    cases::put_signed(x);
+}
+
 pub fn put_note(note: &[u8]) {
     put(note);
     put(b"\n");
 }
 
 pub fn put_read(a: file::ReadAnswer) {
-    put(b"  READ:");
-    cases::put(a.number);
-    put(b" AT");
-    cases::put(a.place);
-    put(b", MARKS");
-    cases::put(a.b);
-    put(b", TOLERANCE");
-    cases::put(a.t);
-    put(b", HELD");
-    cases::put(a.h);
-    put(b", LINES");
-    cases::put(a.n);
+    count(b"  READ:", a.number);
+    count(b" AT", a.place);
+    count(b", MARKS", a.b);
+    count(b", LINES", a.n);
     put(b"\n");
 }
 
@@ -51,15 +54,10 @@ pub fn put_call(step: Step) {
     match kind {
         crate::SURVEY => put(b"  SURVEY"),
         crate::RERUN => {
-            put(b"  RE-RUN");
-            cases::put_signed(step.which);
-            put(b" TO");
-            cases::put_signed(step.value);
+            amount(b"  RE-RUN", step.which);
+            amount(b" TO", step.value);
         }
-        _ => {
-            put(b"  WITHDRAW");
-            cases::put_signed(step.which);
-        }
+        _ => amount(b"  WITHDRAW", step.which),
     }
     put(b":");
 }
@@ -72,12 +70,9 @@ pub fn put_answer(a: survey::Answer) {
         put(b" REFUSED,");
     }
     cases::put(a.number);
-    put(b" AT");
-    cases::put(a.place);
-    put(b", ROWS");
-    cases::put(a.rows);
-    put(b", PIECES");
-    cases::put(a.pieces);
+    count(b" AT", a.place);
+    count(b", ROWS", a.rows);
+    count(b", PIECES", a.pieces);
     put(b"\n");
 }
 
@@ -89,14 +84,12 @@ pub fn put_change(sheet: Sheet, at: usize, was: i64, is: i64) {
         Sheet::Report => put_row_place(at),
     }
     cases::put_signed(was);
-    put(b" BECOMES");
-    cases::put_signed(is);
+    amount(b" BECOMES", is);
     put(b"\n");
 }
 
 fn put_held_place(at: usize) {
-    put(b"    HELD");
-    cases::put(at / HELD_WORDS + 1);
+    count(b"    HELD", at / HELD_WORDS + 1);
     match at % HELD_WORDS {
         0 => put(b": MARK"),
         _ => put(b": HEIGHT"),
@@ -104,8 +97,7 @@ fn put_held_place(at: usize) {
 }
 
 fn put_line_place(at: usize) {
-    put(b"    LINE");
-    cases::put(at / LINE_WORDS + 1);
+    count(b"    LINE", at / LINE_WORDS + 1);
     match at % LINE_WORDS {
         0 => put(b": FROM"),
         1 => put(b": TO"),
@@ -116,8 +108,7 @@ fn put_line_place(at: usize) {
 }
 
 fn put_row_place(at: usize) {
-    put(b"    ROW");
-    cases::put(at / ROW_WORDS + 1);
+    count(b"    ROW", at / ROW_WORDS + 1);
     match at % ROW_WORDS {
         0 => put(b": CLOSING LINE"),
         1 => put(b": LINES"),
@@ -171,8 +162,7 @@ pub fn put_report(number: usize, was: &[i64; REPORT_WORDS], is: &[i64; REPORT_WO
 fn put_row_at(was: &[i64], is: &[i64], at: usize)
     requires { ⌜ at + 5 ≤ length (now was) ⌝ ∗ ⌜ at + 5 ≤ length (now is) ⌝ }
 {
-    put(b"    ROW");
-    cases::put(at / ROW_WORDS + 1);
+    count(b"    ROW", at / ROW_WORDS + 1);
     put_row(&is[at..at + ROW_WORDS]);
     if same(&was[at..at + ROW_WORDS], &is[at..at + ROW_WORDS]) {
         put(b", AS IT WAS");
@@ -189,14 +179,10 @@ fn put_row(row: &[i64])
         put_numbers(row);
         return;
     }
-    put(b": CLOSING LINE");
-    cases::put_signed(row[0]);
-    put(b", LINES");
-    cases::put_signed(row[1]);
-    put(b", LENGTH");
-    cases::put_signed(row[2]);
-    put(b", MISCLOSURE");
-    cases::put_signed(row[3]);
+    amount(b": CLOSING LINE", row[0]);
+    amount(b", LINES", row[1]);
+    amount(b", LENGTH", row[2]);
+    amount(b", MISCLOSURE", row[3]);
     put_verdict(row[4]);
 }
 
