@@ -12,6 +12,7 @@ pub enum Sheet {
     Report,
 }
 
+// Numbers of a held entry, of a line and of a row, and the rows that are printed.
 const HELD_WORDS: usize = 2;
 
 const LINE_WORDS: usize = 5;
