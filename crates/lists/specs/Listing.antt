@@ -12,7 +12,7 @@ use Rattle.book.specs.declared.Book.{Book}
 use Rattle.book.specs.declared.Tested.{Tested}
 use Rattle.book.specs.declared.Tested.the-variants.{Good, Refused}
 use Rattle.loops.specs.Row.{listed}
-pub use Rattle.listing.specs.Turns.{loopAt}
+unfoldable pub use Rattle.listing.specs.Turns.{loopAt}
 use Rattle.survey.specs.Report.{loopsOf}
 use Rattle.lists.specs.declared.Listed.{Listed}
 

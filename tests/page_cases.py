@@ -1,0 +1,83 @@
+#!/usr/bin/env python3
+"""Writes crates/page_cases/stdin (book files, one case after the other) and, from a slow reading of document 01 of its own,
+crates/page_cases/stdout (their reports). Run it at the repository's root after a change of the cases."""
+import struct
+
+from books import BOOKS
+from reader_cases import WORKED, answer, book, line
+from survey_cases import path, tree_and_closing
+
+NAME_BYTES = 48
+
+
+def joined(lines, start, goal):
+    seen, todo = {start}, [start]
+    while todo:
+        at = todo.pop()
+        for a, z, *_ in lines:
+            for x, y in ((a, z), (z, a)):
+                if x == at and y not in seen:
+                    seen.add(y)
+                    todo.append(y)
+    return goal in seen
+
+
+def not_checked(lines):
+    """Lines without which their two ends are apart: no circuit passes them."""
+    return [i + 1 for i, l in enumerate(lines) if not joined(lines[:i] + lines[i + 1 :], l[0], l[1])]
+
+
+def report(file):
+    read = answer(file)
+    if len(read) == 2:
+        return "REFUSED %d AT %d\n" % read
+    b, t, h, n, _, numbers = read
+    lines = [numbers[5 * i : 5 * i + 5] for i in range(n)]
+    tree, closing, pieces = tree_and_closing(b, lines)
+    usable, text = set(tree), ""
+    for k, c in enumerate(closing):
+        way = path(lines, sorted(usable), lines[c][1], lines[c][0])
+        if len(way) != 1:
+            usable.add(c)
+        loop = [(c, 1)] + way
+        length = sum(lines[i][3] for i, _ in loop)
+        misclosure = sum(sense * lines[i][2] for i, sense in loop)
+        verdict = "OVER" if misclosure**2 > 10 * t * t * length else "WITHIN"
+        listed = "".join(f" {sense * (i + 1)}" for i, sense in loop)
+        text += f"LOOP {k + 1} LENGTH {length} MISCLOSURE {misclosure} {verdict}:{listed}\n"
+    left = not_checked(lines)
+    head = f"LEVEL BOOK 1\nMARKS {b} LINES {n} PIECES {pieces} LOOPS {len(closing)}\n"
+    return head + text + f"NOT CHECKED {len(left)}:" + "".join(f" {i}" for i in left) + "\n"
+
+
+def ring(difference):
+    """256 lines in one loop, the longest there are and all of one difference."""
+    return book(256, 1000, lines=[line(i, i % 256 + 1, difference, 100000) for i in range(1, 257)])
+
+
+def cases():
+    for name, file in BOOKS.items():
+        yield name, file
+    yield "nothing at all", b""
+    yield "twelve bytes", WORKED[:12]
+    yield "one byte too many", WORKED + b"\0"
+    yield "as much as is read, and no book", b"\0" * 16384
+    yield "one byte more than that", b"\0" * 16385
+    yield "no line", book(5, 120)
+    yield "256 marks and no line", book(256, 120)
+    yield "511 loops", book(2, 40, lines=[line(1 + i % 2, 2 - i % 2, i % 3 - 1, 100 + i) for i in range(512)])
+    yield "256 lines in one loop, up", ring(10**8)
+    yield "256 lines in one loop, down", ring(-(10**8))
+    yield "255 lines not checked", book(256, 40, lines=[line(i // 2, i, i, 10 * i) for i in range(2, 257)])
+    yield "a checked pair on a chain", book(4, 40, lines=[line(1, 2, 7, 10), line(2, 3, 7, 10), line(3, 2, -9, 10), line(3, 4, 7, 10)])
+
+
+def main():
+    with open("crates/page_cases/stdin", "wb") as given, open("crates/page_cases/stdout", "w") as wanted:
+        for name, file in cases():
+            given.write(name.encode().ljust(NAME_BYTES) + struct.pack(">H", len(file)) + file)
+            wanted.write(name.ljust(NAME_BYTES) + "\n" + report(file))
+
+
+if __name__ == "__main__":
+    main()
