@@ -1,36 +1,37 @@
 -- The whole adjustment: start, pieces without a held mark, sweeps and answer, joined.
 -- Assumes nothing.
-use Prim.Native.Nat.{ℕ, zero, suc, _+_, _*_, _-_, _≤_, _<_}
+use Prim.Native.Nat.{ℕ, zero, suc, _*_, _-_, _≤_, _<_}
 use native.Mathlib.Omega.{arith}
 use mathlib.Core.Path.{_≡_, refl, sym, _∙_, ap, subst}
 use mathlib.Core.Bool.{Bool, true, false, not}
-use mathlib.Core.List.{List, [], _∷_, List·Memᴰ}
-use mathlib.Core.Option.{Option, none, some}
+use mathlib.Core.List.{List}
+use mathlib.Core.Option.{some}
 use lib.ListN.{length, getD}
 use lib.Seq.{ext-getD}
 use lib.IntN.{ℤ, pos, natAbs, _-ℤ_}
 use borrow.Author.Tests.{not-false}
 use Rattle.laws.proofs.Scans.{none-bad}
 use Rattle.book.specs.Limits.{mostHeldHeight, mostDifference}
-use Rattle.network.specs.Standing.{Line, standing}
-use Rattle.network.specs.Tree.{Entry, Tree, tree}
+use Rattle.network.specs.Standing.{standing}
+use Rattle.network.specs.Tree.{tree}
 use Rattle.network.proofs.Grown.{treeLine}
 use Rattle.network.proofs.Count.{size, grows}
-use Rattle.adjust.specs.Sights.{Sight, sightsOf}
-use Rattle.adjust.specs.Sweeps.{Swept, still, moved, visit, sweep, Settled, settled, unsettled, onward, settleFrom, maxSweeps, settle}
-use Rattle.adjust.specs.Start.{Rooted, heldHeight, isSome, isHeld, rootedBy, rootOf, unheldPiece, startOf}
-use Rattle.adjust.specs.Adjusted.{Adjusted, adjusted, refused, ended, unlessUnheld, startHeights, adjustment}
-use Rattle.adjust.specs.Table.{Working, flags, endedAt}
-use Rattle.adjust.specs.Along.{Entered, rooting, Placing, optional, Given, Known, Lent, Raised}
-use Rattle.adjust.specs.Answers.{answer, endAnswer, answered}
-use Rattle.adjust.specs.declared.sweeps.AdjustAnswer.{AdjustAnswer}
-use Rattle.adjust.specs.declared.sweeps.End.{End}
-use Rattle.adjust.specs.declared.sweeps.End.the-variants as end
-use Rattle.adjust.proofs.Best.{Sound}
-use Rattle.adjust.proofs.Fair.{fair-lines, fairs-sound}
-use Rattle.adjust.proofs.Joining.{Named, named, rooting-is}
-use Rattle.adjust.proofs.Starting.{is-some, start-working, apart-most, optional-some}
-use Rattle.adjust.proofs.Promises.{start-length, start-height}
+use Rattle.fields.specs.Heights.{Working}
+use Rattle.sights.specs.Sights.{Sight, sightsOf}
+use Rattle.sweeps.specs.Sweeps.{Swept, still, moved, visit, sweep, Settled, onward, settleFrom, maxSweeps, settle}
+use Rattle.sweeps.specs.Turns.{flags, endedAt}
+use Rattle.start.specs.Start.{heldHeight, isSome, isHeld, rootedBy, rootOf, unheldPiece, startOf, startHeights}
+use Rattle.start.specs.Along.{Entered, rooting, Placing, Given, Known, Lent, Raised}
+use Rattle.adjust.specs.Adjusted.{Outcome, refused, ended, unlessUnheld, adjustment}
+use Rattle.adjust.specs.Answers.{answer, answerOf, endAnswer, answered, Answers}
+use Rattle.fields.proofs.Fair.{fair-lines}
+use Rattle.sweeps.proofs.Best.{Sound, fairs-sound}
+use Rattle.start.proofs.Joining.{named, rooting-is}
+use Rattle.start.proofs.Starting.{is-some, start-working, apart-most, optional-some}
+use Rattle.start.proofs.Beginning.{start-length, start-height}
+use Rattle.adjust.specs.declared.Adjusted.{Adjusted}
+use Rattle.sweeps.specs.declared.End.{End}
+use Rattle.sweeps.specs.declared.End.the-variants as end
 
 -- the same marks held, the same sweeps
 module _ (f : ℕ → List Sight) (p q : ℕ → Bool) where
@@ -56,6 +57,15 @@ module _ (f : ℕ → List Sight) (p q : ℕ → Bool) where
   settle-held : (b : ℕ) → ((m : ℕ) → 0 < m → m ≤ b → p m ≡ q m) → (hs : List ℤ) → settle f p b hs ≡ settle f q b hs
   unfolding settle
   settle-held b e hs = from-held b e maxSweeps 0 hs
+
+-- an answer with nothing beside its number, and place or sweeps
+answers-of : (a x : Adjusted) (hs : List ℤ) (o : Outcome) → a ≡ x → x ≡ answerOf (answered x hs) → answered a hs ≡ o → Answers a hs o
+answers-of a x hs o e p q = record { is = q; whole = subst (λ (y : Adjusted). y ≡ answerOf (answered y hs)) (sym e) p ∙ ap answerOf q }
+
+end-whole : (e : End) (hs : List ℤ) → endAnswer e ≡ answerOf (answered (endAnswer e) hs)
+end-whole (end.Settled n) hs = refl
+end-whole (end.Outside m) hs = refl
+end-whole end.Unsettled hs = refl
 
 -- an end of the sweeps as an answer
 pub end-answer : (e : End) (hs : List ℤ) → answered (endAnswer e) hs ≡ ended (endedAt e hs)
@@ -93,9 +103,9 @@ module _ (lines held : List ℤ) (order came : List ℕ) (b n h : ℕ) (lent : L
     is-unheld = raised (rootedBy (tree b (standing lines))) (heldHeight held) places g .0
 
     -- 11
-    pub unheld-answer : (a : AdjustAnswer) (hs : List ℤ) → 0 < r → a ≡ answer 11 r 0 → answered a hs ≡ adjustment b held lines
+    pub unheld-answer : (a : Adjusted) (hs : List ℤ) → 0 < r → a ≡ answer 11 r 0 → Answers a hs (adjustment b held lines)
     unfolding adjustment
-    unheld-answer a hs l e = ap (λ (x : AdjustAnswer). answered x hs) e ∙ by r is-unheld l
+    unheld-answer a hs l e = answers-of a (answer 11 r 0) hs (adjustment b held lines) e refl (ap (λ (x : Adjusted). answered x hs) e ∙ by r is-unheld l)
       where
         by : (k : ℕ) → k ≡ unheldPiece (rootedBy (tree b (standing lines))) (heldHeight held) b → 0 < k
             → refused 11 k ≡ unlessUnheld (unheldPiece (rootedBy (tree b (standing lines))) (heldHeight held) b) (λ _. ended (settle (sightsOf (standing lines)) (isHeld held) b (startHeights b held lines)))
@@ -134,9 +144,10 @@ module _ (lines held : List ℤ) (order came : List ℕ) (b n h : ℕ) (lent : L
       working = start-working b (lent .few) (rootedBy (tree b (standing lines))) (heldHeight held) small near z long each all-held
 
       -- the sweeps, from the start
-      pub settled-answer : (a : AdjustAnswer) (e : End) (hs : List ℤ) → a ≡ endAnswer e → endedAt e hs ≡ settle (sightsOf (standing lines)) (flags flagged) b z → answered a hs ≡ adjustment b held lines
+      pub settled-answer : (a : Adjusted) (e : End) (hs : List ℤ) → a ≡ endAnswer e → endedAt e hs ≡ settle (sightsOf (standing lines)) (flags flagged) b z → Answers a hs (adjustment b held lines)
       unfolding adjustment
       settled-answer a e hs ea es =
-          ap (λ (x : AdjustAnswer). answered x hs) ea ∙ end-answer e hs
+          answers-of a (endAnswer e) hs (adjustment b held lines) ea (end-whole e hs)
+          (ap (λ (x : Adjusted). answered x hs) ea ∙ end-answer e hs
           ∙ ap ended (es ∙ settle-held (sightsOf (standing lines)) (flags flagged) (isHeld held) b held-flags z ∙ ap (settle (sightsOf (standing lines)) (isHeld held) b) begun)
-          ∙ ap (λ (m : ℕ). unlessUnheld m (λ _. ended (settle (sightsOf (standing lines)) (isHeld held) b (startHeights b held lines)))) (sym none-unheld ∙ is-unheld)
+          ∙ ap (λ (m : ℕ). unlessUnheld m (λ _. ended (settle (sightsOf (standing lines)) (isHeld held) b (startHeights b held lines)))) (sym none-unheld ∙ is-unheld))

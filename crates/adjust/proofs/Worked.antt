@@ -2,19 +2,18 @@
 -- Assumes nothing.
 use Prim.Native.Nat.{ℕ}
 use mathlib.Core.Path.{_≡_, refl}
-use mathlib.Core.List.{List, [], _∷_, _++_}
+use mathlib.Core.List.{List, [], _∷_}
 use lib.IntN.{ℤ, pos, negsuc}
 use Rattle.laws.specs.Tests.{outZ, eqZ}
 use Rattle.laws.specs.Scan.{firstFrom, firstBad}
 use Rattle.book.specs.Height.{workHeightOut}
-use Rattle.network.specs.Standing.{Line, keep, standingFrom, standing}
+use Rattle.network.specs.Standing.{keep, standingFrom, standing}
 use Rattle.network.specs.Tree.{distance, score, far, lowest, firstOut, step, grow, upTo, marks, tree}
-use Rattle.adjust.specs.Sights.{weightOf, sightsOf, weights, pull}
-use Rattle.adjust.specs.Nearest.{nearestSize, nearest}
-use Rattle.adjust.specs.Sweeps.{moved, moveOf, visited, sweep, settleFrom, settle}
-use Rattle.adjust.specs.Start.{heldHeight, isHeld, rootedBy, rootHeight, unheldPiece, startOf, heightsFrom, start}
-use Rattle.adjust.specs.Squares.{squares}
-use Rattle.adjust.specs.Adjusted.{adjusted, refused, startHeights, adjustment}
+use Rattle.sights.specs.Sights.{weightOf, sightsOf, weights, pull}
+use Rattle.sweeps.specs.Nearest.{nearestSize, nearest}
+use Rattle.sweeps.specs.Sweeps.{moved, moveOf, visited, sweep, settleFrom, settle}
+use Rattle.start.specs.Start.{heldHeight, isHeld, rootedBy, rootHeight, unheldPiece, startOf, heightsFrom, start, startHeights}
+use Rattle.adjust.specs.Adjusted.{done, refused, adjustment}
 
 abbrev line : ℕ → ℕ → ℤ → ℕ → List ℤ → List ℤ
 line f t d l rest = pos f ∷ pos t ∷ d ∷ pos l ∷ pos 1 ∷ rest
@@ -54,7 +53,7 @@ unfolding sweep visited moveOf workHeightOut outZ eqZ nearest nearestSize pull w
 first-sweep = refl
 
 -- 102.1235, 106.3358, 103.9072 and 99.0726 m to 0.1 mm
-whole : adjustment 5 held lines ≡ adjusted 15 (pos 100000000 ∷ pos 102123536 ∷ pos 106335770 ∷ pos 103907175 ∷ pos 99072642 ∷ [])
+whole : adjustment 5 held lines ≡ done 15 (pos 100000000 ∷ pos 102123536 ∷ pos 106335770 ∷ pos 103907175 ∷ pos 99072642 ∷ [])
 unfolding adjustment unheldPiece firstBad firstFrom startHeights start startOf heightsFrom rootHeight rootedBy heldHeight isHeld tree marks upTo grow step firstOut lowest far score distance standing standingFrom keep settle settleFrom sweep visited moveOf workHeightOut outZ eqZ nearest nearestSize pull weights sightsOf weightOf
 whole = refl
 

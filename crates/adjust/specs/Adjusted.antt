@@ -6,32 +6,27 @@ use mathlib.Core.List.{List}
 use lib.IntN.{ℤ}
 use Rattle.network.specs.Standing.{standing}
 use Rattle.network.specs.Tree.{tree}
-use Rattle.adjust.specs.Sights.{sightsOf}
-use Rattle.adjust.specs.Sweeps.{Settled, settled, unsettled, settle}
-use Rattle.adjust.specs.Start.{heldHeight, isHeld, rootedBy, unheldPiece, start}
+use Rattle.sights.specs.Sights.{sightsOf}
+use Rattle.sweeps.specs.Sweeps.{Settled, settled, unsettled, settle}
+use Rattle.start.specs.Start.{heldHeight, isHeld, rootedBy, unheldPiece, startHeights}
 
 -- The sweeps and the heights, or a refusal's number and place
-pub data Adjusted : Type 0 where
-  adjusted : ℕ → List ℤ → Adjusted
-  refused : ℕ → ℕ → Adjusted
+pub data Outcome : Type 0 where
+  done : ℕ → List ℤ → Outcome
+  refused : ℕ → ℕ → Outcome
 
 -- 13: "a height in work .. outside its limit", with the mark; 12: "the 10,000th sweep still moved a mark", with 0
-abbrev pub ended : Settled → Adjusted
-ended (settled n hs) = adjusted n hs
+abbrev pub ended : Settled → Outcome
+ended (settled n hs) = done n hs
 ended (Settled.outside m) = refused 13 m
 ended unsettled = refused 12 0
 
 -- 11: "a piece has no held mark", with "its lowest mark, lowest of all such"; 0 is none
-abbrev pub unlessUnheld : ℕ → (Unit {0} → Adjusted) → Adjusted
+abbrev pub unlessUnheld : ℕ → (Unit {0} → Outcome) → Outcome
 unlessUnheld zero go = go tt
 unlessUnheld (suc m) go = refused 11 (suc m)
 
--- the heights before the first sweep
-unfoldable pub startHeights : ℕ → List ℤ → List ℤ → List ℤ
-unfolding start
-startHeights b held lines = start (rootedBy (tree b (standing lines))) (heldHeight held) b
-
-unfoldable pub adjustment : ℕ → List ℤ → List ℤ → Adjusted
+unfoldable pub adjustment : ℕ → List ℤ → List ℤ → Outcome
 unfolding startHeights settle unheldPiece
 adjustment b held lines =
     unlessUnheld (unheldPiece (rootedBy (tree b (standing lines))) (heldHeight held) b)

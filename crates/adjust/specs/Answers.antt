@@ -1,26 +1,37 @@
--- "adjustment its sweeps": the answer and the heights of the adjustment, as the definitions have them.
+-- "adjustment its sweeps": the answer that stands for an outcome, and the outcome that an answer and the heights it leaves stand for.
 -- Assumes nothing.
 use Prim.Native.Nat.{ℕ, zero, suc}
+use mathlib.Core.Path.{_≡_}
 use mathlib.Core.List.{List}
 use lib.IntN.{ℤ}
-use Rattle.adjust.specs.Adjusted.{Adjusted, adjusted, refused}
-use Rattle.adjust.specs.declared.sweeps.AdjustAnswer.{AdjustAnswer}
-use Rattle.adjust.specs.declared.sweeps.End.{End}
-use Rattle.adjust.specs.declared.sweeps.End.the-variants as end
+use Rattle.sweeps.specs.declared.End.{End}
+use Rattle.sweeps.specs.declared.End.the-variants as end
+use Rattle.adjust.specs.Adjusted.{Outcome, done, refused}
+use Rattle.adjust.specs.declared.Adjusted.{Adjusted}
 
-abbrev pub answer : ℕ → ℕ → ℕ → AdjustAnswer
+abbrev pub answer : ℕ → ℕ → ℕ → Adjusted
 answer number place sweeps = record { number = number; place = place; sweeps = sweeps }
 
--- 13 with the mark, 12 with 0; "After a refusal the counts are 0"
-abbrev pub endAnswer : End → AdjustAnswer
+-- "An answer is a number (0 for done), a place (0 when done) and the counts its call fills"; "After a refusal the counts are 0"
+abbrev pub answerOf : Outcome → Adjusted
+answerOf (done n hs) = answer 0 0 n
+answerOf (refused number place) = answer number place 0
+
+-- 13 with the mark, 12 with 0
+abbrev pub endAnswer : End → Adjusted
 endAnswer (end.Settled n) = answer 0 0 n
 endAnswer (end.Outside m) = answer 13 m 0
 endAnswer end.Unsettled = answer 12 0 0
 
-abbrev pub byNumber : ℕ → ℕ → ℕ → List ℤ → Adjusted
-byNumber zero place sweeps hs = adjusted sweeps hs
+abbrev pub byNumber : ℕ → ℕ → ℕ → List ℤ → Outcome
+byNumber zero place sweeps hs = done sweeps hs
 byNumber (suc n) place sweeps hs = refused (suc n) place
 
 -- an answer, with the heights that it leaves
-abbrev pub answered : AdjustAnswer → List ℤ → Adjusted
+abbrev pub answered : Adjusted → List ℤ → Outcome
 answered r hs = byNumber (r .number) (r .place) (r .sweeps) hs
+
+-- The answer r, with the heights hs, is that of the outcome o
+pub record Answers (r : Adjusted) (hs : List ℤ) (o : Outcome) : Type 0 where
+  pub is : answered r hs ≡ o
+  pub whole : r ≡ answerOf o

@@ -1,11 +1,3 @@
-pub mod Sights
-pub mod Nearest
-pub mod Sweeps
-pub mod Start
-pub mod Table
-pub mod Chains
-pub mod Along
-pub mod Squares
 pub mod Adjusted
-pub mod Rates
 pub mod Answers
+pub mod Call

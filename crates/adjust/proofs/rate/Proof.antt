@@ -5,7 +5,8 @@ use mir.Facts.{toZ-ofZ}
 use Rattle.laws.specs.Tests.{eqZ}
 use Rattle.laws.proofs.Signed.{stored}
 use Rattle.book.specs.Test.{testOf}
-use Rattle.adjust.proofs.Rating.{lines-of, marks-of, rate-four, rate-refused, rate-good}
+use Rattle.fields.proofs.Stands.{lines-of}
+use Rattle.rates.proofs.Rating.{marks-of, rate-four, rate-refused, rate-good}
 use borrow.Author.Needs.{needs}
 use Rattle.adjust.proofs.rate.Statement.{statement}
 use Rattle.adjust.proofs.rate.Tie as tie

@@ -1,0 +1,59 @@
+use mathlib.Core.Path.{_≡_, sym, _∙_}
+use Rattle.book.specs.Test.{testOf}
+use Rattle.book.proofs.Goods.{tested-good}
+use Rattle.adjust.specs.Call.{adjustTested, adjustOf}
+use Rattle.adjust.proofs.Calling.{good-entries}
+use borrow.Author.Needs.{needs}
+use Rattle.adjust.proofs.adjust.Statement.{statement}
+use Rattle.adjust.proofs.adjust.Tie as tie
+use Rattle.adjust.proofs.adjust.Reads as reads
+use Rattle.adjust.proofs.adjust.Lts as lts
+use Rattle.book.proofs.test.Reads as test-reads
+use Rattle.adjust.proofs.refuse.Reads as refuse-reads
+use Rattle.adjust.proofs.good.adjust_good.Reads as adjust-good-reads
+
+test-requires : tie.Need-test-requires
+test-requires c κs = search needs
+
+enum-known-r : tie.Need-enum-known-r
+enum-known-r c = search needs
+
+refuse-requires : tie.Need-refuse-requires
+refuse-requires c κs = search needs
+
+enum-known-book : tie.Need-enum-known-book
+enum-known-book c = search needs
+
+-- what the test answered, at the numbers that were lent
+tested : (c : tie.After-test) → (let a = c .before .args in c .test .result ≡ testOf (a .b) (a .t) (a .held .now) (a .lines .now))
+tested c = c .test .ensures ∙ search needs
+
+adjust-good-requires : tie.Need-adjust-good-requires
+adjust-good-requires c κs =
+    let g = c .before .before in
+    let a = c .before .before .before .before .before .args in
+    good-entries _ _ _ _ _ (tested-good (a .b) (a .t) (a .held .now) (a .lines .now) (g .book .given .0 .0) (sym (tested (c .before .before .before .before)) ∙ g .book .given .1))
+
+returns : tie.Need-returns
+unfolding adjustOf adjustTested
+returns c = rw (← (tested (c .before .before .before .before)), c .before .before .r .given .1, c .refuse .ensures)
+
+same-length : tie.Need-same-length
+same-length c = search needs
+
+returns-2 : tie.Need-returns-2
+unfolding adjustOf adjustTested
+returns-2 c = rw (← (tested (c .before .before .before .before .before .before)), c .before .before .before .before .book .given .1) (c .before .adjust-good .ensures)
+
+pub adjust-spec : {M : Type 1} → statement M
+adjust-spec =
+    tie.close
+    (tie.spec
+    test-requires
+    enum-known-r
+    refuse-requires
+    enum-known-book
+    adjust-good-requires
+    returns
+    same-length
+    returns-2)

@@ -1,0 +1,47 @@
+use Rattle.adjust.proofs.Calling.{call-done, call-refused}
+use borrow.Author.Needs.{needs}
+use Rattle.adjust.proofs.good.adjust_by.Statement.{statement}
+use Rattle.adjust.proofs.good.adjust_by.Tie as tie
+use Rattle.adjust.proofs.good.adjust_by.Reads as reads
+use Rattle.adjust.proofs.good.adjust_by.Lts as lts
+use Rattle.adjust.proofs.good.adjust_into.Reads as adjust-into-reads
+use Rattle.adjust.proofs.good.put.Reads as put-reads
+
+adjust-into-requires : tie.Need-adjust-into-requires
+adjust-into-requires c κs = search needs
+
+put-requires : tie.Need-put-requires
+put-requires c κs = search needs
+
+same-length : tie.Need-same-length
+same-length c = search needs
+
+same-length-2 : tie.Need-same-length-2
+same-length-2 c = search needs
+
+returns : tie.Need-returns
+returns c =
+    let s = c .before .before .before .before .before .before .before .before .before in
+    let a = c .before .before .before .before .before .before .before .adjust-into in
+    call-done (s .args .book) (s .args .held .now) (s .args .lines .now) (s .args .heights .now) (a .result) _ (s .pre .1 .1) (a .ensures) (c .before .before .before .before .if1 .taken) _ (c .before .put .ensures)
+
+same-length-3 : tie.Need-same-length-3
+same-length-3 c = search needs
+
+returns-2 : tie.Need-returns-2
+returns-2 c =
+    let s = c .before .before .before .before .before in
+    let a = c .before .before .before .adjust-into in
+    call-refused (s .args .book) (s .args .held .now) (s .args .lines .now) (s .args .heights .now) (a .result) _ (s .pre .1 .1) (a .ensures) (c .if1 .left)
+
+pub adjust-by-spec : {M : Type 1} → statement M
+adjust-by-spec =
+    tie.close
+    (tie.spec
+    adjust-into-requires
+    put-requires
+    same-length
+    same-length-2
+    returns
+    same-length-3
+    returns-2)

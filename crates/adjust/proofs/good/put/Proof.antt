@@ -1,0 +1,66 @@
+use Prim.Native.Nat.{_-_}
+use native.Mathlib.Omega.{arith}
+use lib.IntN.{pos}
+use lib.ListN.{length}
+use borrow.Author.Needs.{needs}
+use Rattle.laws.proofs.Signed.{back}
+use Rattle.adjust.proofs.Laid.{Laid, laid-start, laid-next, laid-end}
+use Rattle.adjust.proofs.good.put.Statement.{statement}
+use Rattle.adjust.proofs.good.put.Tie as tie
+use Rattle.adjust.proofs.good.put.Reads as reads
+use Rattle.adjust.proofs.good.put.Lts as lts
+
+abbrev Inv-loop : tie.InvT-loop
+Inv-loop z out₀ i₀ out i = Laid z out₀ out i
+
+abbrev μ-loop : tie.MeasureT-loop
+μ-loop z out₀ i₀ out i = length z - i
+
+loop-holds : tie.Need-loop-holds Inv-loop μ-loop
+loop-holds c = laid-start _ _
+
+mul-out : tie.Need-mul-out Inv-loop μ-loop
+mul-out c = omega arith
+
+shared-slice-copy-out-out : tie.Need-shared-slice-copy-out-out Inv-loop μ-loop
+shared-slice-copy-out-out c = omega arith
+
+mul-t8 : tie.Need-mul-t8 Inv-loop μ-loop
+mul-t8 c = omega arith
+
+slice-set-from-out : tie.Need-slice-set-from-out Inv-loop μ-loop
+slice-set-from-out c = omega arith
+
+add-i : tie.Need-add-i Inv-loop μ-loop
+add-i c = omega arith
+
+loop-less : tie.Need-loop-less Inv-loop μ-loop
+loop-less c = omega arith
+
+loop-again : tie.Need-loop-again Inv-loop μ-loop
+loop-again c =
+    let l = c .before .before in
+    laid-next _ _ _ (l .loop .i) _ (pos 0) (l .before .pre) (c .before .loop-test .taken) (search needs) (l .loop .inv)
+
+same-length : tie.Need-same-length Inv-loop μ-loop
+same-length c = c .before .loop .inv .as-long
+
+returns : tie.Need-returns Inv-loop μ-loop
+returns c = laid-end _ _ _ (c .before .loop .i) (c .loop-test .left) (c .before .loop .inv)
+
+pub put-spec : {M : Type 1} → statement M
+put-spec =
+    tie.close
+    (tie.spec
+    Inv-loop
+    μ-loop
+    loop-holds
+    mul-out
+    shared-slice-copy-out-out
+    mul-t8
+    slice-set-from-out
+    add-i
+    loop-less
+    loop-again
+    same-length
+    returns)

@@ -1,0 +1,52 @@
+-- What the adjustment answers, and what the lent heights then hold: refusals 4, 6, 7, 10, 11, then 12 or 13 by whichever comes first.
+-- Assumes nothing.
+use Prim.Native.Nat.{ℕ, _≤_}
+use mathlib.Core.Bool.{cond}
+use mathlib.Core.List.{List, _++_}
+use lib.Dec.{ltb}
+use lib.ListN.{length, drop}
+use lib.IntN.{ℤ}
+use Rattle.book.specs.Limits.{mostMarks}
+use Rattle.book.specs.Test.{testOf}
+use Rattle.book.specs.declared.Book.{Book}
+use Rattle.book.specs.declared.Tested.{Tested}
+use Rattle.book.specs.declared.Tested.the-variants.{Good, Refused}
+use Rattle.fields.specs.Places.{Lines}
+use Rattle.start.specs.Along.{HeldEntries}
+use Rattle.adjust.specs.Adjusted.{Outcome, done, refused, adjustment}
+use Rattle.adjust.specs.Answers.{answer}
+use Rattle.adjust.specs.declared.Adjusted.{Adjusted}
+
+-- the answer, and the heights after the call
+pub record Given : Type 0 where
+  pub answer : Adjusted
+  pub heights : List ℤ
+
+abbrev pub adjusted : Adjusted → List ℤ → Given
+adjusted a out = record { answer = a; heights = out }
+
+-- "Output places past the answer stay unchanged"; "After a refusal the counts are 0 and no lent buffer has changed"
+abbrev pub givenBy : List ℤ → Outcome → Given
+givenBy out (done sweeps hs) = adjusted (answer 0 0 sweeps) (hs ++ drop (length hs) out)
+givenBy out (refused number place) = adjusted (answer number place 0) out
+
+-- of a good book: 10, "lent output too short for the whole answer", or the adjustment
+unfoldable pub adjustGood : Book → List ℤ → List ℤ → List ℤ → Given
+unfolding adjustment
+adjustGood k held lines out = cond (ltb (length out) (k .marks)) (adjusted (answer 10 0 0) out) (givenBy out (adjustment (k .marks) held lines))
+
+unfoldable pub adjustTested : List ℤ → List ℤ → List ℤ → Tested → Given
+unfolding adjustGood
+adjustTested held lines out (Refused r) = adjusted (answer (r .number) (r .place) 0) out
+adjustTested held lines out (Good k) = adjustGood k held lines out
+
+unfoldable pub adjustOf : ℤ → ℤ → List ℤ → List ℤ → List ℤ → Given
+unfolding adjustTested testOf
+adjustOf b t held lines out = adjustTested held lines out (testOf b t held lines)
+
+-- What the adjustment uses of a tested book: its counts, and that every held entry and every line is good
+pub record GoodEntries (k : Book) (held lines : List ℤ) : Type 0 where
+  pub some-mark : 1 ≤ k .marks
+  pub few : k .marks ≤ mostMarks
+  pub lines-good : Lines lines (k .marks) (k .lines)
+  pub held-good : HeldEntries held (k .marks) (k .held)

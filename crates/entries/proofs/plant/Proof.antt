@@ -1,0 +1,77 @@
+use Rattle.entries.proofs.Entering.{chained-of, soil-of}
+use borrow.Author.Needs.{needs}
+use Rattle.entries.proofs.plant.Statement.{statement}
+use Rattle.entries.proofs.plant.Tie as tie
+use Rattle.entries.proofs.plant.Reads as reads
+use Rattle.entries.proofs.plant.Lts as lts
+use Rattle.entries.proofs.plant_in.Reads as plant-in-reads
+
+slice-aggregate-plant-in : tie.Need-slice-aggregate-plant-in
+slice-aggregate-plant-in c = search needs
+
+slice-aggregate-plant-in-2 : tie.Need-slice-aggregate-plant-in-2
+slice-aggregate-plant-in-2 c = search needs
+
+slice-aggregate-plant-in-3 : tie.Need-slice-aggregate-plant-in-3
+slice-aggregate-plant-in-3 c = search needs
+
+slice-aggregate-plant-in-4 : tie.Need-slice-aggregate-plant-in-4
+slice-aggregate-plant-in-4 c = search needs
+
+slice-aggregate-plant-in-5 : tie.Need-slice-aggregate-plant-in-5
+slice-aggregate-plant-in-5 c = search needs
+
+slice-aggregate-plant-in-6 : tie.Need-slice-aggregate-plant-in-6
+slice-aggregate-plant-in-6 c = search needs
+
+slice-aggregate-plant-in-7 : tie.Need-slice-aggregate-plant-in-7
+slice-aggregate-plant-in-7 c = search needs
+
+slice-aggregate-plant-in-8 : tie.Need-slice-aggregate-plant-in-8
+slice-aggregate-plant-in-8 c = search needs
+
+slice-aggregate-plant-in-9 : tie.Need-slice-aggregate-plant-in-9
+slice-aggregate-plant-in-9 c = search needs
+
+plant-in-requires : tie.Need-plant-in-requires
+plant-in-requires c κs =
+    let s = c .before .before .before .before .before .before .before .before .before .before .before .before .before in
+    let l = s .args .lines .now in
+    let b = s .args .b in
+    let n = s .args .n in (
+      s .pre .0,
+      (
+        s .pre .1 .0,
+        (
+          chained-of l b n (s .pre .0) (s .pre .1 .0) _ _ _ _ _ _ (search needs) (search needs) (search needs) (search needs) (search needs) (search needs),
+          (soil-of l b n (s .pre .0) (s .pre .1 .0) _ _ _ (search needs) (search needs) (search needs), s .pre .1 .1),
+        ),
+      ),
+    )
+
+same-length : tie.Need-same-length
+same-length c = search needs
+
+same-length-2 : tie.Need-same-length-2
+same-length-2 c = search needs
+
+returns : tie.Need-returns
+returns c = search needs
+
+pub plant-spec : {M : Type 1} → statement M
+plant-spec =
+    tie.close
+    (tie.spec
+    slice-aggregate-plant-in
+    slice-aggregate-plant-in-2
+    slice-aggregate-plant-in-3
+    slice-aggregate-plant-in-4
+    slice-aggregate-plant-in-5
+    slice-aggregate-plant-in-6
+    slice-aggregate-plant-in-7
+    slice-aggregate-plant-in-8
+    slice-aggregate-plant-in-9
+    plant-in-requires
+    same-length
+    same-length-2
+    returns)

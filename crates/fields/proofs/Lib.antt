@@ -1,0 +1,4 @@
+pub mod Setting
+pub mod Readback
+pub mod Stands
+pub mod Fair

@@ -1,0 +1,54 @@
+-- The rate call: what its tests tell.
+-- Assumes nothing.
+use Prim.Native.Nat.{ℕ, _≤_, zero-le}
+use mathlib.Core.Path.{_≡_, refl, sym, _∙_, ap, subst}
+use mathlib.Core.Bool.{Bool, true, false, cond}
+use mathlib.Core.List.{List}
+use lib.Dec.{ltb}
+use lib.ListN.{length, getD}
+use lib.IntN.{ℤ, pos, natAbs}
+use borrow.Author.Tests.{ltb-true, ltb-false, eqb-true}
+use Rattle.laws.specs.Tests.{eqZ}
+use Rattle.laws.proofs.Scans.{none-bad}
+use Rattle.laws.proofs.Size.{size-within}
+use Rattle.book.specs.Limits.{mostHeight}
+use Rattle.book.specs.Height.{workHeightOut}
+use Rattle.book.specs.Test.{testOf}
+use Rattle.fields.specs.Heights.{Working}
+use Rattle.rates.specs.Rates.{firstHigh, refusedRate, goodRate, testedRate, rateAnswer}
+use Rattle.book.specs.declared.Book.{Book}
+use Rattle.book.specs.declared.Refusal.{Refusal}
+use Rattle.book.specs.declared.Tested.the-variants.{Good, Refused}
+use Rattle.book.proofs.Goods.{tested-good}
+use Rattle.rates.specs.declared.RateAnswer.{RateAnswer}
+use Rattle.fields.proofs.Setting.{past-end}
+
+-- lent heights none of which is outside
+pub working-lent : (hs : List ℤ) (b : ℕ) → length hs ≡ b → firstHigh hs ≡ 0 → Working hs b
+unfolding firstHigh workHeightOut
+working-lent hs b e z = record { all = e; inside = λ j. by j (ltb j (length hs)) refl }
+  where
+    by : (j : ℕ) (t : Bool) → ltb j (length hs) ≡ t → natAbs (getD hs j (pos 0)) ≤ mostHeight
+    by j true t = size-within 49999999999 (getD hs j (pos 0)) (none-bad (λ i. workHeightOut (getD hs i (pos 0))) (length hs) z j (ltb-true j (length hs) t))
+    by j false t = rw (past-end hs j (ltb-false j (length hs) t)) zero-le
+
+-- b heights
+pub marks-of : (b t : ℤ) (held lines : List ℤ) (k : Book) → testOf b t held lines ≡ Good k → (n : ℕ) → eqZ (pos n) b ≡ true → n ≡ k .marks
+unfolding eqZ
+marks-of b t held lines k e n q =
+    let g = tested-good b t held lines k e in
+    eqb-true n (k .marks) (subst (λ (z : ℤ). eqZ (pos n) z ≡ true) (g .marks) q)
+
+-- the answer by the tests
+module _ (b t : ℤ) (held lines heights : List ℤ) (line : ℤ) (r : RateAnswer) where
+  pub rate-four : eqZ (pos (length heights)) b ≡ false → r ≡ refusedRate 4 0 → r ≡ rateAnswer b t held lines heights line
+  unfolding rateAnswer
+  rate-four q e = rw q e
+
+  pub rate-refused : eqZ (pos (length heights)) b ≡ true → (f : Refusal) → testOf b t held lines ≡ Refused f → r ≡ refusedRate (f .number) (f .place) → r ≡ rateAnswer b t held lines heights line
+  unfolding rateAnswer
+  rate-refused q f h e = e ∙ sym (ap (λ (x : Bool). cond x (testedRate heights lines line (testOf b t held lines)) (refusedRate 4 0)) q ∙ ap (testedRate heights lines line) h)
+
+  pub rate-good : eqZ (pos (length heights)) b ≡ true → (k : Book) → testOf b t held lines ≡ Good k → r ≡ goodRate heights lines k line → r ≡ rateAnswer b t held lines heights line
+  unfolding rateAnswer
+  rate-good q k h e = e ∙ sym (ap (λ (x : Bool). cond x (testedRate heights lines line (testOf b t held lines)) (refusedRate 4 0)) q ∙ ap (testedRate heights lines line) h)

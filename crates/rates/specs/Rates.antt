@@ -1,0 +1,68 @@
+-- Document 01, "Adjustment": correction rates.
+-- Assumes nothing.
+use Prim.Native.Nat.{ℕ, _-_}
+use mathlib.Core.Bool.{false, not, cond}
+use mathlib.Core.List.{List}
+use lib.Dec.{ltb}
+use lib.ListN.{length, getD}
+use lib.IntN.{ℤ, pos, natAbs, _-ℤ_}
+use lib.Ieee.{Float, fin, binary64, ofInt, div}
+use Rattle.laws.specs.Tests.{outZ, eqZ}
+use Rattle.laws.specs.Scan.{firstBad}
+use Rattle.book.specs.Line.{fromAt, toAt, differenceAt, lengthAt, standingAt}
+use Rattle.book.specs.Height.{workHeightOut}
+use Rattle.book.specs.Test.{testOf}
+use Rattle.fields.specs.Heights.{height}
+use Rattle.book.specs.declared.Book.{Book}
+use Rattle.book.specs.declared.Tested.{Tested}
+use Rattle.book.specs.declared.Tested.the-variants.{Good, Refused}
+use Rattle.rates.specs.declared.Rate.{Rate}
+use Rattle.rates.specs.declared.Rate.the-variants.{PerKm, Withdrawn}
+use Rattle.rates.specs.declared.RateRow.{RateRow}
+use Rattle.rates.specs.declared.RateAnswer.{RateAnswer}
+
+-- "Both numbers are exact as 64-bit floats and the rate is their one rounded quotient."
+unfoldable pub quotient : ℤ → ℤ → Float
+quotient correction length = div binary64 (ofInt binary64 correction) (ofInt binary64 length)
+
+-- "A row for printing carries line, correction and rate together"; "of a withdrawn line, correction and rate" are 0
+unfoldable pub rowOf : ℕ → ℤ → Rate → RateRow
+rowOf line correction (PerKm rate) = record { line = line; correction = correction; rate = rate }
+rowOf line correction Withdrawn = record { line = line; correction = pos 0; rate = fin false 0 (pos 0) }
+
+-- "adjusted minus observed difference": the correction of the line at place i
+unfoldable pub correctionAt : List ℤ → List ℤ → ℕ → ℤ
+correctionAt heights lines i = height heights (natAbs (toAt lines i)) -ℤ height heights (natAbs (fromAt lines i)) -ℤ differenceAt lines i
+
+-- "Of a refused call, line, correction and rate are 0"
+unfoldable pub refusedRate : ℕ → ℕ → RateAnswer
+refusedRate number place = record { number = number; place = place; line = 0; correction = pos 0; rate = PerKm (fin false 0 (pos 0)) }
+
+-- "A line's answer is either its rate or that the line is withdrawn"; "of a withdrawn line, correction and rate" are 0
+unfoldable pub lineRate : List ℤ → List ℤ → ℕ → ℕ → RateAnswer
+unfolding correctionAt quotient
+lineRate heights lines line i =
+    cond (eqZ (standingAt lines i) (pos 0))
+    (record { number = 0; place = 0; line = line; correction = pos 0; rate = Withdrawn })
+    (record { number = 0; place = 0; line = line; correction = correctionAt heights lines i; rate = PerKm (quotient (correctionAt heights lines i) (lengthAt lines i)) })
+
+-- 13: "a height .. lent, outside its limit", "of lent ones the lowest"
+unfoldable pub firstHigh : List ℤ → ℕ
+unfolding workHeightOut firstBad
+firstHigh heights = firstBad (λ i. workHeightOut (getD heights i (pos 0))) (length heights)
+
+-- 8: "no such line", then 13
+unfoldable pub goodRate : List ℤ → List ℤ → Book → ℤ → RateAnswer
+unfolding refusedRate firstHigh lineRate
+goodRate heights lines book line =
+    cond (outZ (pos 1) (pos (book .lines)) line) (refusedRate 8 0)
+    (cond (ltb 0 (firstHigh heights)) (refusedRate 13 (firstHigh heights)) (lineRate heights lines (natAbs line) (natAbs line - 1)))
+
+abbrev pub testedRate : List ℤ → List ℤ → ℤ → Tested → RateAnswer
+testedRate heights lines line (Refused r) = refusedRate (r .number) (r .place)
+testedRate heights lines line (Good book) = goodRate heights lines book line
+
+-- 4: "heights lent to be read not b in number"; then the book's own refusals
+unfoldable pub rateAnswer : ℤ → ℤ → List ℤ → List ℤ → List ℤ → ℤ → RateAnswer
+unfolding refusedRate goodRate testOf
+rateAnswer b t held lines heights line = cond (eqZ (pos (length heights)) b) (testedRate heights lines line (testOf b t held lines)) (refusedRate 4 0)

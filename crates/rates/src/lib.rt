@@ -1,0 +1,143 @@
+// Correction rates: document 01, "Adjustment".
+ghost use mathlib.Core.Path.{_≡_};
+ghost use lib.IntN.{natAbs};
+ghost use Prim.Native.Nat.{_-_, _<_, _^_};
+ghost use lib.ListN.{length};
+ghost use Rattle.fields.specs.Places.{Place, Lines};
+ghost use Rattle.fields.specs.Heights.{Working};
+ghost use Rattle.rates.specs.Rates.{quotient, rowOf, refusedRate, firstHigh, correctionAt, lineRate, goodRate};
+use book::Book;
+use book::height::Height;
+use book::line::Line;
+use fields::difference_of;
+use fields::from_mark;
+use fields::to_mark;
+
+// A line's answer: its rate in micrometres per metre, which are mm per km, or that the line is withdrawn.
+pub enum Rate {
+    PerKm(f64),
+    Withdrawn,
+}
+
+// What a row for printing carries.
+pub struct RateRow {
+    pub line: usize,
+    pub correction: i64,
+    pub rate: f64,
+}
+
+// What the call answers: a refusal's number and place, 0 when done; the line, its correction, and its rate or that it is withdrawn.
+pub struct RateAnswer {
+    pub number: usize,
+    pub place: usize,
+    pub line: usize,
+    pub correction: i64,
+    pub rate: Rate,
+}
+
+// Both numbers are below 2 to the 53rd, so that the casts are exact; the quotient is rounded once.
+fn per_km(correction: i64, length: i64) -> f64
+    requires { ⌜ natAbs correction < 2 ^ 53 ⌝ ∗ ⌜ natAbs length < 2 ^ 53 ⌝ }
+    ensures { λ r. ⌜ r ≡ quotient correction length ⌝ }
+{
+    correction as f64 / length as f64
+}
+
+// The row of a line for printing: of a withdrawn line the correction and the rate are 0.
+pub fn row_of(line: usize, correction: i64, rate: Rate) -> RateRow
+    ensures { λ r. ⌜ r ≡ rowOf line correction rate ⌝ }
+{
+    match rate {
+        Rate::PerKm(x) => RateRow {
+            line,
+            correction,
+            rate: x,
+        },
+        Rate::Withdrawn => RateRow {
+            line,
+            correction: 0,
+            rate: 0.0,
+        },
+    }
+}
+
+pub fn refuse(number: usize, place: usize) -> RateAnswer
+    ensures { λ r. ⌜ r ≡ refusedRate number place ⌝ }
+{
+    RateAnswer {
+        number,
+        place,
+        line: 0,
+        correction: 0,
+        rate: Rate::PerKm(0.0),
+    }
+}
+
+// The lowest mark whose lent height is outside its limit, or 0.
+fn first_high(heights: &[i64]) -> usize
+    ensures { λ r. ⌜ r ≡ firstHigh (now (heights .entry)) ⌝ }
+{
+    let n = heights.len();
+    let mut i = 0;
+    while i < n {
+        if Height::outside_work(heights[i]) {
+            return i + 1;
+        }
+        i += 1;
+    }
+    0
+}
+
+// Adjusted minus observed difference of the line at place i.
+fn correction_of(lines: &[i64], heights: &[i64], b: usize, n: usize, i: usize) -> i64
+    requires { ⌜ Place (now lines) b n i ⌝ ∗ ⌜ Working (now heights) b ⌝ }
+    ensures { λ r. ⌜ (r ≡ correctionAt (now (heights .entry)) (now (lines .entry)) i) × (natAbs r < 2 ^ 53) ⌝ }
+{
+    let to = to_mark(lines, b, n, i);
+    let from = from_mark(lines, b, n, i);
+    let adjusted = signed::sub(heights[to - 1], heights[from - 1]);
+    signed::sub(adjusted, difference_of(lines, b, n, i))
+}
+
+// The answer of a line that there is.
+fn line_rate(lines: &[i64], heights: &[i64], b: usize, n: usize, line: usize) -> RateAnswer
+    requires { ⌜ Place (now lines) b n (line - 1) ⌝ ∗ ⌜ Working (now heights) b ⌝ ∗ ⌜ 0 < line ⌝ }
+    ensures { λ r. ⌜ r ≡ lineRate (now (heights .entry)) (now (lines .entry)) line (line - 1) ⌝ }
+{
+    let i = line - 1;
+    let at = i * Line::WORDS;
+    if signed::same(lines[at + Line::STANDING], 0) {
+        return RateAnswer {
+            number: 0,
+            place: 0,
+            line,
+            correction: 0,
+            rate: Rate::Withdrawn,
+        };
+    }
+    let correction = correction_of(lines, heights, b, n, i);
+    let rate = per_km(correction, lines[at + Line::LENGTH]);
+    RateAnswer {
+        number: 0,
+        place: 0,
+        line,
+        correction,
+        rate: Rate::PerKm(rate),
+    }
+}
+
+// The answer for a book that has passed its test: 8, then 13.
+pub fn good_rate(lines: &[i64], heights: &[i64], book: Book, line: i64) -> RateAnswer
+    requires { ⌜ Lines (now lines) (book .marks) (book .lines) ⌝ ∗ ⌜ length (now heights) ≡ book .marks ⌝ }
+    ensures { λ r. ⌜ r ≡ goodRate (now (heights .entry)) (now (lines .entry)) book line ⌝ }
+{
+    let n = book.lines;
+    if signed::outside(line, 1, signed::signed_count(n)) {
+        return refuse(8, 0);
+    }
+    let high = first_high(heights);
+    if 0 < high {
+        return refuse(13, high);
+    }
+    line_rate(lines, heights, book.marks, n, signed::index(line))
+}

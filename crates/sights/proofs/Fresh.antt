@@ -1,0 +1,54 @@
+-- Arrays of zeros are room for the table. Assumes nothing.
+use Prim.Native.Nat.{ℕ, zero, suc, _*_, _≤_, _<_, zero-le}
+use native.Mathlib.Omega.{arith}
+use mathlib.Core.Path.{_≡_, refl}
+use mathlib.Core.List.{List}
+use lib.ListN.{getD, replicate, length-replicate}
+use lib.IntN.{ℤ, pos}
+use Rattle.network.specs.Standing.{standing}
+use Rattle.fields.specs.Places.{Lines}
+use Rattle.sights.specs.Sights.{sightsOf}
+use Rattle.sights.specs.Chains.{Empty, Spaces}
+use Rattle.sights.specs.Table.{InRange, Broad}
+use Rattle.fields.proofs.Fair.{fair-lines}
+use Rattle.sights.proofs.Counting.{few-sights, taken-most}
+
+abbrev pub zeros : ℕ → List ℕ
+zeros w = replicate w 0
+
+abbrev pub nulls : ℕ → List ℤ
+nulls w = replicate w (pos 0)
+
+all-zero : (w j : ℕ) → getD (zeros w) j 0 ≡ 0
+all-zero zero j = refl
+all-zero (suc w) zero = refl
+all-zero (suc w) (suc j) = all-zero w j
+
+all-null : (w j : ℕ) → getD (nulls w) j (pos 0) ≡ pos 0
+all-null zero j = refl
+all-null (suc w) zero = refl
+all-null (suc w) (suc j) = all-null w j
+
+pub empty-chains : (w b : ℕ) → b ≤ w → Empty (zeros w) b
+empty-chains w b l = record { heads = rw (length-replicate w) l; none = λ v h. all-zero w v }
+
+pub space-zeros : (w n : ℕ) → 2 * n ≤ w → Spaces (zeros w) (zeros w) n
+space-zeros w n l = record { nexts = rw (length-replicate w) l; halves = rw (length-replicate w) l }
+
+pub range-zeros : (w b : ℕ) → 0 < b → InRange (zeros w) (nulls w) (zeros w) b
+range-zeros w b l = record {
+  otherIn = λ j. rw (all-zero w j) l;
+  riseIn = λ j. rw (all-null w j) zero-le;
+  weightIn = λ j. rw (all-zero w j) zero-le;
+}
+
+pub broad-zeros : (lines : List ℤ) (b n f w t : ℕ) → Lines lines b n → b < f → b ≤ t → 2 * n ≤ w → Broad (sightsOf (standing lines)) (zeros f) (zeros w) (nulls w) (zeros w) (zeros t) b
+broad-zeros lines b n f w t good lf lt lw =
+    let fairs = fair-lines lines b n good in
+    let most = taken-most fairs b in
+    record {
+      firsts = rw (length-replicate f) lf;
+      totals = rw (length-replicate t) lt;
+      upto = record { others = rw (length-replicate w) (omega arith); rises = rw (length-replicate w) (omega arith); weighed = rw (length-replicate w) (omega arith) };
+      few = λ m. omega (arith, few-sights fairs m, good .few);
+    }

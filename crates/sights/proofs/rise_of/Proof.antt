@@ -1,0 +1,46 @@
+use mathlib.Core.Path.{_≡_, sym, _∙_, ap}
+use Prim.Native.Nat.{_/_}
+use native.Mathlib.Omega.{arith}
+use lib.IntN.{negℤ, +ℤ-idl}
+use mir.Syntax.{w64}
+use mir.Val.{toZ, ofZ}
+use Rattle.laws.proofs.Signed.{stored}
+use Rattle.laws.proofs.Size.{size-neg}
+use Rattle.book.specs.Line.{differenceAt}
+use Rattle.sights.specs.Sights.{Sight}
+use Rattle.fields.proofs.Readback.{read}
+use Rattle.sights.proofs.Halves.{to-half, from-half}
+use borrow.Author.Needs.{needs}
+use Rattle.sights.proofs.rise_of.Statement.{statement}
+use Rattle.sights.proofs.rise_of.Tie as tie
+
+difference-read : (s : tie.Start) → toZ w64 (ofZ w64 (differenceAt (s .args .lines .now) (s .args .j / 2))) ≡ differenceAt (s .args .lines .now) (s .args .j / 2)
+difference-read s = read (differenceAt (s .args .lines .now) (s .args .j / 2)) 100000000 (s .pre .good .difference) (omega arith)
+
+mul-d : tie.Need-mul-d
+mul-d c = search needs
+
+add-d : tie.Need-add-d
+add-d c = search needs
+
+mul-d-2 : tie.Need-mul-d-2
+mul-d-2 c = search needs
+
+shared-slice-copy-out-d : tie.Need-shared-slice-copy-out-d
+shared-slice-copy-out-d c = search needs
+
+sub-requires : tie.Need-sub-requires
+sub-requires c κs = let s = c .before .before in rw (difference-read s) (omega (arith, s .pre .good .difference))
+
+returns : tie.Need-returns
+returns c = let s = c .before .before in (difference-read s ∙ sym (ap (λ (x : Sight). x .rise) (to-half (s .args .lines .now) (s .args .j) (c .if1 .taken))), rw (difference-read s) (s .pre .good .difference))
+
+returns-2 : tie.Need-returns-2
+returns-2 c =
+    let s = c .before .before .before in
+    let e : toZ w64 (ofZ w64 (c .sub .result)) ≡ negℤ (differenceAt (s .args .lines .now) (s .args .j / 2)) = stored (c .sub .result) (c .sub .ok) (c .sub .ensures ∙ rw (difference-read s, +ℤ-idl)) in
+    (e ∙ sym (ap (λ (x : Sight). x .rise) (from-half (s .args .lines .now) (s .args .j) (c .before .if1 .left))), rw (e, size-neg) (s .pre .good .difference))
+
+pub rise-of-spec : {M : Type 1} → statement M
+rise-of-spec =
+    tie.close (tie.spec mul-d add-d mul-d-2 shared-slice-copy-out-d sub-requires returns returns-2)

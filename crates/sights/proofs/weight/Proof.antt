@@ -1,0 +1,15 @@
+use mathlib.Core.Path.{refl}
+use Rattle.sights.specs.Sights.{weightOf}
+use borrow.Author.Needs.{needs}
+use Rattle.sights.proofs.weight.Statement.{statement}
+use Rattle.sights.proofs.weight.Tie as tie
+
+div-result : tie.Need-div-result
+div-result c = search needs
+
+returns : tie.Need-returns
+unfolding weightOf
+returns c = refl
+
+pub weight-spec : {M : Type 1} → statement M
+weight-spec = tie.close (tie.spec div-result returns)

@@ -1,0 +1,101 @@
+use mathlib.Core.Path.{_≡_, refl, _∙_, subst}
+use Prim.Native.Nat.{ℕ, _-_, _≤_, _<_}
+use native.Mathlib.Omega.{arith}
+use Rattle.sights.specs.Sights.{sightsOf}
+use Rattle.sights.specs.Table.{Rowed}
+use Rattle.sights.proofs.Rowing.{rowed-none, broad-kept, table-is, rows-are}
+use borrow.Author.Needs.{needs}
+use lib.ListN.{length, set, length-set}
+use Rattle.network.specs.Standing.{standing}
+use Rattle.sights.proofs.write_rows.Statement.{statement}
+use Rattle.sights.proofs.write_rows.Tie as tie
+
+abbrev Inv-loop : tie.InvT-loop
+Inv-loop lines head next half first₀ other₀ rise₀ weight₀ total₀ b n k c₀ v₀ first other rise weight total c v =
+    (v ≤ b) × (length first ≡ length first₀) × (length other ≡ length other₀) × (length rise ≡ length rise₀) × (length weight ≡ length weight₀) × (length total ≡ length total₀)
+    × Rowed (sightsOf (standing lines)) first other rise weight total b v c
+
+abbrev μ-loop : tie.MeasureT-loop
+μ-loop lines head next half first₀ other₀ rise₀ weight₀ total₀ b n k c₀ v₀ first other rise weight total c v = b - v
+
+loop-holds : tie.Need-loop-holds Inv-loop μ-loop
+loop-holds c = let s = c .before .before .before .before .before .before .before in (search needs, refl, refl, refl, refl, refl, rowed-none (sightsOf (standing (s .args .lines .now))) (s .args .first .now) (s .args .other .now) (s .args .rise .now) (s .args .weight .now) (s .args .total .now) (s .args .b) (s .pre .1 .1 .0))
+
+write-row-requires : tie.Need-write-row-requires Inv-loop μ-loop
+write-row-requires c κs =
+    let s = c .before .before .before .before .before .before .before .before .before .before .before .before .before .before in
+    let l = c .before .before .before .before .before .before .loop in
+    (s .pre .0, (s .pre .1 .0, (l .inv .6, (broad-kept (sightsOf (standing (s .args .lines .now))) (s .args .first .now) (s .args .other .now) (s .args .rise .now) (s .args .weight .now) (s .args .total .now) (l .first) (l .other) (l .rise) (l .weight) (l .total) (s .args .b) (s .pre .1 .1 .1) (l .inv .1) (l .inv .2) (l .inv .3) (l .inv .4) (l .inv .5), c .before .before .before .before .before .loop-test .taken))))
+
+add-v : tie.Need-add-v Inv-loop μ-loop
+add-v c = omega (arith, c .before .before .before .before .before .before .before .before .before .before .before .before .before .before .before .loop-test .taken)
+
+loop-less : tie.Need-loop-less Inv-loop μ-loop
+loop-less c = omega (arith, c .before .before .before .before .before .before .before .before .before .before .before .before .before .before .before .loop-test .taken)
+
+loop-again : tie.Need-loop-again Inv-loop μ-loop
+loop-again c =
+    let l = c .before .before .before .before .before .before .before .before .before .before .before .before .before .before .before .before .loop in
+    let w = c .before .before .before .before .before .before .before .before .before .write-row in (
+      omega (arith, c .before .before .before .before .before .before .before .before .before .before .before .before .before .before .before .loop-test .taken),
+      w .kept .1 .1 .1 .1 .0 ∙ l .inv .1,
+      w .kept .1 .1 .1 .1 .1 .0 ∙ l .inv .2,
+      w .kept .1 .1 .1 .1 .1 .1 .0 ∙ l .inv .3,
+      w .kept .1 .1 .1 .1 .1 .1 .1 .0 ∙ l .inv .4,
+      w .kept .1 .1 .1 .1 .1 .1 .1 .1 .0 ∙ l .inv .5,
+      w .ensures,
+    )
+
+mul-first : tie.Need-mul-first Inv-loop μ-loop
+mul-first c = let s = c .before .before .before .before .before .before .before .before .before in omega (arith, s .pre .1 .1 .1 .firsts)
+
+slice-write-first : tie.Need-slice-write-first Inv-loop μ-loop
+slice-write-first c = let s = c .before .before .before .before .before .before .before .before .before in omega (arith, s .pre .1 .1 .1 .firsts, c .before .loop .inv .1)
+
+same-length : tie.Need-same-length Inv-loop μ-loop
+same-length c = simp length-set (c .before .loop .inv .1)
+
+same-length-2 : tie.Need-same-length-2 Inv-loop μ-loop
+same-length-2 c = c .before .loop .inv .2
+
+same-length-3 : tie.Need-same-length-3 Inv-loop μ-loop
+same-length-3 c = c .before .loop .inv .3
+
+same-length-4 : tie.Need-same-length-4 Inv-loop μ-loop
+same-length-4 c = c .before .loop .inv .4
+
+same-length-5 : tie.Need-same-length-5 Inv-loop μ-loop
+same-length-5 c = c .before .loop .inv .5
+
+returns : tie.Need-returns Inv-loop μ-loop
+returns c =
+    let s = c .before .before .before .before .before .before .before .before .before in
+    let l = c .before .loop in
+    let e : l .v ≡ s .args .b = omega (arith, c .loop-test .left) in
+    let f = set (l .first) (s .args .b) (l .c) in
+    let h = subst (λ (v : ℕ). Rowed (sightsOf (standing (s .args .lines .now))) (l .first) (l .other) (l .rise) (l .weight) (l .total) (s .args .b) v (l .c)) e (l .inv .6) in
+    let r = broad-kept (sightsOf (standing (s .args .lines .now))) (s .args .first .now) (s .args .other .now) (s .args .rise .now) (s .args .weight .now) (s .args .total .now) f (l .other) (l .rise) (l .weight) (l .total) (s .args .b) (s .pre .1 .1 .1) (simp length-set (l .inv .1)) (l .inv .2) (l .inv .3) (l .inv .4) (l .inv .5) in
+    let k : s .args .b < length (l .first) = omega (arith, s .pre .1 .1 .1 .firsts, l .inv .1) in (
+      table-is (sightsOf (standing (s .args .lines .now))) (l .first) (l .other) (l .rise) (l .weight) (l .total) f (s .args .b) (l .c) r h k refl,
+      rows-are (sightsOf (standing (s .args .lines .now))) (l .first) (l .other) (l .rise) (l .weight) (l .total) f (s .args .b) (l .c) r h k refl,
+    )
+
+pub write-rows-spec : {M : Type 1} → statement M
+write-rows-spec =
+    tie.close
+    (tie.spec
+    Inv-loop
+    μ-loop
+    loop-holds
+    write-row-requires
+    add-v
+    loop-less
+    loop-again
+    mul-first
+    slice-write-first
+    same-length
+    same-length-2
+    same-length-3
+    same-length-4
+    same-length-5
+    returns)

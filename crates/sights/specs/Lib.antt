@@ -1,0 +1,3 @@
+pub mod Sights
+pub mod Chains
+pub mod Table

@@ -1,0 +1,6 @@
+pub mod Coming
+pub mod Holding
+pub mod Lifting
+pub mod Beginning
+pub mod Joining
+pub mod Starting

@@ -1,0 +1,78 @@
+use mathlib.Core.Path.{_≡_}
+use Prim.Native.Nat.{_+_, _*_}
+use native.Mathlib.Omega.{arith}
+use lib.ListN.{getD}
+use mir.Syntax.{w64}
+use mir.Val.{toZ, ofZ}
+use Rattle.fields.proofs.Readback.{read}
+use Rattle.start.proofs.Coming.{entered, ends-of}
+use borrow.Author.Needs.{needs}
+use Rattle.start.proofs.enter.Statement.{statement}
+use Rattle.start.proofs.enter.Tie as tie
+
+mul-m : tie.Need-mul-m
+mul-m c = search needs
+
+shared-slice-read-m : tie.Need-shared-slice-read-m
+shared-slice-read-m c = search needs
+
+mul-come-in : tie.Need-mul-come-in
+mul-come-in c = search needs
+
+shared-slice-read-come-in : tie.Need-shared-slice-read-come-in
+shared-slice-read-come-in c = search needs
+
+come-in-requires : tie.Need-come-in-requires
+come-in-requires c κs = let s = c .before .before .before .before .before .before .before in let g = s .pre .1 .0 .marks (s .args .k) (s .pre .1 .1 .1 .0) in (s .pre .0, (s .pre .1 .1 .0 .spotted, (g .0, g .1, s .pre .1 .0 .lines (s .args .k) (s .pre .1 .1 .1 .0), omega (arith, s .pre .1 .1 .1 .0, s .pre .1 .1 .1 .1))))
+
+sub-root : tie.Need-sub-root
+sub-root c = let s = c .before .before .before .before .before .before .before .before .before in let g = s .pre .1 .0 .marks (s .args .k) (s .pre .1 .1 .1 .0) in g .0
+
+mul-root : tie.Need-mul-root
+mul-root c = let s = c .before .before .before .before .before .before .before .before .before in let g = s .pre .1 .0 .marks (s .args .k) (s .pre .1 .1 .1 .0) in omega (arith, g .1, s .pre .1 .1 .1 .1)
+
+slice-write-root : tie.Need-slice-write-root
+slice-write-root c = let s = c .before .before .before .before .before .before .before .before .before in let g = s .pre .1 .0 .marks (s .args .k) (s .pre .1 .1 .1 .0) in omega (arith, g .0, g .1, s .pre .1 .1 .0 .spotted .roots)
+
+sub-its-over : tie.Need-sub-its-over
+sub-its-over c = let s = c .before .before .before .before .before .before .before .before .before in let g = s .pre .1 .0 .marks (s .args .k) (s .pre .1 .1 .1 .0) in g .0
+
+mul-its-over : tie.Need-mul-its-over
+mul-its-over c = let s = c .before .before .before .before .before .before .before .before .before in let g = s .pre .1 .0 .marks (s .args .k) (s .pre .1 .1 .1 .0) in omega (arith, g .1, s .pre .1 .1 .1 .1)
+
+slice-set-from-its-over : tie.Need-slice-set-from-its-over
+slice-set-from-its-over c = let s = c .before .before .before .before .before .before .before .before .before in let g = s .pre .1 .0 .marks (s .args .k) (s .pre .1 .1 .1 .0) in omega (arith, g .0, g .1, s .pre .1 .1 .0 .spotted .overs)
+
+same-length : tie.Need-same-length
+same-length c = search needs
+
+same-length-2 : tie.Need-same-length-2
+same-length-2 c = search needs
+
+returns : tie.Need-returns
+returns c =
+    let s = c .before .before .before .before .before .before .before .before .before in
+    let r = c .before .come-in in
+    let e : toZ w64 (ofZ w64 (r .result .over)) ≡ r .result .over = read (r .result .over) ((s .args .k + 1) * 100000000) (r .ensures .size) (omega (arith, s .pre .1 .1 .1 .0, s .pre .1 .1 .1 .1)) in
+    rw e
+    (entered (s .args .lines .now) (s .args .order .now) (s .args .came .now) (s .args .b) (s .args .n) (s .args .k) (s .pre .1 .0) (s .pre .1 .1 .1 .0) (s .args .root .now) (s .args .over .now) (r .result .root) (r .result .over) (s .pre .1 .1 .0)
+    (ends-of (s .args .lines .now) (s .args .b) (s .args .n) (s .pre .0) (getD (s .args .came .now) (s .args .k) 0) (s .pre .1 .0 .lines (s .args .k) (s .pre .1 .1 .1 .0))) (r .ensures))
+
+pub enter-spec : {M : Type 1} → statement M
+enter-spec =
+    tie.close
+    (tie.spec
+    mul-m
+    shared-slice-read-m
+    mul-come-in
+    shared-slice-read-come-in
+    come-in-requires
+    sub-root
+    mul-root
+    slice-write-root
+    sub-its-over
+    mul-its-over
+    slice-set-from-its-over
+    same-length
+    same-length-2
+    returns)

@@ -1,0 +1,85 @@
+use mathlib.Core.Path.{_≡_, _∙_}
+use Prim.Native.Nat.{_-_}
+use native.Mathlib.Omega.{arith}
+use lib.IntN.{natAbs}
+use mir.Syntax.{w64}
+use mir.Val.{toZ, ofZ}
+use Rattle.laws.proofs.Signed.{back}
+use Rattle.laws.proofs.Size.{not-negative}
+use Rattle.book.specs.Held.{markAt, heightAt}
+use Rattle.fields.proofs.Readback.{read}
+use Rattle.start.proofs.Holding.{held-more}
+use borrow.Author.Needs.{needs}
+use Rattle.start.proofs.hold.Statement.{statement}
+use Rattle.start.proofs.hold.Tie as tie
+
+mark-read : (c : tie.After-index) → (let s = c .before .before .before in c .index .result ≡ natAbs (markAt (s .args .held .now) (s .args .i)))
+mark-read c = let s = c .before .before .before in c .index .ensures ∙ rw (back (markAt (s .args .held .now) (s .args .i)) (c .before .index-arg .given))
+
+mul-at : tie.Need-mul-at
+mul-at c = search needs
+
+add-index : tie.Need-add-index
+add-index c = search needs
+
+mul-index : tie.Need-mul-index
+mul-index c = search needs
+
+shared-slice-copy-out-index : tie.Need-shared-slice-copy-out-index
+shared-slice-copy-out-index c = search needs
+
+index-requires : tie.Need-index-requires
+index-requires c κs = let s = c .before .before in rw (back (markAt (s .args .held .now) (s .args .i)) (c .index-arg .given)) (not-negative (s .pre .0 .good .mark))
+
+sub-v : tie.Need-sub-v
+sub-v c = omega (arith, mark-read c, c .before .before .before .pre .0 .good .mark .low)
+
+add-z : tie.Need-add-z
+add-z c = search needs
+
+mul-z : tie.Need-mul-z
+mul-z c = search needs
+
+shared-slice-copy-out-z : tie.Need-shared-slice-copy-out-z
+shared-slice-copy-out-z c = search needs
+
+slice-write-flags : tie.Need-slice-write-flags
+slice-write-flags c = let s = c .before .before .before .before in omega (arith, mark-read (c .before), s .pre .0 .good .mark .low, s .pre .0 .good .mark .high, s .pre .1 .flagged)
+
+mul-z-2 : tie.Need-mul-z-2
+mul-z-2 c = let s = c .before .before .before .before in omega (arith, mark-read (c .before), s .pre .0 .good .mark .high, s .pre .1 .heighted)
+
+slice-set-from-z : tie.Need-slice-set-from-z
+slice-set-from-z c = let s = c .before .before .before .before in omega (arith, mark-read (c .before), s .pre .0 .good .mark .low, s .pre .0 .good .mark .high, s .pre .1 .heighted)
+
+same-length : tie.Need-same-length
+same-length c = search needs
+
+same-length-2 : tie.Need-same-length-2
+same-length-2 c = search needs
+
+returns : tie.Need-returns
+returns c =
+    let s = c .before .before .before .before in
+    held-more (s .args .held .now) (s .args .flags .now) (s .args .own .now) (s .args .b) (s .args .i) (c .before .index .result - 1) (toZ w64 (ofZ w64 (heightAt (s .args .held .now) (s .args .i)))) (s .pre .0) (s .pre .1)
+    (omega (arith, mark-read (c .before), s .pre .0 .good .mark .low)) (read (heightAt (s .args .held .now) (s .args .i)) 10000000000 (s .pre .0 .good .height) (omega arith))
+
+pub hold-spec : {M : Type 1} → statement M
+hold-spec =
+    tie.close
+    (tie.spec
+    mul-at
+    add-index
+    mul-index
+    shared-slice-copy-out-index
+    index-requires
+    sub-v
+    add-z
+    mul-z
+    shared-slice-copy-out-z
+    slice-write-flags
+    mul-z-2
+    slice-set-from-z
+    same-length
+    same-length-2
+    returns)

@@ -1,0 +1,63 @@
+use mathlib.Core.Path.{_≡_, refl, _∙_}
+use Prim.Native.Nat.{_+_, _-_, _≤_}
+use native.Mathlib.Omega.{arith}
+use Rattle.start.specs.Along.{Given, heldFrom}
+use Rattle.start.proofs.Holding.{held-place, held-all}
+use borrow.Author.Needs.{needs}
+use lib.ListN.{length}
+use Rattle.book.specs.Limits.{mostHeldHeight}
+use Rattle.start.proofs.hold_all.Statement.{statement}
+use Rattle.start.proofs.hold_all.Tie as tie
+
+abbrev Inv-loop : tie.InvT-loop
+Inv-loop held flags₀ own₀ b h i₀ flags own i = (i ≤ h) × (length flags ≡ length flags₀) × (length own ≡ length own₀) × Given (heldFrom held i) flags own b mostHeldHeight
+
+abbrev μ-loop : tie.MeasureT-loop
+μ-loop held flags₀ own₀ b h i₀ flags own i = i
+
+loop-holds : tie.Need-loop-holds Inv-loop μ-loop
+loop-holds c = let s = c .before in (search needs, refl, refl, s .pre .1)
+
+sub-i : tie.Need-sub-i Inv-loop μ-loop
+sub-i c = search needs
+
+hold-requires : tie.Need-hold-requires Inv-loop μ-loop
+hold-requires c κs =
+    let s = c .before .before .before .before .before in
+    let l = c .before .before .before .loop in
+    let t = c .before .before .loop-test .taken in
+    let e : l .i - 1 + 1 ≡ l .i = omega arith in
+    (held-place (s .args .held .now) (s .args .b) (s .args .h) (l .i - 1) (s .pre .0) (omega arith), rw e (l .inv .3))
+
+loop-less : tie.Need-loop-less Inv-loop μ-loop
+loop-less c = let t = c .before .before .before .before .before .before .loop-test .taken in omega arith
+
+loop-again : tie.Need-loop-again Inv-loop μ-loop
+loop-again c =
+    let l = c .before .before .before .before .before .before .before .loop in
+    let e = c .before .before .before .hold in
+    (omega (arith, c .before .before .before .before .before .before .loop-test .taken), e .kept .1 .0 ∙ l .inv .1, e .kept .1 .1 .0 ∙ l .inv .2, e .ensures)
+
+same-length : tie.Need-same-length Inv-loop μ-loop
+same-length c = c .before .loop .inv .1
+
+same-length-2 : tie.Need-same-length-2 Inv-loop μ-loop
+same-length-2 c = c .before .loop .inv .2
+
+returns : tie.Need-returns Inv-loop μ-loop
+returns c = let s = c .before .before .before in let l = c .before .loop in held-all (s .args .held .now) (l .flags) (l .own) (s .args .b) (l .i) (c .loop-test .left) (l .inv .3)
+
+pub hold-all-spec : {M : Type 1} → statement M
+hold-all-spec =
+    tie.close
+    (tie.spec
+    Inv-loop
+    μ-loop
+    loop-holds
+    sub-i
+    hold-requires
+    loop-less
+    loop-again
+    same-length
+    same-length-2
+    returns)

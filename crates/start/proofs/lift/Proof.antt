@@ -1,0 +1,87 @@
+use mathlib.Core.Path.{_≡_, _∙_}
+use native.Mathlib.Omega.{arith}
+use lib.ListN.{getD}
+use lib.IntN.{pos}
+use mir.Syntax.{w64}
+use mir.Val.{toZ, ofZ}
+use Rattle.laws.proofs.Signed.{stored}
+use Rattle.fields.proofs.Readback.{read}
+use Rattle.start.proofs.Lifting.{lift-held, lift-free}
+use borrow.Author.Needs.{needs}
+use Rattle.start.proofs.lift.Statement.{statement}
+use Rattle.start.proofs.lift.Tie as tie
+
+own-read : (s : tie.Start) → toZ w64 (ofZ w64 (getD (s .args .own .now) (s .args .v) (pos 0))) ≡ getD (s .args .own .now) (s .args .v) (pos 0)
+own-read s = read (getD (s .args .own .now) (s .args .v) (pos 0)) 10000000000 (s .pre .1 .0 .small (s .args .v)) (omega arith)
+
+over-read : (s : tie.Start) → toZ w64 (ofZ w64 (getD (s .args .over .now) (s .args .v) (pos 0))) ≡ getD (s .args .over .now) (s .args .v) (pos 0)
+over-read s = read (getD (s .args .over .now) (s .args .v) (pos 0)) 25600000000 (omega (arith, s .pre .1 .0 .spotted .size (s .args .v), s .pre .1 .0 .few)) (omega arith)
+
+shared-slice-read-if1 : tie.Need-shared-slice-read-if1
+shared-slice-read-if1 c = search needs
+
+mul-r : tie.Need-mul-r
+mul-r c = search needs
+
+shared-slice-read-r : tie.Need-shared-slice-read-r
+shared-slice-read-r c = search needs
+
+sub-r : tie.Need-sub-r
+sub-r c = let s = c .before .before .before .before .before .before in s .pre .1 .0 .spotted .marks (s .args .v) (s .pre .0) .0
+
+mul-sub : tie.Need-mul-sub
+mul-sub c = search needs
+
+shared-slice-copy-out-sub : tie.Need-shared-slice-copy-out-sub
+shared-slice-copy-out-sub c = search needs
+
+mul-sub-2 : tie.Need-mul-sub-2
+mul-sub-2 c = search needs
+
+shared-slice-copy-out-sub-2 : tie.Need-shared-slice-copy-out-sub-2
+shared-slice-copy-out-sub-2 c = search needs
+
+sub-requires : tie.Need-sub-requires
+sub-requires c κs = let s = c .before .before .before .before .before .before .before .before in rw (own-read s, over-read s) (omega (arith, s .pre .1 .0 .small (s .args .v), s .pre .1 .0 .spotted .size (s .args .v), s .pre .1 .0 .few))
+
+slice-write-has : tie.Need-slice-write-has
+slice-write-has c = let s = c .before .before .before .before .before .before .before .before .before in omega (arith, s .pre .1 .0 .spotted .marks (s .args .v) (s .pre .0) .0, s .pre .1 .0 .spotted .marks (s .args .v) (s .pre .0) .1, s .pre .1 .1 .flagged)
+
+mul-z : tie.Need-mul-z
+mul-z c = let s = c .before .before .before .before .before .before .before .before .before in omega (arith, s .pre .1 .0 .spotted .marks (s .args .v) (s .pre .0) .1, s .pre .1 .0 .few)
+
+slice-set-from-z : tie.Need-slice-set-from-z
+slice-set-from-z c = let s = c .before .before .before .before .before .before .before .before .before in omega (arith, s .pre .1 .0 .spotted .marks (s .args .v) (s .pre .0) .0, s .pre .1 .0 .spotted .marks (s .args .v) (s .pre .0) .1, s .pre .1 .1 .heighted)
+
+same-length : tie.Need-same-length
+same-length c = search needs
+
+same-length-2 : tie.Need-same-length-2
+same-length-2 c = search needs
+
+returns : tie.Need-returns
+returns c = let s = c .before .before .before .before .before .before .before .before .before in lift-held (s .args .flags .now) (s .args .own .now) (s .args .root .now) (s .args .over .now) (s .args .has .now) (s .args .base .now) (s .args .b) (s .args .v) (s .pre .1 .0) (s .pre .0) (s .pre .1 .1) (c .before .before .before .before .if1 .taken) (toZ w64 (ofZ w64 (c .sub .result))) (stored (c .sub .result) (c .sub .ok) (c .sub .ensures ∙ rw (own-read s, over-read s)))
+
+returns-2 : tie.Need-returns-2
+returns-2 c = let s = c .before .before .before .before .before in lift-free (s .args .flags .now) (s .args .own .now) (s .args .root .now) (s .args .over .now) (s .args .has .now) (s .args .base .now) (s .args .b) (s .args .v) (s .pre .1 .0) (s .pre .0) (s .pre .1 .1) (c .if1 .left)
+
+pub lift-spec : {M : Type 1} → statement M
+lift-spec =
+    tie.close
+    (tie.spec
+    shared-slice-read-if1
+    mul-r
+    shared-slice-read-r
+    sub-r
+    mul-sub
+    shared-slice-copy-out-sub
+    mul-sub-2
+    shared-slice-copy-out-sub-2
+    sub-requires
+    slice-write-has
+    mul-z
+    slice-set-from-z
+    same-length
+    same-length-2
+    returns
+    returns-2)

@@ -1,0 +1,60 @@
+use mathlib.Core.Path.{_≡_, refl, _∙_, subst}
+use Prim.Native.Nat.{ℕ, _-_, _≤_}
+use native.Mathlib.Omega.{arith}
+use Rattle.start.specs.Along.{rooting, Placing}
+use borrow.Author.Needs.{needs}
+use lib.ListN.{length}
+use Rattle.start.proofs.place_all.Statement.{statement}
+use Rattle.start.proofs.place_all.Tie as tie
+
+abbrev Inv-loop : tie.InvT-loop
+Inv-loop lines order came root₀ over₀ b n k₀ root over k = (k ≤ b) × (length root ≡ length root₀) × (length over ≡ length over₀) × Placing (rooting lines order came k) root over b k
+
+abbrev μ-loop : tie.MeasureT-loop
+μ-loop lines order came root₀ over₀ b n k₀ root over k = b - k
+
+loop-holds : tie.Need-loop-holds Inv-loop μ-loop
+loop-holds c = let s = c .before .before .before in (search needs, refl, refl, s .pre .1 .1 .0)
+
+enter-requires : tie.Need-enter-requires Inv-loop μ-loop
+enter-requires c κs = let s = c .before .before .before .before .before .before .before in (s .pre .0, (s .pre .1 .0, (c .before .before .before .loop .inv .3, (c .before .before .loop-test .taken, s .pre .1 .1 .1))))
+
+add-k : tie.Need-add-k Inv-loop μ-loop
+add-k c = omega (arith, c .before .before .before .before .before .before .loop-test .taken)
+
+loop-less : tie.Need-loop-less Inv-loop μ-loop
+loop-less c = omega (arith, c .before .before .before .before .before .before .loop-test .taken)
+
+loop-again : tie.Need-loop-again Inv-loop μ-loop
+loop-again c =
+    let l = c .before .before .before .before .before .before .before .loop in
+    let e = c .before .before .before .enter in
+    (omega (arith, c .before .before .before .before .before .before .loop-test .taken), e .kept .1 .1 .1 .0 ∙ l .inv .1, e .kept .1 .1 .1 .1 .0 ∙ l .inv .2, e .ensures)
+
+same-length : tie.Need-same-length Inv-loop μ-loop
+same-length c = c .before .loop .inv .1
+
+same-length-2 : tie.Need-same-length-2 Inv-loop μ-loop
+same-length-2 c = c .before .loop .inv .2
+
+returns : tie.Need-returns Inv-loop μ-loop
+returns c =
+    let s = c .before .before .before .before .before in
+    let l = c .before .loop in
+    let e : l .k ≡ s .args .b = omega (arith, c .loop-test .left) in
+    subst (λ (k : ℕ). Placing (rooting (s .args .lines .now) (s .args .order .now) (s .args .came .now) k) (l .root) (l .over) (s .args .b) k) e (l .inv .3)
+
+pub place-all-spec : {M : Type 1} → statement M
+place-all-spec =
+    tie.close
+    (tie.spec
+    Inv-loop
+    μ-loop
+    loop-holds
+    enter-requires
+    add-k
+    loop-less
+    loop-again
+    same-length
+    same-length-2
+    returns)

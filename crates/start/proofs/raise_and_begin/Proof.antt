@@ -1,0 +1,67 @@
+use mathlib.Core.Path.{_≡_, sym, _∙_}
+use native.Mathlib.Omega.{arith}
+use Rattle.start.proofs.Lifting.{lift-none}
+use Rattle.start.proofs.Starting.{unheld-is, start-is}
+use borrow.Author.Needs.{needs}
+use Rattle.start.proofs.raise_and_begin.Statement.{statement}
+use Rattle.start.proofs.raise_and_begin.Tie as tie
+
+lift-all-requires : tie.Need-lift-all-requires
+lift-all-requires c κs = let s = c .before .before .before .before .before in (s .pre .0, lift-none (s .args .flags .now) (s .args .own .now) (s .args .root .now) (s .args .over .now) (s .args .has .now) (s .args .base .now) (s .args .b) (s .pre .1 .0))
+
+first-unheld-requires : tie.Need-first-unheld-requires
+first-unheld-requires c κs = search needs
+
+same-length : tie.Need-same-length
+same-length c = search needs
+
+same-length-2 : tie.Need-same-length-2
+same-length-2 c = search needs
+
+returns : tie.Need-returns
+returns c =
+    let s = c .before .before .before .before .before .before .before .before .before .before .before .before in
+    let l = c .before .before .before .before .before .before .lift-all in
+    let m = c .before .first-unheld in
+    λ at held p g.
+    (m .ensures ∙ unheld-is (s .args .b) at held (s .args .flags .now) (s .args .own .now) (s .args .root .now) (s .args .over .now) (l .last .1 .1 .1 .1 .0) (l .last .1 .1 .1 .1 .1 .0) p g (l .ensures), λ z. absurd (omega (arith, c .if1 .taken)), s .pre .1 .1)
+
+begin-requires : tie.Need-begin-requires
+begin-requires c κs = search needs
+
+same-length-3 : tie.Need-same-length-3
+same-length-3 c = search needs
+
+same-length-4 : tie.Need-same-length-4
+same-length-4 c = search needs
+
+same-length-5 : tie.Need-same-length-5
+same-length-5 c = search needs
+
+returns-2 : tie.Need-returns-2
+returns-2 c =
+    let s = c .before .before .before .before .before .before .before .before .before .before .before .before .before .before .before .before in
+    let l = c .before .before .before .before .before .before .before .before .before .before .lift-all in
+    let m = c .before .before .before .before .before .first-unheld in
+    let g₀ = c .before .begin .ensures in
+    let e : m .result ≡ 0 = omega (arith, c .before .before .before .before .if1 .left) in
+    λ at held p g. (
+      sym e ∙ m .ensures ∙ unheld-is (s .args .b) at held (s .args .flags .now) (s .args .own .now) (s .args .root .now) (s .args .over .now) (l .last .1 .1 .1 .1 .0) (l .last .1 .1 .1 .1 .1 .0) p g (l .ensures),
+      λ z v h. g₀ .each v h ∙ start-is (s .args .b) at held (s .args .flags .now) (s .args .own .now) (s .args .root .now) (s .args .over .now) (l .last .1 .1 .1 .1 .0) (l .last .1 .1 .1 .1 .1 .0) p g (l .ensures) (sym (m .ensures) ∙ e) v h,
+      g₀ .all,
+    )
+
+pub raise-and-begin-spec : {M : Type 1} → statement M
+raise-and-begin-spec =
+    tie.close
+    (tie.spec
+    lift-all-requires
+    first-unheld-requires
+    same-length
+    same-length-2
+    returns
+    begin-requires
+    same-length-3
+    same-length-4
+    same-length-5
+    returns-2)

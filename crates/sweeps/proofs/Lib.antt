@@ -1,0 +1,7 @@
+pub mod Rounding
+pub mod Moving
+pub mod Keeping
+pub mod Best
+pub mod Sums
+pub mod Turns
+pub mod States

@@ -1,0 +1,74 @@
+-- Sums over the sights in the table: one line more, and their sizes.
+-- Assumes nothing.
+use Prim.Native.Nat.{ℕ, zero, suc, _+_, _-_, _*_, _≤_, _<_}
+use native.Mathlib.Nat.{mul-le-mul}
+use native.Mathlib.Numerals.{add-one}
+use native.Mathlib.Omega.{arith}
+use mathlib.Core.Path.{_≡_, sym, _∙_}
+use mathlib.Core.List.{List}
+use lib.ListN.{getD}
+use lib.IntN.{ℤ, pos, natAbs, _+ℤ_, _-ℤ_, +ℤ-assoc, +ℤ-idr}
+use Rattle.laws.proofs.Size.{size-add, size-sub, size-mul}
+use Rattle.fields.specs.Heights.{Working}
+use Rattle.sights.specs.Sights.{pull}
+use Rattle.sights.specs.Table.{seen, Ends}
+use Rattle.sweeps.specs.Turns.{termAt}
+
+-- fewer places
+pub shorter : {other : List ℕ} {rise : List ℤ} {weight : List ℕ} {b e k : ℕ} → Ends other rise weight b e → k ≤ e → Ends other rise weight b k
+shorter h l = record {
+  others = omega arith;
+  rises = omega arith;
+  weighed = omega arith;
+  otherIn = h .otherIn;
+  riseIn = h .riseIn;
+  weightIn = h .weightIn;
+}
+
+module _ (other : List ℕ) (rise : List ℤ) (weight : List ℕ) (hs : List ℤ) (z : ℤ) where
+  -- the first of the lines left
+  pub pull-first : (j k : ℕ) → pull hs z (seen other rise weight j (suc k)) ≡ termAt other rise weight hs z j +ℤ pull hs z (seen other rise weight (suc j) k)
+  unfolding pull seen termAt
+  pull-first j k =
+      let e : suc (getD other j 0) - 1 ≡ getD other j 0 = omega arith in
+      rw e
+
+  -- one turn of the sum from place a to place e: g is what came so far, t the term at j
+  pub pull-turn : (a e j : ℕ) (g t : ℤ) → j < e → t ≡ termAt other rise weight hs z j
+      → g +ℤ pull hs z (seen other rise weight j (e - j)) ≡ pull hs z (seen other rise weight a (e - a))
+      → (g +ℤ t) +ℤ pull hs z (seen other rise weight (j + 1) (e - (j + 1))) ≡ pull hs z (seen other rise weight a (e - a))
+  pull-turn a e j g t l et inv =
+      let k : e - j ≡ suc (e - suc j) = omega arith in
+      rw (et, +ℤ-assoc, add-one j, ← pull-first j (e - suc j)) (rw k at inv)
+
+  -- none is left
+  pub pull-end : (e j : ℕ) (g s : ℤ) → e ≤ j → g +ℤ pull hs z (seen other rise weight j (e - j)) ≡ s → g ≡ s
+  unfolding seen pull
+  pull-end e j g s l inv =
+      let k : e - j ≡ 0 = omega arith in
+      sym (+ℤ-idr g) ∙ rw k at inv
+
+  module _ (b e : ℕ) (ends : Ends other rise weight b e) (working : Working hs b) (low : natAbs z ≤ 50000000000) where
+    pub term-size : (j : ℕ) → natAbs (termAt other rise weight hs z j) ≤ 10010000000000000
+    unfolding termAt
+    term-size j =
+        let x = getD hs (getD other j 0) (pos 0) in
+        let r = getD rise j (pos 0) in
+        let hx = working .inside (getD other j 0) in
+        let hr = ends .riseIn j in
+        let hw = ends .weightIn j in
+        let a = size-add x r in
+        let s = size-sub (x +ℤ r) z in
+        let d : natAbs (x +ℤ r -ℤ z) ≤ 100100000000 = omega arith in
+        let k : getD weight j 0 * natAbs (x +ℤ r -ℤ z) ≤ 100000 * 100100000000 = mul-le-mul hw d in
+        rw (size-mul (pos (getD weight j 0)) (x +ℤ r -ℤ z)) (omega arith)
+
+    -- g fits 64 bits: at most 512 lines
+    pub pull-size : (j k : ℕ) → natAbs (pull hs z (seen other rise weight j k)) ≤ k * 10010000000000000
+    unfolding pull seen
+    pull-size j zero = omega arith
+    pull-size j (suc k) =
+        let t = term-size j in
+        let p = pull-size (suc j) k in
+        let s = size-add (termAt other rise weight hs z j) (pull hs z (seen other rise weight (suc j) k)) in
+        rw (pull-first j k) (omega arith)

@@ -1,0 +1,32 @@
+use native.Mathlib.Nat.{mod-lt}
+use native.Mathlib.Numerals.{add-one}
+use native.Mathlib.Omega.{arith}
+use borrow.Author.Tests.{lt-ltb, le-ltb}
+use Rattle.sweeps.specs.Nearest.{nearestSize}
+use Rattle.sweeps.proofs.Rounding.{up-fits}
+use borrow.Author.Needs.{needs}
+use Rattle.sweeps.proofs.nearest_size.Statement.{statement}
+use Rattle.sweeps.proofs.nearest_size.Tie as tie
+
+div-q : tie.Need-div-q
+div-q c = search needs
+
+rem-r : tie.Need-rem-r
+rem-r c = search needs
+
+mul-if1 : tie.Need-mul-if1
+mul-if1 c = omega (arith, mod-lt (c .args .a) (c .pre .0))
+
+add-result : tie.Need-add-result
+add-result c = let s = c .before in omega (arith, up-fits (s .args .a) (s .args .d) (s .pre .0) (c .if1 .taken))
+
+returns : tie.Need-returns
+unfolding nearestSize
+returns c = rw (add-one, lt-ltb _ _ (c .if1 .taken))
+
+returns-2 : tie.Need-returns-2
+unfolding nearestSize
+returns-2 c = rw (le-ltb _ _ (c .if1 .left))
+
+pub nearest-size-spec : {M : Type 1} → statement M
+nearest-size-spec = tie.close (tie.spec div-q rem-r mul-if1 add-result returns returns-2)

@@ -1,0 +1,110 @@
+use Rattle.laws.specs.Tests.{eqZ}
+use mathlib.Core.Path.{_≡_, sym, _∙_}
+use Prim.Native.Nat.{suc}
+use native.Mathlib.Omega.{arith}
+use lib.ListN.{getD}
+use lib.IntN.{pos, _+ℤ_}
+use mir.Syntax.{w64}
+use mir.Val.{toZ, ofZ}
+use Rattle.laws.proofs.Signed.{back, stored}
+use Rattle.sights.specs.Table.{rows}
+use Rattle.fields.proofs.Readback.{read}
+use Rattle.sweeps.proofs.Turns.{working-set, visit-outside, visit-still, visit-moved}
+use borrow.Author.Needs.{needs}
+use Rattle.sweeps.proofs.visit.Statement.{statement}
+use Rattle.sweeps.proofs.visit.Tie as tie
+
+height-read : (s : tie.Start) → toZ w64 (ofZ w64 (getD (s .args .h .now) (s .args .v) (pos 0))) ≡ getD (s .args .h .now) (s .args .v) (pos 0)
+height-read s = read (getD (s .args .h .now) (s .args .v) (pos 0)) 50000000000 (s .pre .1 .0 .inside (s .args .v)) (omega arith)
+
+move-read : (c : tie.After-move-of) → toZ w64 (ofZ w64 (c .move-of .result)) ≡ c .move-of .result
+move-read c = back (c .move-of .result) (c .move-of .ok)
+
+abbrev start-of : tie.After-add → tie.Start
+start-of c = c .before .before .before .before .before .before .before .before
+
+sum-read : (c : tie.After-add) → toZ w64 (ofZ w64 (c .add .result)) ≡ getD (start-of c .args .h .now) (start-of c .args .v) (pos 0) +ℤ c .before .before .move-of .result
+sum-read c = stored (c .add .result) (c .add .ok) (c .add .ensures ∙ rw (height-read (start-of c), move-read (c .before .before)))
+
+still-read : (c : tie.After-same) → eqZ (c .before .before .before .before .before .move-of .result) (pos 0) ≡ c .same .result
+still-read c = sym (c .same .ensures ∙ rw (move-read (c .before .before .before .before .before)))
+
+move-of-requires : tie.Need-move-of-requires
+move-of-requires c κs = search needs
+
+mul-add : tie.Need-mul-add
+mul-add c = search needs
+
+slice-copy-out-add : tie.Need-slice-copy-out-add
+slice-copy-out-add c = search needs
+
+add-requires : tie.Need-add-requires
+add-requires c κs =
+    let s = c .before .before .before .before .before .before .before in
+    let h = s .pre .1 .0 .inside (s .args .v) in
+    let m = c .before .move-of .ensures .1 in
+    rw (height-read s, move-read (c .before)) (omega arith)
+
+outside-work-requires : tie.Need-outside-work-requires
+outside-work-requires c κs = search needs
+
+add-t17 : tie.Need-add-t17
+add-t17 c = search needs
+
+same-length : tie.Need-same-length
+same-length c = search needs
+
+returns : tie.Need-returns
+returns c =
+    let a = c .before .before in
+    let s = start-of a in
+    (visit-outside (rows (s .args .first .now) (s .args .other .now) (s .args .rise .now) (s .args .weight .now) (suc (s .args .v))) (s .args .h .now) (s .args .v) (a .before .before .move-of .result) (toZ w64 (ofZ w64 (a .add .result))) (a .before .before .move-of .ensures .0) (sum-read (a)) (sym (c .before .outside-work .ensures) ∙ c .if1 .taken), s .pre .1 .0)
+
+mul-z : tie.Need-mul-z
+mul-z c = search needs
+
+slice-set-from-z : tie.Need-slice-set-from-z
+slice-set-from-z c = search needs
+
+same-requires : tie.Need-same-requires
+same-requires c κs = search needs
+
+same-length-2 : tie.Need-same-length-2
+same-length-2 c = search needs
+
+returns-2 : tie.Need-returns-2
+returns-2 c =
+    let a = c .before .before .before .before in
+    let s = start-of a in
+    let o = sym (c .before .before .before .outside-work .ensures) ∙ c .before .before .if1 .left in
+    (visit-still (rows (s .args .first .now) (s .args .other .now) (s .args .rise .now) (s .args .weight .now) (suc (s .args .v))) (s .args .h .now) (s .args .v) (a .before .before .move-of .result) (toZ w64 (ofZ w64 (a .add .result))) (a .before .before .move-of .ensures .0) (sum-read (a)) o (still-read (c .before) ∙ c .if2 .taken), working-set (s .args .h .now) (s .args .b) (s .args .v) (toZ w64 (ofZ w64 (a .add .result))) (s .pre .1 .0) o)
+
+same-length-3 : tie.Need-same-length-3
+same-length-3 c = search needs
+
+returns-3 : tie.Need-returns-3
+returns-3 c =
+    let a = c .before .before .before .before in
+    let s = start-of a in
+    let o = sym (c .before .before .before .outside-work .ensures) ∙ c .before .before .if1 .left in
+    (visit-moved (rows (s .args .first .now) (s .args .other .now) (s .args .rise .now) (s .args .weight .now) (suc (s .args .v))) (s .args .h .now) (s .args .v) (a .before .before .move-of .result) (toZ w64 (ofZ w64 (a .add .result))) (a .before .before .move-of .ensures .0) (sum-read (a)) o (still-read (c .before) ∙ c .if2 .left), working-set (s .args .h .now) (s .args .b) (s .args .v) (toZ w64 (ofZ w64 (a .add .result))) (s .pre .1 .0) o)
+
+pub visit-spec : {M : Type 1} → statement M
+visit-spec =
+    tie.close
+    (tie.spec
+    move-of-requires
+    mul-add
+    slice-copy-out-add
+    add-requires
+    outside-work-requires
+    add-t17
+    same-length
+    returns
+    mul-z
+    slice-set-from-z
+    same-requires
+    same-length-2
+    returns-2
+    same-length-3
+    returns-3)

@@ -1,0 +1,4 @@
+pub mod Nearest
+pub mod Sweeps
+pub mod Squares
+pub mod Turns

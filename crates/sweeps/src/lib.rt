@@ -1,0 +1,270 @@
+// A visit, a sweep, and the sweeps until nothing moves: document 01, "Adjustment". The lines at each mark stand in a table of arrays.
+ghost use mathlib.Core.Path.{_≡_};
+ghost use mathlib.Core.Bool.{false};
+ghost use Prim.Native.Nat.{suc, _+_, _-_, _*_, _<_, _≤_, _^_};
+ghost use lib.ListN.{length};
+ghost use lib.IntN.{natAbs};
+ghost use Rattle.network.specs.Standing.{standing};
+ghost use Rattle.book.specs.Limits.{mostHeight, mostMarks};
+ghost use Rattle.fields.specs.Heights.{Working};
+ghost use Rattle.fields.specs.Places.{Lines};
+ghost use Rattle.sights.specs.Sights.{sightsOf, pull};
+ghost use Rattle.sights.specs.Table.{seen, rows, Ends, Span, Table};
+ghost use Rattle.sweeps.specs.Nearest.{nearestSize, nearest};
+ghost use Rattle.sweeps.specs.Turns.{termAt, flags, swept, endedAt, joinedTurn, movedTurn, outsideTurn};
+ghost use Rattle.sweeps.specs.Sweeps.{moveOf, visited, visit, sweep, settle};
+use book::height::Height;
+
+// "the 10,000th sweep still moved a mark"
+const MAX_SWEEPS: usize = 10_000;
+
+// How a sweep stands after a mark's turn: nothing has moved, a mark has moved, or the height of this mark is outside its limit.
+pub enum Turn {
+    Still,
+    Moved,
+    Outside(usize),
+}
+
+// How the sweeps end: settled after so many, the height of this mark outside its limit, or the last sweep still moved a mark.
+pub enum End {
+    Settled(usize),
+    Outside(usize),
+    Unsettled,
+}
+
+// g / d to the nearest whole number, halves toward zero.
+pub fn move_by(g: i64, d: usize) -> i64
+    requires { ⌜ (d ≡ 0 → natAbs g ≡ 0) ⌝ ∗ ⌜ d < 2 ^ 62 ⌝ ∗ ⌜ natAbs g < 2 ^ 63 ⌝ }
+    ensures { λ r. ⌜ r ≡ nearest g d ⌝ }
+{
+    let a = signed::magnitude(g);
+    if a <= d / 2 {
+        return 0;
+    }
+    let q = signed::signed_count(nearest_size(a, d));
+    if g < 0 { signed::sub(0, q) } else { q }
+}
+
+// The same of sizes: the one division of the moves. Twice a may not fit, so the remainder decides.
+fn nearest_size(a: usize, d: usize) -> usize
+    requires { ⌜ 0 < d ⌝ ∗ ⌜ d < 2 ^ 62 ⌝ }
+    ensures { λ r. ⌜ r ≡ nearestSize a d ⌝ }
+{
+    let q = a / d;
+    let r = a % d;
+    if d < 2 * r { q + 1 } else { q }
+}
+
+// What the line at place j adds to the g of a mark that stands at z.
+fn term(
+    other: &[usize],
+    rise: &[i64],
+    weight: &[usize],
+    h: &[i64],
+    b: usize,
+    z: i64,
+    j: usize,
+) -> i64
+    requires { ⌜ Ends (now other) (now rise) (now weight) b (j + 1) ⌝ ∗ ⌜ Working (now h) b ⌝ ∗ ⌜ natAbs z ≤ mostHeight ⌝ }
+    ensures { λ r. ⌜ r ≡ termAt (now (other .entry)) (now (rise .entry)) (now (weight .entry)) (now (h .entry)) z j ⌝ }
+{
+    let given = signed::add(h[other[j]], rise[j]);
+    signed::mul(signed::signed_count(weight[j]), signed::sub(given, z))
+}
+
+// g of a mark that stands at z and whose lines are at the places from a to e.
+fn pull_of(
+    other: &[usize],
+    rise: &[i64],
+    weight: &[usize],
+    h: &[i64],
+    b: usize,
+    z: i64,
+    a: usize,
+    e: usize,
+) -> i64
+    requires { ⌜ Ends (now other) (now rise) (now weight) b e ⌝ ∗ ⌜ Working (now h) b ⌝ ∗ ⌜ natAbs z ≤ mostHeight ⌝ ∗ ⌜ Span a e ⌝ }
+    ensures { λ r. ⌜ r ≡ pull (now (h .entry)) z (seen (now (other .entry)) (now (rise .entry)) (now (weight .entry)) a (e - a)) ⌝ }
+{
+    let mut g = 0i64;
+    let mut j = a;
+    while j < e {
+        g = signed::add(g, term(other, rise, weight, h, b, z, j));
+        j += 1;
+    }
+    g
+}
+
+// How far the mark at place v moves.
+fn move_of(
+    first: &[usize],
+    other: &[usize],
+    rise: &[i64],
+    weight: &[usize],
+    total: &[usize],
+    h: &[i64],
+    b: usize,
+    v: usize,
+) -> i64
+    requires { ⌜ Table (now first) (now other) (now rise) (now weight) (now total) b ⌝ ∗ ⌜ Working (now h) b ⌝ ∗ ⌜ v < b ⌝ }
+    ensures { λ r. ⌜ (r ≡ moveOf (rows (now (first .entry)) (now (other .entry)) (now (rise .entry)) (now (weight .entry)) (suc v)) (now (h .entry)) (suc v)) × (natAbs r < 2 ^ 62 + 2 ^ 61) ⌝ }
+{
+    let g = pull_of(other, rise, weight, h, b, h[v], first[v], first[v + 1]);
+    move_by(g, total[v])
+}
+
+// The mark at place v is visited.
+fn visit(
+    first: &[usize],
+    other: &[usize],
+    rise: &[i64],
+    weight: &[usize],
+    total: &[usize],
+    h: &mut [i64],
+    b: usize,
+    v: usize,
+) -> Turn
+    requires { ⌜ Table (now first) (now other) (now rise) (now weight) (now total) b ⌝ ∗ ⌜ Working (now h) b ⌝ ∗ ⌜ v < b ⌝ }
+    ensures { λ r. ⌜ (swept r (now (h .exit)) ≡ visited (rows (now (first .entry)) (now (other .entry)) (now (rise .entry)) (now (weight .entry)) (suc v)) (now (h .entry)) (suc v)) × Working (now (h .exit)) b ⌝ }
+{
+    let d = move_of(first, other, rise, weight, total, h, b, v);
+    let z = signed::add(h[v], d);
+    if Height::outside_work(z) {
+        return Turn::Outside(v + 1);
+    }
+    h[v] = z;
+    if signed::same(d, 0) {
+        Turn::Still
+    } else {
+        Turn::Moved
+    }
+}
+
+// What a visit found, after what the sweep had found before it.
+fn joined(s: Turn, r: Turn) -> Turn
+    ensures { λ t. ⌜ t ≡ joinedTurn s r ⌝ }
+{
+    match s {
+        Turn::Still => r,
+        Turn::Moved => has_moved(r),
+        Turn::Outside(m) => Turn::Outside(m),
+    }
+}
+
+fn has_moved(r: Turn) -> Turn
+    ensures { λ t. ⌜ t ≡ movedTurn r ⌝ }
+{
+    match r {
+        Turn::Still => Turn::Moved,
+        Turn::Moved => Turn::Moved,
+        Turn::Outside(m) => Turn::Outside(m),
+    }
+}
+
+fn is_outside(s: Turn) -> bool
+    ensures { λ t. ⌜ t ≡ outsideTurn s ⌝ }
+{
+    match s {
+        Turn::Still => false,
+        Turn::Moved => false,
+        Turn::Outside(_) => true,
+    }
+}
+
+// The turn of the mark at place v in a sweep that stands at s: a held mark is passed over, and nothing follows a height outside.
+fn take_turn(
+    first: &[usize],
+    other: &[usize],
+    rise: &[i64],
+    weight: &[usize],
+    total: &[usize],
+    held: &[bool],
+    h: &mut [i64],
+    b: usize,
+    v: usize,
+    s: Turn,
+) -> Turn
+    requires { ⌜ Table (now first) (now other) (now rise) (now weight) (now total) b ⌝ ∗ ⌜ Working (now h) b ⌝ ∗ ⌜ v < b ⌝ ∗ ⌜ b ≤ length (now held) ⌝ }
+    ensures { λ r. ⌜ (swept r (now (h .exit)) ≡ visit (flags (now (held .entry)) (suc v)) (rows (now (first .entry)) (now (other .entry)) (now (rise .entry)) (now (weight .entry)) (suc v)) (suc v) (swept s (now (h .entry)))) × Working (now (h .exit)) b ⌝ }
+{
+    if held[v] {
+        return s;
+    }
+    if is_outside(s) {
+        return s;
+    }
+    joined(s, visit(first, other, rise, weight, total, h, b, v))
+}
+
+// A sweep visits the free marks of b marks by number.
+fn sweep(
+    first: &[usize],
+    other: &[usize],
+    rise: &[i64],
+    weight: &[usize],
+    total: &[usize],
+    held: &[bool],
+    h: &mut [i64],
+    b: usize,
+) -> Turn
+    requires { ⌜ Table (now first) (now other) (now rise) (now weight) (now total) b ⌝ ∗ ⌜ Working (now h) b ⌝ ∗ ⌜ b ≤ length (now held) ⌝ }
+    ensures { λ r. ⌜ (swept r (now (h .exit)) ≡ sweep (rows (now (first .entry)) (now (other .entry)) (now (rise .entry)) (now (weight .entry))) (flags (now (held .entry))) (now (h .entry)) b) × Working (now (h .exit)) b ⌝ }
+{
+    let mut s = Turn::Still;
+    let mut v = 0;
+    while v < b {
+        s = take_turn(first, other, rise, weight, total, held, h, b, v, s);
+        v += 1;
+    }
+    s
+}
+
+// Sweeps until one moves nothing, or a height is outside, or the last sweep that is allowed still moved a mark.
+pub fn settle(
+    first: &[usize],
+    other: &[usize],
+    rise: &[i64],
+    weight: &[usize],
+    total: &[usize],
+    held: &[bool],
+    h: &mut [i64],
+    b: usize,
+) -> End
+    requires { ⌜ Table (now first) (now other) (now rise) (now weight) (now total) b ⌝ ∗ ⌜ Working (now h) b ⌝ ∗ ⌜ b ≤ length (now held) ⌝ }
+    ensures { λ r. ⌜ endedAt r (now (h .exit)) ≡ settle (rows (now (first .entry)) (now (other .entry)) (now (rise .entry)) (now (weight .entry))) (flags (now (held .entry))) b (now (h .entry)) ⌝ }
+{
+    let mut n = 0;
+    while n < MAX_SWEEPS {
+        let s = sweep(first, other, rise, weight, total, held, h, b);
+        match s {
+            Turn::Still => return End::Settled(n + 1),
+            Turn::Outside(m) => return End::Outside(m),
+            Turn::Moved => {}
+        }
+        n += 1;
+    }
+    End::Unsettled
+}
+
+// The sweeps over the n lines of a book of b marks, from the heights h on.
+pub fn settle_lines(lines: &[i64], held: &[bool], h: &mut [i64], b: usize, n: usize) -> End
+    requires { ⌜ Lines (now lines) b n ⌝ ∗ ⌜ (0 < b) × (b ≤ mostMarks) ⌝ ∗ ⌜ Working (now h) b ⌝ ∗ ⌜ b ≤ length (now held) ⌝ }
+    ensures { λ r. ⌜ endedAt r (now (h .exit)) ≡ settle (sightsOf (standing (now (lines .entry)))) (flags (now (held .entry))) b (now (h .entry)) ⌝ }
+{
+    let mut first = [0usize; 257];
+    let mut other = [0usize; 1024];
+    let mut rise = [0i64; 1024];
+    let mut weight = [0usize; 1024];
+    let mut total = [0usize; 256];
+    sights::fill_table(
+        lines,
+        &mut first,
+        &mut other,
+        &mut rise,
+        &mut weight,
+        &mut total,
+        b,
+        n,
+    );
+    settle(&first, &other, &rise, &weight, &total, held, h, b)
+}
