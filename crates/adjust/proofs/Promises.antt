@@ -50,6 +50,12 @@ module _ (b n : ℕ) (held lines : List ℤ) (good : Lines lines b n) (sweeps : 
   its-sweeps =
       done-sweeps (unheldPiece (rootedBy (tree b (standing lines))) (heldHeight held) b) (settle (sightsOf (standing lines)) (isHeld held) b (startHeights b held lines)) sweeps hs e
 
+  -- one height to each mark
+  pub as-many : length hs ≡ b
+  as-many =
+      subst (KeptTo (λ gs. (length gs ≡ b) × (squares (standing lines) gs ≤ squares (standing lines) (startHeights b held lines)))) its-sweeps
+      (settled-not-worse b (standing lines) sound (isHeld held) (startHeights b held lines) (start-length b held lines)) .0
+
   -- "the sum is no greater than at the start"
   pub never-worse : squares (standing lines) hs ≤ squares (standing lines) (startHeights b held lines)
   never-worse =

@@ -11,3 +11,4 @@ pub mod CorrectedBook
 pub mod Corrections
 pub mod StillStands
 pub mod ShutOut
+pub mod Heights

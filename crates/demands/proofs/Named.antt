@@ -25,6 +25,8 @@ use Rattle.survey.specs.Survey.{surveyTested, surveyOf}
 use Rattle.lists.specs.Listing.{listingTested, listingOf}
 use Rattle.lists.specs.NotChecked.{notCheckedTested, notCheckedOf}
 use Rattle.survey.specs.Correction.{corrected, otherReport, correctGood, correctTested, rerunOf, withdrawOf}
+use Rattle.rates.specs.Rates.{rateAnswer}
+use Rattle.adjust.specs.Call.{adjustTested, adjustOf}
 use Rattle.demands.specs.Tables.{bookFault}
 use Rattle.demands.specs.Calls.{SameAtEveryCall}
 use Rattle.demands.specs.Corrections.{Stands}
@@ -36,13 +38,15 @@ use Rattle.demands.proofs.BookRules.{test-by-rules}
 
 -- a book that the test refuses gets the same refusal from every call
 pub faulty-book-same-at-every-call : (b t : ℤ) (held lines : List ℤ) (number place : ℕ) → testOf b t held lines ≡ refused number place → SameAtEveryCall b t held lines number place
-unfolding surveyOf surveyTested listingOf listingTested notCheckedOf notCheckedTested withdrawOf rerunOf correctTested differenceOut
+unfolding surveyOf surveyTested listingOf listingTested notCheckedOf notCheckedTested withdrawOf rerunOf correctTested differenceOut adjustOf adjustTested rateAnswer
 faulty-book-same-at-every-call b t held lines number place e = record {
   survey = λ out. rw e;
   listing-of = λ loop out. rw e;
   not-checked = λ out. rw e;
   withdrawal = λ report line. rw e;
   re-run = λ report line difference small. rw (size-inside 99999999 difference small, e);
+  adjustment = λ out. rw e;
+  rate = λ heights line as-many. rw (as-many, eqZ-same b, e);
 }
 
 -- ---- a faulty line

@@ -10,6 +10,9 @@ use Rattle.survey.specs.Survey.{Surveyed, surveyOf}
 use Rattle.lists.specs.Listing.{Listing, listingOf}
 use Rattle.lists.specs.NotChecked.{notCheckedOf}
 use Rattle.survey.specs.Correction.{Corrected, rerunOf, withdrawOf}
+use Rattle.rates.specs.Rates.{rateAnswer}
+use Rattle.rates.specs.declared.RateAnswer.{RateAnswer}
+use Rattle.adjust.specs.Call.{Given, adjustOf}
 
 -- the reader: b, t, h and n, and both buffers
 pub reader-has-one-answer : (file : List ℕ) (held lines : List ℤ) (x y : Outcome) → x ≡ readOf file held lines → y ≡ readOf file held lines → x ≡ y
@@ -41,3 +44,12 @@ rerun-has-one-answer b t held lines report line difference x y e f = e ∙ sym f
 pub withdrawal-has-one-answer : (b t : ℤ) (held lines report : List ℤ) (line : ℤ) (x y : Corrected) → x ≡ withdrawOf b t held lines report line
     → y ≡ withdrawOf b t held lines report line → x ≡ y
 withdrawal-has-one-answer b t held lines report line x y e f = e ∙ sym f
+
+-- the adjustment: answer and heights
+pub adjustment-has-one-answer : (b t : ℤ) (held lines out : List ℤ) (x y : Given) → x ≡ adjustOf b t held lines out → y ≡ adjustOf b t held lines out → x ≡ y
+adjustment-has-one-answer b t held lines out x y e f = e ∙ sym f
+
+-- the correction rate
+pub rate-has-one-answer : (b t : ℤ) (held lines heights : List ℤ) (line : ℤ) (x y : RateAnswer) → x ≡ rateAnswer b t held lines heights line
+    → y ≡ rateAnswer b t held lines heights line → x ≡ y
+rate-has-one-answer b t held lines heights line x y e f = e ∙ sym f

@@ -1,5 +1,4 @@
--- Document 01, "Shut out": programs that the definitions rule out, each by a theorem. (An adjustment that hands back its start, or a sweep number made up: with the
--- adjustment.) Assumes nothing.
+-- Document 01, "Shut out": programs that the definitions rule out, each by a theorem. Assumes nothing.
 use mathlib.Core.Path.{_≡_, refl, sym, _∙_, ap}
 use mathlib.Core.List.{List, [], _∷_, _++_, List·Memᴰ, List·Memᴰ·not-nil}
 use Prim.Native.Nat.{ℕ, _+_, _-_, _≤_, _<_}
@@ -24,6 +23,11 @@ use Rattle.survey.specs.Survey.{surveyed, surveyOf}
 use Rattle.lists.specs.Listing.{listing}
 use Rattle.lists.specs.NotChecked.{notCheckedOf}
 use Rattle.survey.specs.Correction.{corrected, placeOf, rerunOf}
+use Rattle.book.specs.Height.{workHeightOut}
+use Rattle.start.specs.Start.{startHeights}
+use Rattle.adjust.specs.Answers.{answer}
+use Rattle.adjust.specs.Call.{adjusted, adjustOf}
+use Rattle.demands.specs.Heights.{marksHeights}
 use Rattle.demands.specs.TheLoops.{inRow}
 use Rattle.demands.proofs.Done.{survey-done-exactly-if}
 use Rattle.demands.proofs.Corrections.{rerun-sets-one-number}
@@ -95,3 +99,32 @@ pub one-line-is-not-checked : notCheckedOf (pos 2) (pos 1) [] (line (pos 1) (pos
     ≡ listing (record { number = 0; place = 0; entries = 1 }) (pos 1 ∷ [])
 unfolding notCheckedOf outZ outN eqZ firstFrom firstBad anyBelow
 one-line-is-not-checked = refl
+
+-- two lines between a held mark and a free one say 0 and 7: the mark starts at 0, one sweep moves it to 3, half of 7 toward zero, and the second moves nothing
+two-lines-adjusted : adjustOf (pos 2) (pos 1) (pos 1 ∷ pos 0 ∷ []) twoLines (replicate 3 (pos 9)) ≡ adjusted (answer 0 0 2) (pos 0 ∷ pos 3 ∷ pos 9 ∷ [])
+unfolding adjustOf outZ outN eqZ firstFrom firstBad anyBelow workHeightOut
+two-lines-adjusted = refl
+
+two-lines-start : startHeights 2 (pos 1 ∷ pos 0 ∷ []) twoLines ≡ pos 0 ∷ pos 0 ∷ []
+unfolding startHeights
+two-lines-start = refl
+
+-- one mark, held
+one-mark-adjusted : adjustOf (pos 1) (pos 1) (pos 1 ∷ pos 5 ∷ []) noLines (replicate 1 (pos 9)) ≡ adjusted (answer 0 0 1) (pos 5 ∷ [])
+unfolding adjustOf outZ outN eqZ firstFrom firstBad anyBelow workHeightOut
+one-mark-adjusted = refl
+
+-- "an adjustment that hands back its start": not every accepted adjustment is its start
+pub adjustment-is-not-its-start : ((b t : ℤ) (held lines out : List ℤ) → adjustOf b t held lines out .answer .number ≡ 0
+    → marksHeights b (adjustOf b t held lines out) ≡ startHeights (natAbs b) held lines) → ⊥
+adjustment-is-not-its-start h =
+    let e : pos 0 ∷ pos 3 ∷ [] ≡ pos 0 ∷ pos 0 ∷ [] = rw (two-lines-adjusted, two-lines-start) at (h (pos 2) (pos 1) (pos 1 ∷ pos 0 ∷ []) twoLines (replicate 3 (pos 9)) (rw two-lines-adjusted)) in
+    let z : _≡_ {A = ℕ} 3 0 = ap (λ (l : List ℤ). natAbs (getD l 1 (pos 0))) e in
+    omega arith
+
+-- "or a sweep number made up": no one number of sweeps fits every book
+pub no-one-number-of-sweeps : (n : ℕ) → ((b t : ℤ) (held lines out : List ℤ) → adjustOf b t held lines out .answer .number ≡ 0 → adjustOf b t held lines out .answer .sweeps ≡ n) → ⊥
+no-one-number-of-sweeps n h =
+    let one : 1 ≡ n = rw one-mark-adjusted at (h (pos 1) (pos 1) (pos 1 ∷ pos 5 ∷ []) noLines (replicate 1 (pos 9)) (rw one-mark-adjusted)) in
+    let two : 2 ≡ n = rw two-lines-adjusted at (h (pos 2) (pos 1) (pos 1 ∷ pos 0 ∷ []) twoLines (replicate 3 (pos 9)) (rw two-lines-adjusted)) in
+    omega arith

@@ -17,6 +17,9 @@ use Rattle.survey.specs.Survey.{Surveyed, surveyed, surveyOf}
 use Rattle.lists.specs.Listing.{Listing, listing, unlisted, listingOf}
 use Rattle.lists.specs.NotChecked.{uncheckedOf, notCheckedOf}
 use Rattle.survey.specs.Correction.{Corrected, corrected, updated, rerunLines, withdrawLines, rerunOf, withdrawOf}
+use Rattle.rates.specs.Rates.{refusedRate, rateAnswer}
+use Rattle.adjust.specs.Answers.{answer}
+use Rattle.adjust.specs.Call.{adjusted, adjustOf}
 use Rattle.demands.specs.Rules.{Rule, KeepsToTable}
 use Rattle.demands.specs.Tables.{surveyRules, loopListing, listingRules, notCheckedRules, rerunRules, withdrawRules, fileRules}
 
@@ -83,7 +86,7 @@ ReaderKeepsToTable file held lines given =
     (λ n p. answered held lines (read.refusal n p)) (readDone file held lines) given
 
 -- "Each call tests all that it is lent": a faulty book gets the same refusal from every call, and nothing is changed (a re-run is refused with 4
--- already where its new difference is outside the limit)
+-- already where its new difference is outside the limit, and a rate where its heights are not b in number)
 pub record SameAtEveryCall (b t : ℤ) (held lines : List ℤ) (number place : ℕ) : Type 0 where
   pub survey : (out : List ℤ) → surveyOf b t held lines out ≡ surveyed (refusal number place) out
   pub listing-of : (loop : ℤ) (out : List ℤ) → listingOf b t held lines loop out ≡ listing (unlisted number place) out
@@ -91,6 +94,8 @@ pub record SameAtEveryCall (b t : ℤ) (held lines : List ℤ) (number place : �
   pub withdrawal : (report : List ℤ) (line : ℤ) → withdrawOf b t held lines report line ≡ corrected (refusal number place) lines report
   pub re-run : (report : List ℤ) (line difference : ℤ) → natAbs difference ≤ mostDifference
       → rerunOf b t held lines report line difference ≡ corrected (refusal number place) lines report
+  pub adjustment : (out : List ℤ) → adjustOf b t held lines out ≡ adjusted (answer number place 0) out
+  pub rate : (heights : List ℤ) (line : ℤ) → pos (length heights) ≡ b → rateAnswer b t held lines heights line ≡ refusedRate number place
 
 -- a file that is read: it has 13 bytes or more, its stated length, version 1, a good book of the stated counts and nothing more, and there is room for its entries
 pub record Readable (file : List ℕ) (held lines : List ℤ) : Type 0 where

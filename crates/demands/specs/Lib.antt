@@ -4,3 +4,4 @@ pub mod Calls
 pub mod TheLoops
 pub mod Corrections
 pub mod StillStands
+pub mod Heights

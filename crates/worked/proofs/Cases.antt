@@ -2,9 +2,11 @@
 -- Assumes nothing.
 use Prim.Native.Nat.{ℕ}
 use mathlib.Core.Path.{_≡_, refl}
+use mathlib.Core.Bool.{true, cond}
 use mathlib.Core.List.{List, [], _∷_, _++_, map}
 use lib.IntN.{ℤ, pos, negℤ}
 use lib.ListN.{replicate}
+use lib.Ieee.{Float, fin, inf, nan, div, ofInt, round, units, odd, size, climb, span}
 use Rattle.laws.specs.Tests.{outZ, outN, eqZ}
 use Rattle.laws.specs.Scan.{firstFrom, firstBad, anyBelow}
 use Rattle.network.specs.Standing as network
@@ -16,8 +18,12 @@ use Rattle.survey.specs.Survey.{Surveyed, surveyOf}
 use Rattle.lists.specs.Listing.{Listing, listingOf}
 use Rattle.lists.specs.NotChecked.{notCheckedOf}
 use Rattle.survey.specs.Correction.{Corrected, rerunOf, withdrawOf, withdrawLines}
+use Rattle.rates.specs.Rates.{quotient, correctionAt, lineRate, goodRate, firstHigh, refusedRate, rateAnswer}
+use Rattle.rates.specs.declared.Rate.{Rate}
+use Rattle.rates.specs.declared.Rate.the-variants.{PerKm, Withdrawn}
+use Rattle.rates.specs.declared.RateAnswer.{RateAnswer}
+use Rattle.book.specs.Height.{workHeightOut}
 use Rattle.worked.specs.Network.{lines, held}
-use mathlib.Core.Bool.{true}
 
 -- a case: the lists of numbers that it gives, and those that document 01 says
 pub record Case : Type 0 where
@@ -49,6 +55,19 @@ ofCorrection c = (pos (c .answer .number) ∷ pos (c .answer .place) ∷ pos (c 
 abbrev row : ℕ → ℕ → ℕ → ℤ → ℕ → List ℤ
 row closing count length misclosure over = pos closing ∷ pos count ∷ pos length ∷ misclosure ∷ pos over ∷ []
 
+-- a rate as numbers: 0.25 is (1 for below 0, else 0), 1 and -2, that is 1 * 2 ^ -2; a rate that is no number gives nothing
+abbrev ofFloat : Float → List ℤ
+ofFloat (fin below size power) = cond below (pos 1) (pos 0) ∷ pos size ∷ power ∷ []
+ofFloat (inf below) = []
+ofFloat nan = []
+
+abbrev ofRate : Rate → List ℤ
+ofRate (PerKm x) = ofFloat x
+ofRate Withdrawn = []
+
+abbrev ofRateAnswer : RateAnswer → List (List ℤ)
+ofRateAnswer r = (pos (r .number) ∷ pos (r .place) ∷ pos (r .line) ∷ r .correction ∷ []) ∷ ofRate (r .rate) ∷ []
+
 -- the morning's report
 report : List ℤ
 report = row 6 3 4450 (minus 40000) 1 ++ row 4 3 7600 (minus 5000) 0 ++ row 3 4 6750 (pos 65000) 1
@@ -59,7 +78,7 @@ unfolding verdict
 edge m = (verdict 40 (pass (network.line 1 1 2 m 1000) true ∷ []) ∷ []) ∷ []
 
 pub cases : List Case
-unfolding lines held report edge surveyOf listingOf notCheckedOf rerunOf withdrawOf withdrawLines tree treeLines network.standing outZ outN eqZ firstFrom firstBad anyBelow
+unfolding lines held report edge surveyOf listingOf notCheckedOf rerunOf withdrawOf withdrawLines tree treeLines network.standing outZ outN eqZ firstFrom firstBad anyBelow rateAnswer workHeightOut quotient div ofInt round units odd size climb span
 cases =
     -- (a) the three loops
     case (ofSurvey (surveyOf (pos 5) (pos 120) held lines (places 15))) (answer 3 1 ∷ report ∷ [])
@@ -84,7 +103,10 @@ cases =
     -- (f) t = 40, L = 1000: m = 4000 within, -4000 within, 4001 over
     ∷ case (edge (pos 4000)) ((pos 0 ∷ []) ∷ []) ∷ case (edge (minus 4000)) ((pos 0 ∷ []) ∷ []) ∷ case (edge (pos 4001)) ((pos 1 ∷ []) ∷ [])
     -- (g) n = 0: no loop, b pieces
-    ∷ case (ofSurvey (surveyOf (pos 5) (pos 120) held [] [])) (answer 0 5 ∷ [] ∷ []) ∷ []
+    ∷ case (ofSurvey (surveyOf (pos 5) (pos 120) held [] [])) (answer 0 5 ∷ [] ∷ [])
+    -- (h) rate of 500 over 2000 m is 0.25: line 7, between marks 5 at 0 and 4 at its difference and 500 more
+    ∷ case (ofRateAnswer (rateAnswer (pos 5) (pos 120) held lines (pos 0 ∷ pos 0 ∷ pos 0 ∷ pos 4820500 ∷ pos 0 ∷ []) (pos 7)))
+    ((pos 0 ∷ pos 0 ∷ pos 7 ∷ pos 500 ∷ []) ∷ (pos 0 ∷ pos 1 ∷ minus 2 ∷ []) ∷ []) ∷ []
 
 abbrev gives : List Case → List (List (List ℤ))
 gives [] = []

@@ -1,0 +1,223 @@
+-- The adjustment and the correction rate, sentence by sentence: refusals, what is given, and what the settled heights are worth.
+-- Assumes nothing.
+use mathlib.Core.Path.{_≡_, refl, sym, _∙_, ap, subst}
+use mathlib.Core.Logic.{_↔_}
+use mathlib.Core.Bool.{Bool, true, false, not, cond, _||_, true≢false}
+use mathlib.Core.List.{List, [], _∷_, _++_}
+use mathlib.Core.Option.{some}
+use Prim.Native.Nat.{ℕ, zero, suc, _-_, _≤_, _<_}
+use native.Mathlib.Omega.{arith}
+use lib.Dec.{ltb}
+use lib.ListN.{length, take, drop}
+use lib.Seq.{take-at, drop-at}
+use lib.IntN.{ℤ, pos, negsuc, natAbs, _-ℤ_}
+use lib.Ieee.{fin, binary64, ofInt, div}
+use borrow.Author.Tests.{ltb-false, lt-ltb, le-ltb}
+use Rattle.laws.specs.Tests.{outZ, eqZ}
+use Rattle.book.specs.Held.{heldCount}
+use Rattle.book.specs.Line.{fromAt, toAt, differenceAt, lengthAt, standingAt, lineCount}
+use Rattle.book.specs.Test.{counts, testOf}
+use Rattle.book.specs.declared.Book.{Book}
+use Rattle.book.specs.declared.Tested.the-variants.{Good}
+use Rattle.network.specs.Standing.{standing}
+use Rattle.fields.specs.Heights.{height}
+use Rattle.fields.specs.Places.{Lines}
+use Rattle.fields.proofs.Stands.{lines-of}
+use Rattle.fields.proofs.Fair.{fair-lines}
+use Rattle.sights.specs.Sights.{sightsOf}
+use Rattle.sweeps.specs.Sweeps.{Settled, settled, unsettled, sweep}
+use Rattle.sweeps.specs.Squares.{squares, moveMark}
+use Rattle.sweeps.proofs.Keeping.{Kept}
+use Rattle.sweeps.proofs.Best.{fairs-sound, sweep-not-worse}
+use Rattle.start.specs.Start.{heldHeight, isHeld, startHeights}
+use Rattle.rates.specs.Rates.{correctionAt, quotient, refusedRate, lineRate, goodRate, testedRate, rateAnswer, firstHigh}
+use Rattle.rates.specs.declared.Rate.the-variants.{PerKm, Withdrawn}
+use Rattle.rates.specs.declared.RateAnswer.{RateAnswer}
+use Rattle.adjust.specs.Adjusted.{done, unlessUnheld, ended, adjustment}
+use Rattle.adjust.specs.Answers.{answer}
+use Rattle.adjust.specs.Call.{Given, adjusted, givenBy, adjustTested, adjustOf}
+use Rattle.adjust.proofs.Promises.{as-many, never-worse, best-at-every-mark, held-marks-keep}
+use Rattle.demands.specs.Rules.{Rule}
+use Rattle.demands.specs.Tables.{bookFault}
+use Rattle.demands.specs.Heights.{sweepsOf, unheldMark, stillMoves, wentOutside, outsideMark, countOf, heightsOf, sweepRules, adjustRules, adjustDone, AdjustmentKeepsToTable, marksHeights, heightRules, rateRules, rateDone, RateKeepsToTable}
+use Rattle.demands.proofs.Rules.{byRules, cond-or, keeps-to-table}
+use Rattle.demands.proofs.BookRules.{None, none-in, none-and, first-of, rest-of, by-the-test, passes-if, passes-only-if}
+
+-- ---- refusals
+
+-- a test the other way round
+cond-not : {A : Type 0} (t : Bool) (x y : A) → cond t x y ≡ cond (not t) y x
+cond-not true x y = refl
+cond-not false x y = refl
+
+-- a line that there is has an answer with the number and the place 0
+line-number : (heights lines : List ℤ) (line i : ℕ) → (lineRate heights lines line i .number ≡ 0) × (lineRate heights lines line i .place ≡ 0)
+unfolding lineRate
+line-number heights lines line i = go (eqZ (standingAt lines i) (pos 0))
+  where
+    x : RateAnswer
+    x = record { number = 0; place = 0; line = line; correction = pos 0; rate = Withdrawn }
+
+    y : RateAnswer
+    y = record { number = 0; place = 0; line = line; correction = correctionAt heights lines i; rate = PerKm (quotient (correctionAt heights lines i) (lengthAt lines i)) }
+
+    go : (t : Bool) → (cond t x y .number ≡ 0) × (cond t x y .place ≡ 0)
+    go true = (refl, refl)
+    go false = (refl, refl)
+
+module _ (b t : ℤ) (held lines : List ℤ) where
+  -- the adjustment keeps to its table: 4, 6, 7, 10, 11, then 12 or 13
+  pub adjustment-keeps-to-table : (out : List ℤ) → AdjustmentKeepsToTable b t held lines out (adjustOf b t held lines out)
+  unfolding adjustOf adjustRules sweepsOf unheldMark byRules
+  adjustment-keeps-to-table out =
+      keeps-to-table (λ n p. refl) (λ n p. refl) refl refl refl
+      (by-the-test b t held lines (adjustTested held lines out) (sweepRules b held lines out) (λ n p. adjusted (answer n p 0) out) (adjustDone (sweepsOf (natAbs b) held lines) out) (λ r. refl)
+      (go (ltb (length out) (natAbs b)) (unheldMark (natAbs b) held lines) (sweepsOf (natAbs b) held lines)))
+    where
+      go : (x : Bool) (u : ℕ) (s : Settled) → cond x (adjusted (answer 10 0 0) out) (givenBy out (unlessUnheld u (λ _. ended s)))
+          ≡ cond x (adjusted (answer 10 0 0) out) (cond (ltb 0 u) (adjusted (answer 11 u 0) out) (cond (stillMoves s) (adjusted (answer 12 0 0) out)
+          (cond (wentOutside s) (adjusted (answer 13 (outsideMark s) 0) out) (adjustDone s out))))
+      go true u s = refl
+      go false zero (settled n hs) = refl
+      go false zero (Settled.outside m) = refl
+      go false zero unsettled = refl
+      go false (suc u) s = rw (lt-ltb 0 (suc u) (omega arith))
+
+  -- the rate keeps to its table: 4, 6, 7, 8, 13
+  pub rate-keeps-to-table : (heights : List ℤ) (line : ℤ) → RateKeepsToTable b t held lines heights line (rateAnswer b t held lines heights line)
+  unfolding rateAnswer rateRules refusedRate goodRate byRules
+  rate-keeps-to-table heights line =
+      keeps-to-table (λ n p. refl) (λ n p. refl) (line-number heights lines (natAbs line) (natAbs line - 1) .0) (line-number heights lines (natAbs line) (natAbs line - 1) .1) refl
+      (cond-not (eqZ (pos (length heights)) b) (testedRate heights lines line (testOf b t held lines)) (refusedRate 4 0)
+      ∙ ap (cond (not (eqZ (pos (length heights)) b)) (refusedRate 4 0))
+      (by-the-test b t held lines (testedRate heights lines line) (heightRules lines heights line) refusedRate (rateDone lines heights line) (λ r. refl) refl)
+      ∙ cond-or (not (eqZ (pos (length heights)) b)) (bookFault b t held lines) (refusedRate 4 0) _)
+
+  -- a refused adjustment: no sweeps, and the heights as they were
+  pub refused-adjustment-changes-nothing : (out : List ℤ) → let g = adjustOf b t held lines out in (g .answer .number ≡ 0 → ⊥) → (g .answer .sweeps ≡ 0) × (g .heights ≡ out)
+  refused-adjustment-changes-nothing out h = let e = adjustment-keeps-to-table out .refused h in
+      (ap (λ (g : Given). g .answer .sweeps) e, ap (λ (g : Given). g .heights) e)
+
+  -- "Of a refused call, line, correction and rate are 0"
+  pub refused-rate-is-zero : (heights : List ℤ) (line : ℤ) → let r = rateAnswer b t held lines heights line in (r .number ≡ 0 → ⊥)
+      → (r .line ≡ 0) × (r .correction ≡ pos 0) × (r .rate ≡ PerKm (fin false 0 (pos 0)))
+  unfolding refusedRate
+  refused-rate-is-zero heights line h = let e = rate-keeps-to-table heights line .refused h in
+      (ap (λ (r : RateAnswer). r .line) e, ap (λ (r : RateAnswer). r .correction) e, ap (λ (r : RateAnswer). r .rate) e)
+
+  -- ---- the rate of a call that is done
+
+  module _ (heights : List ℤ) (line : ℤ) (given : rateAnswer b t held lines heights line .number ≡ 0) where
+    abbrev at : ℕ
+    at = natAbs line - 1
+
+    -- of a standing line: "adjusted minus observed difference", and the one rounded quotient of two whole numbers
+    pub rate-is-one-quotient : standingAt lines at ≡ pos 1 → let c = height heights (natAbs (toAt lines at)) -ℤ height heights (natAbs (fromAt lines at)) -ℤ differenceAt lines at in
+        rateAnswer b t held lines heights line
+        ≡ record { number = 0; place = 0; line = natAbs line; correction = c; rate = PerKm (div binary64 (ofInt binary64 c) (ofInt binary64 (lengthAt lines at))) }
+    unfolding lineRate correctionAt quotient eqZ
+    rate-is-one-quotient stands = rate-keeps-to-table heights line .finished given ∙ rw stands
+
+    -- "or that the line is withdrawn"; its correction is 0
+    pub withdrawn-line-has-no-rate : standingAt lines at ≡ pos 0
+        → rateAnswer b t held lines heights line ≡ record { number = 0; place = 0; line = natAbs line; correction = pos 0; rate = Withdrawn }
+    unfolding lineRate eqZ
+    withdrawn-line-has-no-rate stands = rate-keeps-to-table heights line .finished given ∙ rw stands
+
+  -- ---- the adjustment, when it is done
+
+  no-mark : (u : ℕ) → ltb 0 u ≡ false → u ≡ 0
+  no-mark u h = let l : u ≤ 0 = ltb-false 0 u h in omega arith
+
+  -- sweeps that neither went outside nor still move a mark have settled
+  have-settled : (s : Settled) → stillMoves s ≡ false → wentOutside s ≡ false → s ≡ settled (countOf s) (heightsOf s)
+  have-settled (settled n hs) x y = refl
+  have-settled (Settled.outside m) x y = absurd (true≢false y)
+  have-settled unsettled x y = absurd (true≢false x)
+
+  -- an adjustment is done exactly if the book passes the test, there is room for its heights, each piece has a held mark, and the sweeps settle
+  pub adjustment-done-exactly-if : (out : List ℤ) → (adjustOf b t held lines out .answer .number ≡ 0)
+      ↔ ((k : Book) × (testOf b t held lines ≡ Good k) × (natAbs b ≤ length out) × (unheldMark (natAbs b) held lines ≡ 0) × (n : ℕ) × (hs : List ℤ) × (sweepsOf (natAbs b) held lines ≡ settled n hs))
+  unfolding adjustRules
+  adjustment-done-exactly-if out =
+      let w = adjustment-keeps-to-table out .table .done-exactly-if in (
+        λ z.
+            let h = w .0 z in
+            let own = rest-of (rest-of (rest-of h)) in
+            let ends = rest-of (rest-of own) in (
+              _,
+              passes-if b t held lines h,
+              ltb-false (length out) (natAbs b) (first-of own),
+              no-mark (unheldMark (natAbs b) held lines) (first-of (rest-of own)),
+              _,
+              _,
+              have-settled (sweepsOf (natAbs b) held lines) (first-of ends) (first-of (rest-of ends)),
+            ),
+        λ p. w .1 (passes-only-if b t held lines (p .0) (p .1) (none-and (le-ltb (length out) (natAbs b) (p .2)) (none-and (ap (ltb 0) (p .3)) (none-and (ap stillMoves (p .6)) (none-and (ap wentOutside (p .6)) none-in))))),
+      )
+
+  module _ (out : List ℤ) (is-done : adjustOf b t held lines out .answer .number ≡ 0) where
+    abbrev given : Given
+    given = adjustOf b t held lines out
+
+    passes : testOf b t held lines ≡ Good (counts b t (heldCount held) (lineCount lines))
+    unfolding adjustRules
+    passes = passes-if b t held lines (adjustment-keeps-to-table out .table .done-exactly-if .0 is-done)
+
+    good : Lines lines (natAbs b) (lineCount lines)
+    good = lines-of b t held lines (counts b t (heldCount held) (lineCount lines)) passes
+
+    sweeps-are : sweepsOf (natAbs b) held lines ≡ settled (countOf (sweepsOf (natAbs b) held lines)) (heightsOf (sweepsOf (natAbs b) held lines))
+    unfolding adjustRules
+    sweeps-are =
+        let ends = rest-of (rest-of (rest-of (rest-of (rest-of (adjustment-keeps-to-table out .table .done-exactly-if .0 is-done))))) in
+        have-settled (sweepsOf (natAbs b) held lines) (first-of ends) (first-of (rest-of ends))
+
+    outcome : adjustment (natAbs b) held lines ≡ done (countOf (sweepsOf (natAbs b) held lines)) (heightsOf (sweepsOf (natAbs b) held lines))
+    unfolding adjustment sweepsOf unheldMark
+    outcome = rw (adjustment-done-exactly-if out .0 is-done .3) (ap ended sweeps-are)
+
+    long : length (heightsOf (sweepsOf (natAbs b) held lines)) ≡ natAbs b
+    long = as-many (natAbs b) (lineCount lines) held lines good _ _ outcome
+
+    finished : given ≡ adjustDone (sweepsOf (natAbs b) held lines) out
+    finished = adjustment-keeps-to-table out .finished is-done
+
+    heights-are : marksHeights b given ≡ heightsOf (sweepsOf (natAbs b) held lines)
+    heights-are = ap (λ (g : Given). take (natAbs b) (g .heights)) finished
+        ∙ take-at (heightsOf (sweepsOf (natAbs b) held lines)) (drop (length (heightsOf (sweepsOf (natAbs b) held lines))) out) (natAbs b) long
+
+    -- "Adjusted heights are those of document 01's sweeps", and so is their number
+    pub heights-are-of-the-sweeps : sweepsOf (natAbs b) held lines ≡ settled (given .answer .sweeps) (marksHeights b given)
+    heights-are-of-the-sweeps =
+        sweeps-are ∙ ap (λ (n : ℕ). settled n (heightsOf (sweepsOf (natAbs b) held lines))) (sym (ap (λ (g : Given). g .answer .sweeps) finished))
+        ∙ ap (settled (given .answer .sweeps)) (sym heights-are)
+
+    -- one height to each mark, and "Output places past the answer stay unchanged"
+    pub places-past-the-heights-stay : drop (natAbs b) (given .heights) ≡ drop (natAbs b) out
+    places-past-the-heights-stay =
+        ap (λ (g : Given). drop (natAbs b) (g .heights)) finished
+        ∙ drop-at (heightsOf (sweepsOf (natAbs b) held lines)) (drop (length (heightsOf (sweepsOf (natAbs b) held lines))) out) (natAbs b) long ∙ ap (λ (n : ℕ). drop n out) long
+
+    its-outcome : adjustment (natAbs b) held lines ≡ done (countOf (sweepsOf (natAbs b) held lines)) (marksHeights b given)
+    its-outcome = outcome ∙ ap (done (countOf (sweepsOf (natAbs b) held lines))) (sym heights-are)
+
+    -- held marks keep their heights
+    pub held-marks-keep-their-heights : (m : ℕ) (z : ℤ) → 0 < m → m ≤ natAbs b → heldHeight held m ≡ some z → height (marksHeights b given) m ≡ z
+    held-marks-keep-their-heights = held-marks-keep (natAbs b) (lineCount lines) held lines good _ (marksHeights b given) its-outcome
+
+    -- "Then no free mark can be moved by one micrometre, either way, so that the weighted sum of squared residuals falls"
+    pub settled-is-best-at-every-mark : (m : ℕ) → 0 < m → m ≤ natAbs b → isHeld held m ≡ false → let hs = marksHeights b given in
+        (squares (standing lines) hs ≤ squares (standing lines) (moveMark hs m (pos 1))) × (squares (standing lines) hs ≤ squares (standing lines) (moveMark hs m (negsuc 0)))
+    settled-is-best-at-every-mark = best-at-every-mark (natAbs b) (lineCount lines) held lines good _ (marksHeights b given) its-outcome
+
+    -- "and the sum is no greater than at the start"
+    pub never-worse-than-the-start : squares (standing lines) (marksHeights b given) ≤ squares (standing lines) (startHeights (natAbs b) held lines)
+    never-worse-than-the-start = never-worse (natAbs b) (lineCount lines) held lines good _ (marksHeights b given) its-outcome
+
+  -- no sweep raises it, from whatever heights it begins
+  pub no-sweep-raises-the-sum : (k : Book) → testOf b t held lines ≡ Good k → (hs : List ℤ) → length hs ≡ k .marks
+      → Kept (λ gs. (length gs ≡ k .marks) × (squares (standing lines) gs ≤ squares (standing lines) hs)) (sweep (sightsOf (standing lines)) (isHeld held) hs (k .marks))
+  no-sweep-raises-the-sum k e hs l =
+      let g = lines-of b t held lines k e in
+      sweep-not-worse (k .marks) (standing lines) (fairs-sound (fair-lines lines (k .marks) (k .lines) g)) (isHeld held) hs l

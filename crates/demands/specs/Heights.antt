@@ -1,0 +1,107 @@
+-- The adjustment and the correction rate: their tables of refusals, and what they give when done.
+-- Assumes nothing.
+use mathlib.Core.Bool.{Bool, true, false, not, _||_}
+use mathlib.Core.Path.{_≡_}
+use mathlib.Core.List.{List, [], _∷_, _++_}
+use Prim.Native.Nat.{ℕ, _-_}
+use lib.Dec.{ltb}
+use lib.ListN.{length, take, drop}
+use lib.IntN.{ℤ, pos, natAbs}
+use Rattle.laws.specs.Tests.{outZ, eqZ}
+use Rattle.book.specs.Line.{lineCount}
+use Rattle.network.specs.Standing.{standing}
+use Rattle.network.specs.Tree.{tree}
+use Rattle.sights.specs.Sights.{sightsOf}
+use Rattle.sweeps.specs.Sweeps.{Settled, settled, unsettled, settle}
+use Rattle.start.specs.Start.{heldHeight, isHeld, rootedBy, unheldPiece, startHeights}
+use Rattle.rates.specs.Rates.{refusedRate, lineRate, firstHigh}
+use Rattle.rates.specs.declared.RateAnswer.{RateAnswer}
+use Rattle.adjust.specs.Answers.{answer}
+use Rattle.adjust.specs.Call.{Given, adjusted}
+use Rattle.demands.specs.Rules.{Rule, rule, KeepsToTable}
+use Rattle.demands.specs.Tables.{bookFault, heldRule, lineRule, bookRules}
+
+-- ---- the adjustment
+
+-- the sweeps over a book of b marks, from its start on
+unfoldable pub sweepsOf : ℕ → List ℤ → List ℤ → Settled
+unfolding settle startHeights
+sweepsOf b held lines = settle (sightsOf (standing lines)) (isHeld held) b (startHeights b held lines)
+
+-- 11: the lowest mark of a piece without a held mark, or 0
+unfoldable pub unheldMark : ℕ → List ℤ → List ℤ → ℕ
+unfolding unheldPiece
+unheldMark b held lines = unheldPiece (rootedBy (tree b (standing lines))) (heldHeight held) b
+
+-- 12: "the 10,000th sweep still moved a mark"
+abbrev pub stillMoves : Settled → Bool
+stillMoves (settled n hs) = false
+stillMoves (Settled.outside m) = false
+stillMoves unsettled = true
+
+-- 13: "a height in work .. outside its limit", "the mark"
+abbrev pub wentOutside : Settled → Bool
+wentOutside (settled n hs) = false
+wentOutside (Settled.outside m) = true
+wentOutside unsettled = false
+
+abbrev pub outsideMark : Settled → ℕ
+outsideMark (settled n hs) = 0
+outsideMark (Settled.outside m) = m
+outsideMark unsettled = 0
+
+-- how many sweeps, and the heights that they settle at
+abbrev pub countOf : Settled → ℕ
+countOf (settled n hs) = n
+countOf (Settled.outside m) = 0
+countOf unsettled = 0
+
+abbrev pub heightsOf : Settled → List ℤ
+heightsOf (settled n hs) = hs
+heightsOf (Settled.outside m) = []
+heightsOf unsettled = []
+
+-- 10, 11, then 12 or 13: the sweeps end in one way, and so "by whichever comes first"
+abbrev pub sweepRules : ℤ → List ℤ → List ℤ → List ℤ → List Rule
+sweepRules b held lines out =
+    rule 10 (ltb (length out) (natAbs b)) 0
+    ∷ rule 11 (ltb 0 (unheldMark (natAbs b) held lines)) (unheldMark (natAbs b) held lines)
+    ∷ rule 12 (stillMoves (sweepsOf (natAbs b) held lines)) 0
+    ∷ rule 13 (wentOutside (sweepsOf (natAbs b) held lines)) (outsideMark (sweepsOf (natAbs b) held lines)) ∷ []
+
+unfoldable pub adjustRules : ℤ → ℤ → List ℤ → List ℤ → List ℤ → List Rule
+unfolding sweepsOf unheldMark
+adjustRules b t held lines out = bookRules b t held lines (sweepRules b held lines out)
+
+-- the settled heights in the first places of the output
+abbrev pub adjustDone : Settled → List ℤ → Given
+adjustDone s out = adjusted (answer 0 0 (countOf s)) (heightsOf s ++ drop (length (heightsOf s)) out)
+
+abbrev pub AdjustmentKeepsToTable : ℤ → ℤ → List ℤ → List ℤ → List ℤ → Given → Type 0
+AdjustmentKeepsToTable b t held lines out given =
+    KeepsToTable (λ (g : Given). g .answer .number) (λ (g : Given). g .answer .place) (adjustRules b t held lines out)
+    (λ n p. adjusted (answer n p 0) out) (adjustDone (sweepsOf (natAbs b) held lines) out) given
+
+-- the heights of the marks, as an adjustment left them
+abbrev pub marksHeights : ℤ → Given → List ℤ
+marksHeights b given = take (natAbs b) (given .heights)
+
+-- ---- the correction rate
+
+-- 8: "no such line"; 13: "a height .. lent, outside its limit", "of lent ones the lowest"
+abbrev pub heightRules : List ℤ → List ℤ → ℤ → List Rule
+heightRules lines heights line = rule 8 (outZ (pos 1) (pos (lineCount lines)) line) 0 ∷ rule 13 (ltb 0 (firstHigh heights)) (firstHigh heights) ∷ []
+
+-- 4 is also "heights lent to be read not b in number"
+unfoldable pub rateRules : ℤ → ℤ → List ℤ → List ℤ → List ℤ → ℤ → List Rule
+unfolding eqZ bookFault outZ firstHigh
+rateRules b t held lines heights line =
+    rule 4 (not (eqZ (pos (length heights)) b) || bookFault b t held lines) 0 ∷ heldRule b held ∷ lineRule b lines ∷ heightRules lines heights line
+
+-- the answer of a line
+abbrev pub rateDone : List ℤ → List ℤ → ℤ → RateAnswer
+rateDone lines heights line = lineRate heights lines (natAbs line) (natAbs line - 1)
+
+abbrev pub RateKeepsToTable : ℤ → ℤ → List ℤ → List ℤ → List ℤ → ℤ → RateAnswer → Type 0
+RateKeepsToTable b t held lines heights line given =
+    KeepsToTable (λ (r : RateAnswer). r .number) (λ (r : RateAnswer). r .place) (rateRules b t held lines heights line) refusedRate (rateDone lines heights line) given
