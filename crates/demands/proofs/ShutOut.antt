@@ -24,7 +24,9 @@ use Rattle.lists.specs.Listing.{listing}
 use Rattle.lists.specs.NotChecked.{notCheckedOf}
 use Rattle.survey.specs.Correction.{corrected, placeOf, rerunOf}
 use Rattle.book.specs.Height.{workHeightOut}
-use Rattle.start.specs.Start.{startHeights}
+use Rattle.network.specs.Tree.{tree}
+use Rattle.sights.specs.Sights.{sightsOf}
+use Rattle.start.specs.Start.{heldHeight, isHeld, rootedBy, startHeights}
 use Rattle.adjust.specs.Answers.{answer}
 use Rattle.adjust.specs.Call.{adjusted, adjustOf}
 use Rattle.demands.specs.Heights.{marksHeights}
@@ -102,16 +104,16 @@ one-line-is-not-checked = refl
 
 -- two lines between a held mark and a free one say 0 and 7: the mark starts at 0, one sweep moves it to 3, half of 7 toward zero, and the second moves nothing
 two-lines-adjusted : adjustOf (pos 2) (pos 1) (pos 1 ∷ pos 0 ∷ []) twoLines (replicate 3 (pos 9)) ≡ adjusted (answer 0 0 2) (pos 0 ∷ pos 3 ∷ pos 9 ∷ [])
-unfolding adjustOf outZ outN eqZ firstFrom firstBad anyBelow workHeightOut
+unfolding adjustOf outZ outN eqZ firstFrom firstBad anyBelow workHeightOut tree standing rootedBy heldHeight isHeld sightsOf
 two-lines-adjusted = refl
 
 two-lines-start : startHeights 2 (pos 1 ∷ pos 0 ∷ []) twoLines ≡ pos 0 ∷ pos 0 ∷ []
-unfolding startHeights
+unfolding startHeights tree standing rootedBy heldHeight
 two-lines-start = refl
 
 -- one mark, held
 one-mark-adjusted : adjustOf (pos 1) (pos 1) (pos 1 ∷ pos 5 ∷ []) noLines (replicate 1 (pos 9)) ≡ adjusted (answer 0 0 1) (pos 5 ∷ [])
-unfolding adjustOf outZ outN eqZ firstFrom firstBad anyBelow workHeightOut
+unfolding adjustOf outZ outN eqZ firstFrom firstBad anyBelow workHeightOut tree standing rootedBy heldHeight isHeld sightsOf
 one-mark-adjusted = refl
 
 -- "an adjustment that hands back its start": not every accepted adjustment is its start
