@@ -9,8 +9,9 @@ use Rattle.laws.specs.Scan.{firstFrom, firstBad}
 use Rattle.book.specs.Height.{workHeightOut}
 use Rattle.network.specs.Standing.{keep, standingFrom, standing}
 use Rattle.network.specs.Tree.{distance, score, far, lowest, firstOut, step, grow, upTo, marks, tree}
-use Rattle.sights.specs.Sights.{weightOf, sightsOf, weights, pull}
-use Rattle.sweeps.specs.Nearest.{nearestSize, nearest}
+use Rattle.divisions.specs.Weight.{weightOf}
+use Rattle.sights.specs.Sights.{sightsOf, weights, pull}
+use Rattle.divisions.specs.Nearest.{nearestSize, nearest}
 use Rattle.sweeps.specs.Sweeps.{moved, moveOf, visited, sweep, settleFrom, settle}
 use Rattle.start.specs.Start.{heldHeight, isHeld, rootedBy, rootHeight, unheldPiece, startOf, heightsFrom, start, startHeights}
 use Rattle.adjust.specs.Adjusted.{done, refused, adjustment}

@@ -10,7 +10,8 @@ use lib.IntN.{ℤ, pos, natAbs, negℤ}
 use Rattle.book.specs.Limits.{mostDifference}
 use Rattle.book.specs.Line.{fromAt, toAt, differenceAt, lengthAt}
 use Rattle.fields.specs.Places.{Place}
-use Rattle.sights.specs.Sights.{sight, weightOf, mostWeight}
+use Rattle.divisions.specs.Weight.{weightOf, mostWeight}
+use Rattle.sights.specs.Sights.{sight}
 use Rattle.sights.specs.Table.{InRange}
 use Rattle.sights.specs.Chains.{sideOf, sightAt}
 use Rattle.fields.proofs.Setting.{set-all}

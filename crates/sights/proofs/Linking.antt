@@ -13,7 +13,8 @@ use Rattle.laws.specs.Tests.{eqZ}
 use Rattle.book.specs.Line.{fromAt, toAt, differenceAt, lengthAt, standingAt}
 use Rattle.network.specs.Standing.{line, standingFrom, standing}
 use Rattle.fields.specs.Places.{standsFrom, Place, Lines}
-use Rattle.sights.specs.Sights.{sight, weightOf, sightsOf}
+use Rattle.divisions.specs.Weight.{weightOf}
+use Rattle.sights.specs.Sights.{sight, sightsOf}
 use Rattle.sights.specs.Chains.{sightAt, chained, chain, Nodes, Heads, Pushed, Linked, Room, Empty}
 use Rattle.sights.proofs.Chained.{nodes-more, heads-more, pushed}
 use Rattle.fields.proofs.Stands.{lineHere, stands-not, stands-here}

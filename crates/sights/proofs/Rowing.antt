@@ -10,7 +10,8 @@ use mathlib.Core.List.{List}
 use lib.ListN.{length, getD, set}
 use lib.Seq.{getD-set-same, getD-set-other}
 use lib.IntN.{ℤ}
-use Rattle.sights.specs.Sights.{Sight, weights, mostWeight}
+use Rattle.divisions.specs.Weight.{mostWeight}
+use Rattle.sights.specs.Sights.{Sight, weights}
 use Rattle.sights.specs.Table.{seen, rows, InRange, Upto, Filled, weighed, taken, Rowed, Broad, Table, Weighable}
 
 -- the weights of the sights from place a on

@@ -8,7 +8,8 @@ use lib.ListN.{length, getD, set}
 use lib.IntN.{ℤ, natAbs, negℤ}
 use Rattle.book.specs.Line.{fromAt, toAt, differenceAt, lengthAt}
 use Rattle.network.specs.Standing.{Line}
-use Rattle.sights.specs.Sights.{Sight, sight, weightOf, sightsOf}
+use Rattle.divisions.specs.Weight.{weightOf}
+use Rattle.sights.specs.Sights.{Sight, sight, sightsOf}
 
 abbrev pub sideOf : ℕ → Sight → Sight → Sight
 sideOf zero to from = to

@@ -1,21 +1,13 @@
--- Document 01, "Adjustment": weights, and what the lines at a mark say of its height.
--- Heights are a list of whole micrometres, mark m at place m - 1.
+-- Document 01, "Adjustment": what the lines at a mark say of its height.
 -- Assumes nothing.
-use Prim.Native.Nat.{ℕ, _+_, _/_}
+use Prim.Native.Nat.{ℕ, _+_}
 use mathlib.Core.Bool.{Bool, true, false}
 use mathlib.Core.List.{List, [], _∷_}
 use lib.Dec.{eqb}
 use lib.IntN.{ℤ, pos, negℤ, _+ℤ_, _-ℤ_, _*ℤ_}
 use Rattle.network.specs.Standing.{Line}
+use Rattle.divisions.specs.Weight.{weightOf}
 use Rattle.fields.specs.Heights.{height}
-
--- "A line's weight is 1,000,000 divided by its length, rounded down"
-unfoldable pub weightOf : ℕ → ℕ
-weightOf length = 1000000 / length
-
--- the weight of the shortest line
-abbrev pub mostWeight : ℕ
-mostWeight = 100000
 
 -- A line as it is seen from one of its two marks: the mark at its other end, the rise from there to here, and its weight
 pub record Sight : Type 0 where

@@ -7,7 +7,8 @@ use mathlib.Core.List.{List, [], _∷_, _++_}
 use lib.ListN.{length, getD, set}
 use lib.IntN.{ℤ, pos, natAbs}
 use Rattle.book.specs.Limits.{mostDifference, mostLines}
-use Rattle.sights.specs.Sights.{mostWeight, Sight, sight, weights}
+use Rattle.divisions.specs.Weight.{mostWeight}
+use Rattle.sights.specs.Sights.{Sight, sight, weights}
 
 -- k sights from place a on
 unfoldable pub seen : List ℕ → List ℤ → List ℕ → ℕ → ℕ → List Sight

@@ -7,18 +7,11 @@ ghost use lib.IntN.{natAbs};
 ghost use Rattle.book.specs.Limits.{mostDifference, mostMarks};
 ghost use Rattle.network.specs.Standing.{standing};
 ghost use Rattle.fields.specs.Places.{standsFrom, Place, Lines};
-ghost use Rattle.sights.specs.Sights.{mostWeight, sightsOf, weightOf};
+ghost use Rattle.divisions.specs.Weight.{mostWeight, weightOf};
+ghost use Rattle.sights.specs.Sights.{sightsOf};
 ghost use Rattle.sights.specs.Table.{Upto, InRange, Written, Filled, Weighable, weighed, Rowed, Broad, Table, rows, Sighted, seen};
 ghost use Rattle.sights.specs.Chains.{sightAt, chain, Nodes, Pushed, Joined, Linked, Room, Empty, Spaces};
 use book::line::Line;
-
-// A line's weight: the one division of the weights.
-pub fn weight(length: usize) -> usize
-    requires { ⌜ 0 < length ⌝ }
-    ensures { λ r. ⌜ r ≡ weightOf length ⌝ }
-{
-    1000000 / length
-}
 
 // Node c, of half j, goes in front of the chain of the mark at place u.
 fn push(head: &mut [usize], next: &mut [usize], half: &mut [usize], c: usize, u: usize, j: usize)
@@ -117,7 +110,7 @@ fn weight_of(lines: &[i64], b: usize, n: usize, j: usize) -> usize
     requires { ⌜ Place (now lines) b n (j / 2) ⌝ }
     ensures { λ r. ⌜ (r ≡ sightAt (now (lines .entry)) j .weight) × (r ≤ mostWeight) ⌝ }
 {
-    weight(signed::index(lines[j / 2 * Line::WORDS + Line::LENGTH]))
+    divisions::weight(signed::index(lines[j / 2 * Line::WORDS + Line::LENGTH]))
 }
 
 // Half j is written at place c.

@@ -16,10 +16,10 @@ use Rattle.network.specs.Standing.{Line, keep, standing}
 use Rattle.network.proofs.Count.{Placed, Apart}
 use Rattle.fields.specs.Heights.{height}
 use Rattle.sights.specs.Sights.{Sight, sightsOf, weights, pull}
-use Rattle.sweeps.specs.Nearest.{nearestSize, nearest, Nearest}
+use Rattle.divisions.specs.Nearest.{nearestSize, nearest, Nearest}
 use Rattle.sweeps.specs.Sweeps.{moveOf, moved, sweep, settled, settle, maxSweeps}
 use Rattle.sweeps.specs.Squares.{moveMark, squares}
-use Rattle.sweeps.proofs.Rounding.{nearest-is, no-rise, stays, nearest-size}
+use Rattle.divisions.proofs.Rounding.{nearest-is, no-rise, stays, nearest-size}
 use Rattle.sweeps.proofs.Moving.{moved-by, other-mark}
 use Rattle.sweeps.proofs.Keeping.{Kept, KeptTo, visited-kept, VisitsKeep, sweep-keeps, settle-keeps, Quiet, settle-quiet}
 use Rattle.fields.proofs.Fair.{Fairs, fairs-each}

@@ -1,4 +1,3 @@
-pub mod Rounding
 pub mod Moving
 pub mod Keeping
 pub mod Best

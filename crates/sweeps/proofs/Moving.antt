@@ -14,7 +14,8 @@ use Rattle.laws.proofs.Ring.{ring}
 use Rattle.network.specs.Standing.{Line}
 use Rattle.network.proofs.Count.{Placed, Apart}
 use Rattle.fields.specs.Heights.{height}
-use Rattle.sights.specs.Sights.{weightOf, sightsOf, weights, pull}
+use Rattle.divisions.specs.Weight.{weightOf}
+use Rattle.sights.specs.Sights.{sightsOf, weights, pull}
 use Rattle.sweeps.specs.Squares.{residual, moveMark, squares}
 
 -- what a move by d adds to the sum, by the D and g of its mark

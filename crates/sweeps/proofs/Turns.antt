@@ -17,10 +17,10 @@ use Rattle.book.specs.Height.{workHeightOut}
 use Rattle.fields.specs.Heights.{height, Working}
 use Rattle.sights.specs.Sights.{Sight, weights, pull}
 use Rattle.sights.specs.Table.{seen, rows, Ends, Table}
-use Rattle.sweeps.specs.Nearest.{nearest}
+use Rattle.divisions.specs.Nearest.{nearest}
 use Rattle.sweeps.specs.Sweeps.{moveOf, Swept, still, moved, placed, visited}
 use Rattle.fields.proofs.Setting.{set-all, place}
-use Rattle.sweeps.proofs.Rounding.{nearest-le, nearest-size, nearest-none}
+use Rattle.divisions.proofs.Rounding.{nearest-le, nearest-size, nearest-none}
 use Rattle.sweeps.proofs.Best.{no-weight}
 use Rattle.sweeps.proofs.Sums.{pull-size}
 

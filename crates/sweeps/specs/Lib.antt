@@ -1,4 +1,3 @@
-pub mod Nearest
 pub mod Sweeps
 pub mod Squares
 pub mod Turns

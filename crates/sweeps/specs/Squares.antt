@@ -5,7 +5,7 @@ use mathlib.Core.List.{List, [], _∷_}
 use lib.IntN.{ℤ, natAbs, _+ℤ_, _-ℤ_}
 use Rattle.network.specs.Standing.{Line}
 use Rattle.fields.specs.Heights.{height, setHeight}
-use Rattle.sights.specs.Sights.{weightOf}
+use Rattle.divisions.specs.Weight.{weightOf}
 
 -- "adjusted minus observed difference": a line's residual, its correction
 abbrev pub residual : List ℤ → Line → ℤ

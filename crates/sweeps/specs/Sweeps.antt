@@ -9,7 +9,7 @@ use Rattle.laws.specs.Tests.{eqZ}
 use Rattle.book.specs.Height.{workHeightOut}
 use Rattle.fields.specs.Heights.{height, setHeight}
 use Rattle.sights.specs.Sights.{Sight, weights, pull}
-use Rattle.sweeps.specs.Nearest.{nearest}
+use Rattle.divisions.specs.Nearest.{nearest}
 
 -- "the mark moves by g/D to the nearest whole number, halves toward zero"
 unfoldable pub moveOf : List Sight → List ℤ → ℕ → ℤ

@@ -10,7 +10,7 @@ ghost use Rattle.fields.specs.Heights.{Working};
 ghost use Rattle.fields.specs.Places.{Lines};
 ghost use Rattle.sights.specs.Sights.{sightsOf, pull};
 ghost use Rattle.sights.specs.Table.{seen, rows, Ends, Span, Table};
-ghost use Rattle.sweeps.specs.Nearest.{nearestSize, nearest};
+ghost use Rattle.divisions.specs.Nearest.{nearestSize, nearest};
 ghost use Rattle.sweeps.specs.Turns.{termAt, flags, swept, endedAt, joinedTurn, movedTurn, outsideTurn};
 ghost use Rattle.sweeps.specs.Sweeps.{moveOf, visited, visit, sweep, settle};
 use book::height::Height;
@@ -30,29 +30,6 @@ pub enum End {
     Settled(usize),
     Outside(usize),
     Unsettled,
-}
-
-// g / d to the nearest whole number, halves toward zero.
-pub fn move_by(g: i64, d: usize) -> i64
-    requires { ⌜ (d ≡ 0 → natAbs g ≡ 0) ⌝ ∗ ⌜ d < 2 ^ 62 ⌝ ∗ ⌜ natAbs g < 2 ^ 63 ⌝ }
-    ensures { λ r. ⌜ r ≡ nearest g d ⌝ }
-{
-    let a = signed::magnitude(g);
-    if a <= d / 2 {
-        return 0;
-    }
-    let q = signed::signed_count(nearest_size(a, d));
-    if g < 0 { signed::sub(0, q) } else { q }
-}
-
-// The same of sizes: the one division of the moves. Twice a may not fit, so the remainder decides.
-fn nearest_size(a: usize, d: usize) -> usize
-    requires { ⌜ 0 < d ⌝ ∗ ⌜ d < 2 ^ 62 ⌝ }
-    ensures { λ r. ⌜ r ≡ nearestSize a d ⌝ }
-{
-    let q = a / d;
-    let r = a % d;
-    if d < 2 * r { q + 1 } else { q }
 }
 
 // What the line at place j adds to the g of a mark that stands at z.
@@ -110,7 +87,7 @@ fn move_of(
     ensures { λ r. ⌜ (r ≡ moveOf (rows (now (first .entry)) (now (other .entry)) (now (rise .entry)) (now (weight .entry)) (suc v)) (now (h .entry)) (suc v)) × (natAbs r < 2 ^ 62 + 2 ^ 61) ⌝ }
 {
     let g = pull_of(other, rise, weight, h, b, h[v], first[v], first[v + 1]);
-    move_by(g, total[v])
+    divisions::move_by(g, total[v])
 }
 
 // The mark at place v is visited.
@@ -196,7 +173,7 @@ fn take_turn(
     joined(s, visit(first, other, rise, weight, total, h, b, v))
 }
 
-// A sweep visits the free marks of b marks by number.
+// A sweep visits the free marks of b marks by number; so many marks are left.
 fn sweep(
     first: &[usize],
     other: &[usize],
@@ -211,10 +188,10 @@ fn sweep(
     ensures { λ r. ⌜ (swept r (now (h .exit)) ≡ sweep (rows (now (first .entry)) (now (other .entry)) (now (rise .entry)) (now (weight .entry))) (flags (now (held .entry))) (now (h .entry)) b) × Working (now (h .exit)) b ⌝ }
 {
     let mut s = Turn::Still;
-    let mut v = 0;
-    while v < b {
-        s = take_turn(first, other, rise, weight, total, held, h, b, v, s);
-        v += 1;
+    let mut left = b;
+    while 0 < left {
+        s = take_turn(first, other, rise, weight, total, held, h, b, b - left, s);
+        left -= 1;
     }
     s
 }

@@ -5,7 +5,7 @@ use lib.IntN.{natAbs}
 use Rattle.laws.proofs.Signed.{back}
 use Rattle.laws.proofs.Size.{not-negative}
 use Rattle.book.specs.Line.{lengthAt}
-use Rattle.sights.specs.Sights.{weightOf}
+use Rattle.divisions.specs.Weight.{weightOf}
 use Rattle.sights.proofs.Halves.{weight-here, weight-most}
 use borrow.Author.Needs.{needs}
 use Rattle.sights.proofs.weight_of.Statement.{statement}

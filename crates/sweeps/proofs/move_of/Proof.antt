@@ -5,7 +5,7 @@ use lib.IntN.{pos}
 use mir.Syntax.{w64}
 use mir.Val.{toZ, ofZ}
 use Rattle.laws.proofs.Signed.{stored}
-use Rattle.sweeps.specs.Nearest.{nearest}
+use Rattle.divisions.specs.Nearest.{nearest}
 use Rattle.fields.proofs.Readback.{read}
 use Rattle.sweeps.proofs.Turns.{pullHere, total-zero, total-fits, pull-fits, move-is, move-fits}
 use borrow.Author.Needs.{needs}

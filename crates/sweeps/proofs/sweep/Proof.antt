@@ -1,5 +1,5 @@
-use mathlib.Core.Path.{_≡_, sym, _∙_}
-use Prim.Native.Nat.{_-_, _≤_}
+use mathlib.Core.Path.{_≡_, sym, _∙_, ap}
+use Prim.Native.Nat.{_+_, _-_, _≤_}
 use Rattle.fields.specs.Heights.{Working}
 use Rattle.sights.specs.Table.{rows}
 use Rattle.sweeps.specs.Sweeps.{sweep}
@@ -11,30 +11,43 @@ use Rattle.sweeps.proofs.sweep.Statement.{statement}
 use Rattle.sweeps.proofs.sweep.Tie as tie
 
 abbrev Inv-loop : tie.InvT-loop
-Inv-loop first other rise weight total held h₀ b s₀ v₀ h s v = (v ≤ b) × (swept s h ≡ sweep (rows first other rise weight) (flags held) h₀ v) × Working h b
+Inv-loop first other rise weight total held h₀ b s₀ left₀ h s left = (left ≤ b) × (swept s h ≡ sweep (rows first other rise weight) (flags held) h₀ (b - left)) × Working h b
 
 abbrev μ-loop : tie.MeasureT-loop
-μ-loop first other rise weight total held h₀ b s₀ v₀ h s v = b - v
+μ-loop first other rise weight total held h₀ b s₀ left₀ h s left = left
 
 loop-holds : tie.Need-loop-holds Inv-loop μ-loop
-loop-holds c = let s = c .before .before .before .before .before in (search needs, sweep-none (rows (s .args .first .now) (s .args .other .now) (s .args .rise .now) (s .args .weight .now)) (flags (s .args .held .now)) (s .args .h .now), s .pre .1 .0)
+loop-holds c =
+    let s = c .before .before .before .before .before in
+    let f = rows (s .args .first .now) (s .args .other .now) (s .args .rise .now) (s .args .weight .now) in
+    let e : 0 ≡ s .args .b - s .args .b = omega arith in
+    (omega arith, sweep-none f (flags (s .args .held .now)) (s .args .h .now) ∙ ap (sweep f (flags (s .args .held .now)) (s .args .h .now)) e, s .pre .1 .0)
+
+sub-take-turn : tie.Need-sub-take-turn Inv-loop μ-loop
+sub-take-turn c = omega (arith, c .before .before .loop .inv .0)
 
 take-turn-requires : tie.Need-take-turn-requires Inv-loop μ-loop
-take-turn-requires c κs = let s = c .before .before .before .before .before .before .before .before in (s .pre .0, (c .before .before .loop .inv .2, (search needs, s .pre .1 .1)))
+take-turn-requires c κs =
+    let s = c .before .before .before .before .before .before .before .before in
+    let l = c .before .before .loop in
+    (s .pre .0, (l .inv .2, (omega (arith, l .inv .0, c .before .loop-test .taken), s .pre .1 .1)))
 
-add-v : tie.Need-add-v Inv-loop μ-loop
-add-v c = search needs
+sub-left : tie.Need-sub-left Inv-loop μ-loop
+sub-left c = omega arith
 
 loop-less : tie.Need-loop-less Inv-loop μ-loop
-loop-less c = search needs
+loop-less c = omega arith
 
 loop-again : tie.Need-loop-again Inv-loop μ-loop
 loop-again c =
     let s = c .before .before .before .before .before .before .before .before .before .before in
     let l = c .before .before .before .before in
-    let t = c .before .take-turn in (
-      search needs,
-      sweep-turn (rows (s .args .first .now) (s .args .other .now) (s .args .rise .now) (s .args .weight .now)) (flags (s .args .held .now)) (s .args .h .now) (l .loop .v) (swept (l .loop .s) (l .loop .h)) (swept (t .result) (t .last .1 .1 .1 .1 .1 .1 .0)) (l .loop .inv .1) (t .ensures .0),
+    let t = c .before .take-turn in
+    let f = rows (s .args .first .now) (s .args .other .now) (s .args .rise .now) (s .args .weight .now) in
+    let e : s .args .b - l .loop .left + 1 ≡ s .args .b - (l .loop .left - 1) = omega (arith, l .loop .inv .0, c .before .before .before .loop-test .taken) in (
+      omega (arith, l .loop .inv .0),
+      sweep-turn f (flags (s .args .held .now)) (s .args .h .now) (s .args .b - l .loop .left) (swept (l .loop .s) (l .loop .h)) (swept (t .result) (t .last .1 .1 .1 .1 .1 .1 .0)) (l .loop .inv .1) (t .ensures .0)
+          ∙ ap (sweep f (flags (s .args .held .now)) (s .args .h .now)) e,
       t .ensures .1,
     )
 
@@ -45,7 +58,7 @@ returns : tie.Need-returns Inv-loop μ-loop
 returns c =
     let s = c .before .before .before .before .before .before .before in
     let l = c .before .loop in
-    let e : l .v ≡ s .args .b = omega arith in
+    let e : s .args .b - l .left ≡ s .args .b = omega (arith, c .loop-test .left) in
     (rw e at (l .inv .1), l .inv .2)
 
 pub sweep-spec : {M : Type 1} → statement M
@@ -55,8 +68,9 @@ sweep-spec =
     Inv-loop
     μ-loop
     loop-holds
+    sub-take-turn
     take-turn-requires
-    add-v
+    sub-left
     loop-less
     loop-again
     same-length

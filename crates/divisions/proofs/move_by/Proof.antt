@@ -6,10 +6,10 @@ use mir.Syntax.{w64}
 use mir.Val.{toZ, ofZ}
 use mir.Facts.{toZ-ofZ}
 use Rattle.laws.proofs.Signed.{stored}
-use Rattle.sweeps.proofs.Rounding.{half-stays, positive, nearest-le, of-negative, of-positive}
+use Rattle.divisions.proofs.Rounding.{half-stays, positive, nearest-le, of-negative, of-positive}
 use borrow.Author.Needs.{needs}
-use Rattle.sweeps.proofs.move_by.Statement.{statement}
-use Rattle.sweeps.proofs.move_by.Tie as tie
+use Rattle.divisions.proofs.move_by.Statement.{statement}
+use Rattle.divisions.proofs.move_by.Tie as tie
 
 size : (c : tie.After-magnitude) → c .magnitude .result ≡ natAbs (c .before .args .g)
 size c = rw (toZ-ofZ (c .before .fits .g)) at (c .magnitude .ensures)

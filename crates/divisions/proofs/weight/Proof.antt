@@ -1,8 +1,8 @@
 use mathlib.Core.Path.{refl}
-use Rattle.sights.specs.Sights.{weightOf}
+use Rattle.divisions.specs.Weight.{weightOf}
 use borrow.Author.Needs.{needs}
-use Rattle.sights.proofs.weight.Statement.{statement}
-use Rattle.sights.proofs.weight.Tie as tie
+use Rattle.divisions.proofs.weight.Statement.{statement}
+use Rattle.divisions.proofs.weight.Tie as tie
 
 div-result : tie.Need-div-result
 div-result c = search needs

@@ -2,11 +2,11 @@ use native.Mathlib.Nat.{mod-lt}
 use native.Mathlib.Numerals.{add-one}
 use native.Mathlib.Omega.{arith}
 use borrow.Author.Tests.{lt-ltb, le-ltb}
-use Rattle.sweeps.specs.Nearest.{nearestSize}
-use Rattle.sweeps.proofs.Rounding.{up-fits}
+use Rattle.divisions.specs.Nearest.{nearestSize}
+use Rattle.divisions.proofs.Rounding.{up-fits}
 use borrow.Author.Needs.{needs}
-use Rattle.sweeps.proofs.nearest_size.Statement.{statement}
-use Rattle.sweeps.proofs.nearest_size.Tie as tie
+use Rattle.divisions.proofs.nearest_size.Statement.{statement}
+use Rattle.divisions.proofs.nearest_size.Tie as tie
 
 div-q : tie.Need-div-q
 div-q c = search needs

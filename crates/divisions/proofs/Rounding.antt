@@ -12,7 +12,7 @@ use lib.Signed.{ltZ}
 use borrow.Author.Tests.{ltb-true, ltb-false, le-ltb}
 use Rattle.laws.proofs.Tests.{cond-ind}
 use Rattle.laws.proofs.Size.{size-neg}
-use Rattle.sweeps.specs.Nearest.{nearestSize, nearest, Nearest}
+use Rattle.divisions.specs.Nearest.{nearestSize, nearest, Nearest}
 
 -- the definition's answer is the nearest, halves toward zero
 pub nearest-is : (a d : ℕ) → 0 < d → Nearest a d (nearestSize a d)

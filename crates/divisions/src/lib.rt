@@ -1,0 +1,37 @@
+// The two divisions of the adjustment: a line's weight, and how far a mark moves. Document 01, "Adjustment".
+ghost use mathlib.Core.Path.{_≡_};
+ghost use Prim.Native.Nat.{_<_, _^_};
+ghost use lib.IntN.{natAbs};
+ghost use Rattle.divisions.specs.Weight.{weightOf};
+ghost use Rattle.divisions.specs.Nearest.{nearestSize, nearest};
+
+// A line's weight: the one division of the weights.
+pub fn weight(length: usize) -> usize
+    requires { ⌜ 0 < length ⌝ }
+    ensures { λ r. ⌜ r ≡ weightOf length ⌝ }
+{
+    1000000 / length
+}
+
+// g / d to the nearest whole number, halves toward zero.
+pub fn move_by(g: i64, d: usize) -> i64
+    requires { ⌜ (d ≡ 0 → natAbs g ≡ 0) ⌝ ∗ ⌜ d < 2 ^ 62 ⌝ ∗ ⌜ natAbs g < 2 ^ 63 ⌝ }
+    ensures { λ r. ⌜ r ≡ nearest g d ⌝ }
+{
+    let a = signed::magnitude(g);
+    if a <= d / 2 {
+        return 0;
+    }
+    let q = signed::signed_count(nearest_size(a, d));
+    if g < 0 { signed::sub(0, q) } else { q }
+}
+
+// The same of sizes: the one division of the moves. Twice a may not fit, so the remainder decides.
+fn nearest_size(a: usize, d: usize) -> usize
+    requires { ⌜ 0 < d ⌝ ∗ ⌜ d < 2 ^ 62 ⌝ }
+    ensures { λ r. ⌜ r ≡ nearestSize a d ⌝ }
+{
+    let q = a / d;
+    let r = a % d;
+    if d < 2 * r { q + 1 } else { q }
+}
