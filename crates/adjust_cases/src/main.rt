@@ -28,13 +28,17 @@ fn adjust(name: &[u8], b: i64, t: i64, held: &[i64], lines: &[i64], heights: &mu
     put(b"\n");
 }
 
-// A rate by its bits.
+// A rate by its bits: two rates are one exactly if these are.
+fn put_bits(x: f64) {
+    if x == x {
+        put(b" ");
+        io::print_decimal(cases::STDOUT, f64::to_bits(x));
+    }
+}
+
 fn put_rate(rate: Rate) {
     match rate {
-        Rate::PerKm(x) => {
-            put(b" ");
-            io::print_decimal(cases::STDOUT, f64::to_bits(x));
-        }
+        Rate::PerKm(x) => put_bits(x),
         Rate::Withdrawn => put(b" withdrawn"),
     }
 }
@@ -65,11 +69,15 @@ fn adjust_and_rate(b: i64, t: i64, held: &[i64], lines: &[i64], heights: &mut [i
     rate_all(b, t, held, lines, heights, cases::at_most(n, RATED));
 }
 
-// A height is spoilt, and line 1 rated.
-fn spoil(b: i64, t: i64, held: &[i64], lines: &[i64], heights: &mut [i64], spoilt: usize) {
+fn raise(heights: &mut [i64], spoilt: usize) {
     if spoilt < heights.len() {
         heights[spoilt] = TOO_HIGH;
     }
+}
+
+// A height is spoilt, and line 1 rated.
+fn spoil(b: i64, t: i64, held: &[i64], lines: &[i64], heights: &mut [i64], spoilt: usize) {
+    raise(heights, spoilt);
     rate(b, t, held, lines, heights, 1);
 }
 

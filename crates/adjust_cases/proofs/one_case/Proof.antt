@@ -1,0 +1,55 @@
+use native.Mathlib.Omega.{arith}
+use lib.ListN.{length-take}
+use borrow.Author.Needs.{needs}
+use Rattle.adjust_cases.proofs.one_case.Statement.{statement}
+use Rattle.adjust_cases.proofs.one_case.Tie as tie
+use Rattle.adjust_cases.proofs.one_case.Reads as reads
+use Rattle.adjust_cases.proofs.one_case.Lts as lts
+use Rattle.adjust_cases.proofs.put.Reads as put-reads
+use Rattle.adjust_cases.proofs.read_and_run.Reads as read-and-run-reads
+use Rattle.cases.proofs.at_most.Reads as at-most-reads
+
+put-requires : tie.Need-put-requires
+put-requires c κs = search needs
+
+slice-aggregate-put : tie.Need-slice-aggregate-put
+slice-aggregate-put c = search needs
+
+put-requires-2 : tie.Need-put-requires-2
+put-requires-2 c κs = search needs
+
+at-most-requires : tie.Need-at-most-requires
+at-most-requires c κs = search needs
+
+slice-aggregate-read-and-run : tie.Need-slice-aggregate-read-and-run
+slice-aggregate-read-and-run c = search needs
+
+slice-aggregate-read-and-run-2 : tie.Need-slice-aggregate-read-and-run-2
+slice-aggregate-read-and-run-2 c = search needs
+
+array-borrow-prefix-heights : tie.Need-array-borrow-prefix-heights
+array-borrow-prefix-heights c = search needs
+
+slice-aggregate-read-and-run-3 : tie.Need-slice-aggregate-read-and-run-3
+slice-aggregate-read-and-run-3 c = simp length-take (omega arith)
+
+read-and-run-requires : tie.Need-read-and-run-requires
+read-and-run-requires c κs = search needs
+
+returns : tie.Need-returns
+returns c = search needs
+
+pub one-case-spec : {M : Type 1} → statement M
+one-case-spec =
+    tie.close
+    (tie.spec
+    put-requires
+    slice-aggregate-put
+    put-requires-2
+    at-most-requires
+    slice-aggregate-read-and-run
+    slice-aggregate-read-and-run-2
+    array-borrow-prefix-heights
+    slice-aggregate-read-and-run-3
+    read-and-run-requires
+    returns)
