@@ -1,7 +1,8 @@
 /*
  * level.h: level-network reduction, the calls of liblevel.a.
  *
- * The archive has level_read today; the other calls are declared here as they will be.
+ * The archive has level_read, level_survey, level_rerun, level_withdraw and level_rate today; the other calls are
+ * declared here as they will be.
  *
  * THE BOOK
  *

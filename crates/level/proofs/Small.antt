@@ -1,15 +1,43 @@
--- Every number of an answer fits an int64.
+-- Every number of an answer fits an int64: marks, lines and rows are few, and a refusal's number and place are small.
 -- Assumes nothing.
-use Prim.Native.Nat.{ℕ, _<_, _≤_, _^_}
+use Prim.Native.Nat.{ℕ, _-_, _<_, _≤_, _^_}
 use native.Mathlib.Omega.{arith}
-use mathlib.Core.Path.{_≡_, sym, subst}
+use mathlib.Core.Path.{_≡_, refl, sym, subst}
 use mathlib.Core.Logic.{_⊎_, inl, inr}
+use mathlib.Core.Bool.{Bool, true, false}
 use mathlib.Core.List.{List}
-use lib.IntN.{ℤ}
-use Rattle.file.specs.Read.{Outcome, refusal, done, readOf}
-use Rattle.file.specs.Owed.{BookRead, FileRefused}
+use lib.Dec.{ltb}
+use lib.IntN.{ℤ, pos, natAbs}
+use lib.ListN.{length, getD, set}
+use Rattle.laws.specs.Tests.{outZ, eqZ}
+use Rattle.laws.proofs.Tests.{cond-ind}
+use Rattle.laws.proofs.Size.{between, size-within}
+use Rattle.laws.proofs.Scans.{first-most}
+use Rattle.book.specs.Line.{differenceOut, standingAt}
+use Rattle.book.specs.Height.{workHeightOut}
+use Rattle.book.specs.Test.{testOf}
+use Rattle.book.specs.declared.Book.{Book}
+use Rattle.book.specs.declared.Refusal.{Refusal}
+use Rattle.book.specs.declared.Tested.{Tested}
+use Rattle.book.specs.declared.Tested.the-variants.{Good, Refused}
+use Rattle.book.proofs.Goods.{Numbered, tested-good, tested-numbered}
+use Rattle.network.specs.Standing.{standing}
+use Rattle.network.proofs.Entries.{tree-lines-count}
+use Rattle.survey.specs.GoodLines.{GoodLines}
+use Rattle.survey.specs.Stands.{Sets, re-run, withdrawal}
+use Rattle.survey.specs.Report.{reportOf, loopsOf, piecesOf, refusal, counted}
+use Rattle.survey.specs.Survey.{Surveyed, surveyGood, surveyTested, surveyOf}
+use Rattle.survey.specs.Correction.{Corrected, noLine, otherReport, placeOf, correctGood, correctTested, rerunLines, withdrawLines, rerunOf, withdrawOf}
+use Rattle.survey.proofs.Sounding.{good-lines, lines-sound, few-loops}
+use Rattle.survey.proofs.Corrected.{stands-of, corrected-good}
+use Rattle.adjust.specs.Rates.{refusedRate, lineRate, firstHigh, goodRate, testedRate, rateAnswer}
+use Rattle.adjust.specs.declared.rates.RateAnswer.{RateAnswer}
+use Rattle.adjust.proofs.Rating.{marks-of}
+use Rattle.file.specs.Read.{readOf}
 use Rattle.file.proofs.Reading.{ReadOrRefused, read-or-refused}
 use Rattle.level.specs.Signed.{Small, SmallRead}
+use Rattle.level.specs.Answers.{SmallAnswer}
+use Rattle.level.specs.Rating.{SmallRate}
 
 pub read-small : (file : List ℕ) (held lines : List ℤ) → SmallRead (readOf file held lines .answer)
 read-small file held lines = go (read-or-refused file held lines)
@@ -33,3 +61,101 @@ read-small file held lines = go (read-or-refused file held lines)
           h = omega arith;
           n = omega arith;
         })
+
+refusal-small : (number place : ℕ) → number ≤ 13 → place ≤ 512 → SmallAnswer (refusal number place)
+refusal-small number place high near = record { number = omega arith; place = omega arith; rows = omega arith; pieces = omega arith }
+
+-- no more rows than lines, and no more pieces than marks
+counted-small : (k : Book) (lines : List ℤ) → GoodLines k lines → SmallAnswer (counted (k .marks) lines)
+unfolding counted piecesOf
+counted-small k lines g =
+    record {
+      number = omega arith;
+      place = omega arith;
+      rows = omega (arith, few-loops k lines g, g .few);
+      pieces = omega (arith, tree-lines-count (k .marks) (standing lines) (lines-sound k lines g), g .few-marks);
+    }
+
+module _ (b t : ℤ) (held lines : List ℤ) where
+  -- the test's own refusals
+  tested-small : (r : Refusal) → testOf b t held lines ≡ Refused r → SmallAnswer (refusal (r .number) (r .place))
+  tested-small r e = let n = tested-numbered b t held lines r e in refusal-small (r .number) (r .place) (omega (arith, n .high)) (n .near)
+
+  good-of : (k : Book) → testOf b t held lines ≡ Good k → GoodLines k lines
+  good-of k e = good-lines k b t held lines (tested-good b t held lines k e)
+
+  pub survey-small : (rows : List ℤ) → SmallAnswer (surveyOf b t held lines rows .answer)
+  unfolding surveyOf surveyTested surveyGood
+  survey-small rows = go (testOf b t held lines) refl
+    where
+      go : (x : Tested) → testOf b t held lines ≡ x → SmallAnswer (surveyTested lines rows x .answer)
+      go (Refused r) e = tested-small r e
+      go (Good k) e =
+          cond-ind (λ (s : Surveyed). SmallAnswer (s .answer)) (ltb (length rows) (length (reportOf (k .marks) (k .tolerance) lines))) _ _
+          (λ _. refusal-small 10 0 (omega arith) (omega arith))
+          (λ _. counted-small k lines (good-of k e))
+
+  module _ (report : List ℤ) (number : ℤ) where
+    -- a correction sets one number of a line that stands
+    corrected-small : (field : ℕ) (value : ℤ) → Sets field value
+        → SmallAnswer (correctTested lines report number (set lines (placeOf number field) value) (testOf b t held lines) .answer)
+    unfolding correctTested correctGood
+    corrected-small field value sets = go (testOf b t held lines) refl
+      where
+        new : List ℤ
+        new = set lines (placeOf number field) value
+
+        go : (x : Tested) → testOf b t held lines ≡ x → SmallAnswer (correctTested lines report number new x .answer)
+        go (Refused r) e = tested-small r e
+        go (Good k) e =
+            cond-ind (λ (s : Corrected). SmallAnswer (s .answer)) (noLine lines number) _ _
+            (λ _. refusal-small 8 0 (omega arith) (omega arith))
+            (λ stands.
+            cond-ind (λ (s : Corrected). SmallAnswer (s .answer)) (otherReport report (reportOf (k .marks) (k .tolerance) lines)) _ _
+            (λ _. refusal-small 9 0 (omega arith) (omega arith))
+            (λ _. counted-small k new (corrected-good k lines (good-of k e) number (natAbs number - 1) (stands-of lines number stands) field value sets)))
+
+    pub rerun-small : (difference : ℤ) → SmallAnswer (rerunOf b t held lines report number difference .answer)
+    unfolding rerunOf rerunLines differenceOut
+    rerun-small difference =
+        cond-ind (λ (s : Corrected). SmallAnswer (s .answer)) (differenceOut difference) _ _
+        (λ _. refusal-small 4 0 (omega arith) (omega arith))
+        (λ inside. corrected-small 2 difference (re-run refl (size-within 99999999 difference inside)))
+
+    pub withdraw-small : SmallAnswer (withdrawOf b t held lines report number .answer)
+    unfolding withdrawOf withdrawLines
+    withdraw-small = corrected-small 4 (pos 0) (withdrawal refl refl)
+
+  module _ (heights : List ℤ) (line : ℤ) where
+    rate-refusal-small : (number place : ℕ) → number ≤ 13 → place ≤ 512 → SmallRate (refusedRate number place)
+    unfolding refusedRate
+    rate-refusal-small number place high near = record { number = omega arith; place = omega arith; line = omega arith }
+
+    -- the line itself is one of the book's
+    line-small : (i : ℕ) → natAbs line ≤ 512 → SmallRate (lineRate heights lines (natAbs line) i)
+    unfolding lineRate
+    line-small i near =
+        cond-ind SmallRate (eqZ (standingAt lines i) (pos 0)) _ _
+        (λ _. record { number = omega arith; place = omega arith; line = omega arith })
+        (λ _. record { number = omega arith; place = omega arith; line = omega arith })
+
+    good-small : (k : Book) → k .lines ≤ 512 → length heights ≤ 512 → SmallRate (goodRate heights lines k line)
+    unfolding goodRate firstHigh
+    good-small k few short =
+        cond-ind SmallRate (outZ (pos 1) (pos (k .lines)) line) _ _
+        (λ _. rate-refusal-small 8 0 (omega arith) (omega arith))
+        (λ inside.
+        cond-ind SmallRate (ltb 0 (firstHigh heights)) _ _
+        (λ _. rate-refusal-small 13 (firstHigh heights) (omega arith) (omega (arith, first-most (λ i. workHeightOut (getD heights i (pos 0))) (length heights))))
+        (λ _. line-small (natAbs line - 1) (omega (arith, between 1 (k .lines) line inside .high))))
+
+    pub rate-small : SmallRate (rateAnswer b t held lines heights line)
+    unfolding rateAnswer
+    rate-small =
+        cond-ind SmallRate (eqZ (pos (length heights)) b) _ _
+        (λ same. go same (testOf b t held lines) refl)
+        (λ _. rate-refusal-small 4 0 (omega arith) (omega arith))
+      where
+        go : eqZ (pos (length heights)) b ≡ true → (x : Tested) → testOf b t held lines ≡ x → SmallRate (testedRate heights lines line x)
+        go same (Refused r) e = let n = tested-numbered b t held lines r e in rate-refusal-small (r .number) (r .place) (omega (arith, n .high)) (n .near)
+        go same (Good k) e = let g = tested-good b t held lines k e in good-small k (g .few-lines) (omega (arith, marks-of b t held lines k e (length heights) same, g .few-marks))

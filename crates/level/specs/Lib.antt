@@ -1,1 +1,3 @@
 pub mod Signed
+pub mod Answers
+pub mod Rating

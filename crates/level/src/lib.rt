@@ -2,8 +2,16 @@
 // include/level.h declares them.
 ghost use mathlib.Core.Path.{_≡_};
 ghost use Rattle.file.specs.Read.{readOf};
+ghost use Rattle.survey.specs.Survey.{surveyOf};
+ghost use Rattle.survey.specs.Correction.{rerunOf, withdrawOf};
+ghost use Rattle.adjust.specs.Rates.{rateAnswer};
 ghost use Rattle.level.specs.Signed.{SmallRead, signedRead, readNow, ofRead};
+ghost use Rattle.level.specs.Answers.{SmallAnswer, signedAnswer, surveyNow, ofSurvey, correctionNow, ofCorrection};
+ghost use Rattle.level.specs.Rating.{SmallRate, signedRate};
+use adjust::rates::Rate;
+use adjust::rates::RateAnswer;
 
+// What the reader answers.
 #[repr(C)]
 pub struct ReadAnswer {
     pub number: i64,
@@ -33,4 +41,121 @@ pub extern "C" fn level_read(file: &[u8], held: &mut [i64], lines: &mut [i64]) -
     ensures { λ r. ⌜ readNow r (now (held .exit)) (now (lines .exit)) ≡ ofRead (readOf (now (file .entry)) (now (held .entry)) (now (lines .entry))) ⌝ }
 {
     read_answer(file::read(file, held, lines))
+}
+
+// What survey, re-run and withdrawal answer.
+#[repr(C)]
+pub struct Answer {
+    pub number: i64,
+    pub place: i64,
+    pub rows: i64,
+    pub pieces: i64,
+}
+
+fn survey_answer(a: survey::Answer) -> Answer
+    requires { ⌜ SmallAnswer a ⌝ }
+    ensures { λ r. ⌜ r ≡ signedAnswer a ⌝ }
+{
+    Answer {
+        number: signed::signed_count(a.number),
+        place: signed::signed_count(a.place),
+        rows: signed::signed_count(a.rows),
+        pieces: signed::signed_count(a.pieces),
+    }
+}
+
+#[no_mangle]
+pub extern "C" fn level_survey(
+    b: i64,
+    t: i64,
+    held: &[i64],
+    lines: &[i64],
+    rows: &mut [i64],
+) -> Answer
+    ensures { λ r. ⌜ surveyNow r (now (rows .exit)) ≡ ofSurvey (surveyOf b t (now (held .entry)) (now (lines .entry)) (now (rows .entry))) ⌝ }
+{
+    survey_answer(survey::survey(b, t, held, lines, rows))
+}
+
+#[no_mangle]
+pub extern "C" fn level_rerun(
+    b: i64,
+    t: i64,
+    held: &[i64],
+    lines: &mut [i64],
+    report: &mut [i64],
+    line: i64,
+    difference: i64,
+) -> Answer
+    ensures { λ r. ⌜ correctionNow r (now (lines .exit)) (now (report .exit)) ≡ ofCorrection (rerunOf b t (now (held .entry)) (now (lines .entry)) (now (report .entry)) line difference) ⌝ }
+{
+    survey_answer(survey::rerun(b, t, held, lines, report, line, difference))
+}
+
+#[no_mangle]
+pub extern "C" fn level_withdraw(
+    b: i64,
+    t: i64,
+    held: &[i64],
+    lines: &mut [i64],
+    report: &mut [i64],
+    line: i64,
+) -> Answer
+    ensures { λ r. ⌜ correctionNow r (now (lines .exit)) (now (report .exit)) ≡ ofCorrection (withdrawOf b t (now (held .entry)) (now (lines .entry)) (now (report .entry)) line) ⌝ }
+{
+    survey_answer(survey::withdraw(b, t, held, lines, report, line))
+}
+
+// What the rate call answers: withdrawn is 1 of a withdrawn line, else 0.
+#[repr(C)]
+pub struct Rated {
+    pub number: i64,
+    pub place: i64,
+    pub line: i64,
+    pub correction: i64,
+    pub withdrawn: i64,
+    pub rate: f64,
+}
+
+fn rate_answer(a: RateAnswer) -> Rated
+    requires { ⌜ SmallRate a ⌝ }
+    ensures { λ r. ⌜ r ≡ signedRate a ⌝ }
+{
+    let number = signed::signed_count(a.number);
+    let place = signed::signed_count(a.place);
+    let line = signed::signed_count(a.line);
+    let correction = a.correction;
+    let rate = a.rate;
+    match rate {
+        Rate::PerKm(x) => Rated {
+            number,
+            place,
+            line,
+            correction,
+            withdrawn: 0,
+            rate: x,
+        },
+        Rate::Withdrawn => Rated {
+            number,
+            place,
+            line,
+            correction,
+            withdrawn: 1,
+            rate: 0.0,
+        },
+    }
+}
+
+#[no_mangle]
+pub extern "C" fn level_rate(
+    b: i64,
+    t: i64,
+    held: &[i64],
+    lines: &[i64],
+    heights: &[i64],
+    line: i64,
+) -> Rated
+    ensures { λ r. ⌜ r ≡ signedRate (rateAnswer b t (now (held .entry)) (now (lines .entry)) (now (heights .entry)) line) ⌝ }
+{
+    rate_answer(adjust::rate(b, t, held, lines, heights, line))
 }

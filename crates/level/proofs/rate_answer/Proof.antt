@@ -1,0 +1,71 @@
+use lib.Ieee.{ofBits}
+use mathlib.Core.Path.{_≡_}
+use mir.Syntax.{w64}
+use mir.Val.{toZ, ofZ}
+use Rattle.laws.proofs.Signed.{stored}
+use Rattle.level.specs.Rating.{withdrawnOf, rateOf, signedRate}
+use borrow.Author.Needs.{needs}
+use Rattle.level.proofs.rate_answer.Statement.{statement}
+use Rattle.level.proofs.rate_answer.Tie as tie
+use Rattle.level.proofs.rate_answer.Reads as reads
+use Rattle.level.proofs.rate_answer.Lts as lts
+use Rattle.signed.proofs.signed_count.Reads as signed-count-reads
+
+signed-count-requires : tie.Need-signed-count-requires
+signed-count-requires c κs = search needs
+
+signed-count-requires-2 : tie.Need-signed-count-requires-2
+signed-count-requires-2 c κs = search needs
+
+signed-count-requires-3 : tie.Need-signed-count-requires-3
+signed-count-requires-3 c κs = search needs
+
+enum-known-rate : tie.Need-enum-known-rate
+enum-known-rate c = search needs
+
+enum-told : tie.Need-enum-told
+enum-told c = search needs
+
+returns : tie.Need-returns
+unfolding signedRate withdrawnOf rateOf
+returns c =
+    let s = c .before .before .before .before .before .before .before in
+    let c₁ = c .before .before .before .before .before .before in
+    let c₂ = c .before .before .before .before .before in
+    let c₃ = c .before .before .before .before in
+    let back : toZ w64 (ofZ w64 (s .args .a .correction)) ≡ s .args .a .correction = search needs in
+    rw (
+      stored _ (c₁ .signed-count .ok) (c₁ .signed-count .ensures),
+      stored _ (c₂ .signed-count2 .ok) (c₂ .signed-count2 .ensures),
+      stored _ (c₃ .signed-count3 .ok) (c₃ .signed-count3 .ensures),
+      back,
+      c .before .rate .given .1,
+    )
+
+returns-2 : tie.Need-returns-2
+unfolding signedRate withdrawnOf rateOf ofBits
+returns-2 c =
+    let s = c .before .before .before .before .before .before in
+    let c₁ = c .before .before .before .before .before in
+    let c₂ = c .before .before .before .before in
+    let c₃ = c .before .before .before in
+    let back : toZ w64 (ofZ w64 (s .args .a .correction)) ≡ s .args .a .correction = search needs in
+    rw (
+      stored _ (c₁ .signed-count .ok) (c₁ .signed-count .ensures),
+      stored _ (c₂ .signed-count2 .ok) (c₂ .signed-count2 .ensures),
+      stored _ (c₃ .signed-count3 .ok) (c₃ .signed-count3 .ensures),
+      back,
+      c .enum-told .given .1,
+    )
+
+pub rate-answer-spec : {M : Type 1} → statement M
+rate-answer-spec =
+    tie.close
+    (tie.spec
+    signed-count-requires
+    signed-count-requires-2
+    signed-count-requires-3
+    enum-known-rate
+    enum-told
+    returns
+    returns-2)
