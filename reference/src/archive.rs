@@ -2,8 +2,37 @@
 
 use crate::*;
 
-extern "C" {
-    fn level_read(
+/// Declares the calls that the archive has, which `build.rs` looks up; in the place of another stands a function
+/// that says so.
+macro_rules! calls {
+    ($($name:ident($($argument:ident: $kind:ty,)*) -> $answer:ty;)*) => {
+        extern "C" {
+            $(
+                #[cfg($name)]
+                fn $name($($argument: $kind,)*) -> $answer;
+            )*
+        }
+
+        $(
+            #[cfg(not($name))]
+            #[allow(clippy::too_many_arguments)]
+            unsafe fn $name($(_: $kind,)*) -> $answer {
+                panic!("the archive has no {}", stringify!($name))
+            }
+        )*
+
+        /// Whether the archive has the call of this name.
+        pub fn has(name: &str) -> bool {
+            match name {
+                $(stringify!($name) => cfg!($name),)*
+                _ => false,
+            }
+        }
+    };
+}
+
+calls! {
+    level_read(
         file: *const u8,
         file_bytes: usize,
         held: *mut i64,
@@ -12,7 +41,7 @@ extern "C" {
         lines_places: usize,
     ) -> ReadAnswer;
 
-    fn level_survey(
+    level_survey(
         b: i64,
         t: i64,
         held: *const i64,
@@ -23,7 +52,7 @@ extern "C" {
         rows_places: usize,
     ) -> Answer;
 
-    fn level_listing(
+    level_listing(
         b: i64,
         t: i64,
         held: *const i64,
@@ -35,7 +64,7 @@ extern "C" {
         out_places: usize,
     ) -> Listed;
 
-    fn level_not_checked(
+    level_not_checked(
         b: i64,
         t: i64,
         held: *const i64,
@@ -46,7 +75,7 @@ extern "C" {
         out_places: usize,
     ) -> Listed;
 
-    fn level_rerun(
+    level_rerun(
         b: i64,
         t: i64,
         held: *const i64,
@@ -59,7 +88,7 @@ extern "C" {
         difference: i64,
     ) -> Answer;
 
-    fn level_withdraw(
+    level_withdraw(
         b: i64,
         t: i64,
         held: *const i64,
@@ -71,7 +100,7 @@ extern "C" {
         line: i64,
     ) -> Answer;
 
-    fn level_adjust(
+    level_adjust(
         b: i64,
         t: i64,
         held: *const i64,
@@ -82,7 +111,7 @@ extern "C" {
         heights_places: usize,
     ) -> Adjusted;
 
-    fn level_rate(
+    level_rate(
         b: i64,
         t: i64,
         held: *const i64,

@@ -7,7 +7,7 @@
 //! call and the ratio archive / reference for each call and book, and for each call the geometric mean of
 //! its ratios and the worst.
 
-use reference::archive::Archive;
+use reference::archive::{has, Archive};
 use reference::trial::random::Random;
 use reference::trial::shapes::Shape;
 use reference::trial::Book;
@@ -34,15 +34,15 @@ enum Kind {
     Rate,
 }
 
-const KINDS: [(Kind, &str); 8] = [
-    (Kind::Read, "read"),
-    (Kind::Survey, "survey"),
-    (Kind::Listing, "listing"),
-    (Kind::NotChecked, "not-checked"),
-    (Kind::Rerun, "re-run"),
-    (Kind::Withdraw, "withdrawal"),
-    (Kind::Adjust, "adjustment"),
-    (Kind::Rate, "rate"),
+const KINDS: [(Kind, &str, &str); 8] = [
+    (Kind::Read, "read", "level_read"),
+    (Kind::Survey, "survey", "level_survey"),
+    (Kind::Listing, "listing", "level_listing"),
+    (Kind::NotChecked, "not-checked", "level_not_checked"),
+    (Kind::Rerun, "re-run", "level_rerun"),
+    (Kind::Withdraw, "withdrawal", "level_withdraw"),
+    (Kind::Adjust, "adjustment", "level_adjust"),
+    (Kind::Rate, "rate", "level_rate"),
 ];
 
 /// Lines between the pairs by heights of the marks, with noise by the root of the length; mark 1 held.
@@ -244,7 +244,7 @@ fn print_races(races: &[Race]) {
 /// For each call the geometric mean of its ratios, and the worst with its book.
 fn print_means(books: &[(&str, Vec<Race>)]) {
     println!("{:12} mean of ratios   worst", "");
-    for (kind, name) in KINDS {
+    for (kind, name, _) in KINDS {
         let of_kind = |races: &[Race]| races.iter().find(|race| race.kind == kind).map(Race::ratio);
         let ratios: Vec<(f64, &str)> =
             books.iter().filter_map(|(book, races)| Some((of_kind(races)?, *book))).collect();
@@ -258,12 +258,16 @@ fn print_means(books: &[(&str, Vec<Race>)]) {
 
 fn main() -> ExitCode {
     let seconds = seconds();
+    for (_, _, call) in KINDS.iter().filter(|(_, _, call)| !has(call)) {
+        println!("the archive has no {call}");
+    }
     let mut reference = Reference::new();
     let mut races: Vec<(&str, Vec<Race>)> = vec![];
     for (book, content) in books() {
         let desk = Desk::new(content);
-        let of_book = KINDS.map(|(kind, name)| Race::new(&desk, kind, name));
-        races.push((book, of_book.into()));
+        let there = KINDS.iter().filter(|(_, _, call)| has(call));
+        let of_book = there.map(|&(kind, name, _)| Race::new(&desk, kind, name)).collect();
+        races.push((book, of_book));
     }
     for (book, of_book) in &mut races {
         for race in of_book {

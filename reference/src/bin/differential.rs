@@ -7,7 +7,7 @@
 //! With `--report`, the program that the command starts is given files on standard input, one for every
 //! fifty calls or as many as `--files` says, and what it writes is compared with the reference's text.
 //! With `--through`, the archive is reached through the server that the command starts. With `--only`,
-//! calls of these names alone are compared. Prints the seed and what was compared; on a difference prints
+//! calls of these names alone are compared, and what the report program writes if one is named. Prints the seed and what was compared; on a difference prints
 //! the call, both answers and the smallest such call that it finds, and exits with 1.
 
 use reference::bridge::Bridge;
@@ -236,9 +236,10 @@ impl Test {
         self.every_call(book)
     }
 
-    /// Whether calls of this name are to be compared.
+    /// Whether calls of this name are to be compared. The report program is asked only where one is named.
     fn wanted(&self, name: &str) -> bool {
-        self.options.only.as_ref().is_none_or(|only| only.iter().any(|one| one == name))
+        name == KINDS[KINDS.len() - 1]
+            || self.options.only.as_ref().is_none_or(|only| only.iter().any(|one| one == name))
     }
 
     /// Makes a call on both, compares and counts it; one that is not wanted on the reference alone.
