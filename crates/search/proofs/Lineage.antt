@@ -30,7 +30,7 @@ pub lineage-old : (e : Entry) (es : Tree) (m : ℕ) → (e .mark ≡ m → ⊥) 
 unfolding lineage
 lineage-old e es m h = rw (ne-eqb (e .mark) m h)
 
-other-half : {n : ℕ} (l : Line) (u m h : ℕ) → Sound n l → Half l u m h → otherOf (eqb (l .from) m) l ≡ u
+pub other-half : {n : ℕ} (l : Line) (u m h : ℕ) → Sound n l → Half l u m h → otherOf (eqb (l .from) m) l ≡ u
 other-half l u m h s (fore p q e) = rw (ne-eqb (l .from) m (λ z. s .apart (z ∙ sym q))) p
 other-half l u m h s (aft p q e) = rw (eq-eqb (l .from) m q) p
 

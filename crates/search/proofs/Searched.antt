@@ -69,7 +69,7 @@ module _ (sub : List Line) (n : ℕ) (head next fars add tip : List ℕ) (gv : G
 
   -- ---- the first mark
 
-  at-one : at 1 ≡ entry r 0 none ∷ []
+  pub at-one : at 1 ≡ entry r 0 none ∷ []
   unfolding grow step firstOut score distance
   at-one = ap (λ (o : Option Candidate). Rattle.network.specs.Tree.next [] o (some r)) (lowest-gone [] sub (λ k t i e. never e refl))
 

@@ -4,6 +4,7 @@ ghost use mathlib.Core.Path.{_≡_};
 ghost use Prim.Native.Nat.{_+_, _*_, _<_, _≤_};
 ghost use lib.ListN.{length, getD};
 ghost use Rattle.chains.specs.Chains.{Nodes, Heads, Tips};
+ghost use Rattle.search.specs.Direct.{LeastSum, Direct};
 ghost use Rattle.search.specs.Front.{limit, Stage, Offered, Relaxed, Room, Rooms, Two, Begun, Turned, Searched, Leads, Walked, Held, Pathed};
 
 // More than any key.
@@ -150,6 +151,47 @@ pub fn way(tip: &[u64], best: &[u64], out: &mut [u64], c: usize, m: usize) -> us
     way(tip, best, out, c + 1, tip[g as usize] as usize)
 }
 
+// The least sum of the nodes on the chain from the pointer first, or FAR.
+fn least_sum(next: &[u64], far: &[u64], add: &[u64], n: usize, cnt: usize, first: usize) -> u64
+    requires { ⌜ Nodes n cnt (now next) (now far) (now add) ⌝ ∗ ⌜ first ≤ cnt ⌝ }
+    ensures { λ s. ⌜ LeastSum (now (next .entry)) (now (add .entry)) first s ⌝ }
+{
+    let mut s = nearest::FAR;
+    let mut i = first;
+    while 0 < i {
+        let j = i - 1;
+        s = nearest::lesser(s, add[j]);
+        i = next[j] as usize;
+    }
+    s
+}
+
+// The half of the least line at the mark r, if it leads to the mark to; else 0. It needs no search: nothing is nearer.
+fn direct_half(
+    head: &[u64],
+    next: &[u64],
+    far: &[u64],
+    add: &[u64],
+    tip: &[u64],
+    n: usize,
+    cnt: usize,
+    r: usize,
+    to: usize,
+) -> u64
+    requires { ⌜ Nodes n cnt (now next) (now far) (now add) ⌝ ∗ ⌜ Heads n cnt (now head) ⌝ ∗ ⌜ Tips n (now tip) ⌝ ∗ ⌜ Two n r to ⌝ }
+    ensures { λ h. ⌜ Direct n (now (head .entry)) (now (next .entry)) (now (far .entry)) (now (add .entry)) (now (tip .entry)) r to h ⌝ }
+{
+    let s = least_sum(next, far, add, n, cnt, head[r] as usize);
+    if LIMIT <= s {
+        return 0;
+    }
+    let h = s % chains::HALVES;
+    if tip[h as usize] as usize == to {
+        return h;
+    }
+    0
+}
+
 // The shortest path from the mark to back to the mark r.
 pub fn path(
     head: &[u64],
@@ -168,6 +210,11 @@ pub fn path(
     requires { ⌜ Held n cnt (now head) (now next) (now far) (now add) (now tip) ⌝ ∗ ⌜ Rooms n (now best) (now seg) (now out) ⌝ ∗ ⌜ Two n r to ⌝ }
     ensures { λ a. ⌜ Pathed n (now (head .entry)) (now (next .entry)) (now (far .entry)) (now (add .entry)) (now (tip .entry)) (now (out .entry)) (now (out .exit)) r to a ⌝ }
 {
+    let h = direct_half(head, next, far, add, tip, n, cnt, r, to);
+    if 0 < h {
+        out[0] = h / 2 * 4 + 1 - h;
+        return 1;
+    }
     if search(head, next, far, add, tip, best, seg, n, cnt, r, to) {
         return way(tip, best, out, 0, to);
     }

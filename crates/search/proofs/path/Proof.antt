@@ -1,19 +1,44 @@
 use native.Mathlib.Omega.{arith}
 use Rattle.search.proofs.Ways.{path-leads, path-walked, path-cut}
+use Rattle.search.proofs.Direct.{direct-written}
 use borrow.Author.Needs.{needs}
 use Rattle.search.proofs.path.Statement.{statement}
 use Rattle.search.proofs.path.Tie as tie
+use Rattle.search.proofs.path.Reads as reads
+use Rattle.search.proofs.path.Lts as lts
+use Rattle.search.proofs.direct_half.Reads as direct-half-reads
+use Rattle.search.proofs.search.Reads as search-reads
+use Rattle.search.proofs.way.Reads as way-reads
 
-search-requires : tie.Need-search-requires
-search-requires c κs = let p = c .before .before .before .before .before .before .before .before .before .before .pre in (p .0 .nodes, (p .0 .heads, (p .0 .tips, (p .1 .0 .room, p .1 .1))))
+direct-half-requires : tie.Need-direct-half-requires
+direct-half-requires c κs = search needs
 
-way-requires : tie.Need-way-requires
-way-requires c κs = let p = c .before .before .before .before .before .before .before .before .before .before .before .before .before .before .before .before .before .before .pre in
-    let g = p .0 .given in
-    path-leads _ _ _ _ _ _ _ g _ _ _ (p .1 .1 .r-ok) (omega (arith, p .1 .0 .room .bests)) (c .before .before .before .before .before .before .before .search .ensures (p .0 .sub) g) (c .before .before .if1 .taken) _ (p .0 .tips .tips) (p .1 .0 .outs)
+mul-out : tie.Need-mul-out
+mul-out c = search needs
+
+add-out : tie.Need-add-out
+add-out c = search needs
+
+sub-out : tie.Need-sub-out
+sub-out c = search needs
+
+slice-write-out : tie.Need-slice-write-out
+slice-write-out c = search needs
 
 same-length : tie.Need-same-length
 same-length c = search needs
+
+returns : tie.Need-returns
+returns c = let p = c .before .before .before .before .before .before .before .before .before .before .pre in λ sub g. direct-written _ _ _ _ _ _ (p .1 .1) (c .before .direct-half .ensures .whole (omega arith) sub g)
+
+search-requires : tie.Need-search-requires
+search-requires c κs = let p = c .before .before .before .before .before .before .before .before .before .before .before .before .pre in (p .0 .nodes, (p .0 .heads, (p .0 .tips, (p .1 .0 .room, p .1 .1))))
+
+way-requires : tie.Need-way-requires
+way-requires c κs =
+    let p = c .before .before .before .before .before .before .before .before .before .before .before .before .before .before .before .before .before .before .before .before .pre in
+    let g = p .0 .given in
+    path-leads _ _ _ _ _ _ _ g _ _ _ (p .1 .1 .r-ok) (omega (arith, p .1 .0 .room .bests)) (c .before .before .before .before .before .before .before .search .ensures (p .0 .sub) g) (c .before .before .if2 .taken) _ (p .0 .tips .tips) (p .1 .0 .outs)
 
 same-length-2 : tie.Need-same-length-2
 same-length-2 c = search needs
@@ -21,30 +46,42 @@ same-length-2 c = search needs
 same-length-3 : tie.Need-same-length-3
 same-length-3 c = search needs
 
-returns : tie.Need-returns
-returns c = let p = c .before .before .before .before .before .before .before .before .before .before .before .before .before .before .before .before .before .before .before .before .before .pre in
-    λ sub g. path-walked sub _ _ _ _ _ _ g _ _ _ (p .1 .1 .r-ok) (omega (arith, p .1 .0 .room .bests)) (c .before .before .before .before .before .before .before .before .before .before .search .ensures sub g) (c .before .before .before .before .before .if1 .taken) _ _ _ (c .before .before .way .ensures)
-
 same-length-4 : tie.Need-same-length-4
 same-length-4 c = search needs
+
+returns-2 : tie.Need-returns-2
+returns-2 c =
+    let p = c .before .before .before .before .before .before .before .before .before .before .before .before .before .before .before .before .before .before .before .before .before .before .before .pre in
+    λ sub g. path-walked sub _ _ _ _ _ _ g _ _ _ (p .1 .1 .r-ok) (omega (arith, p .1 .0 .room .bests)) (c .before .before .before .before .before .before .before .before .before .before .search .ensures sub g) (c .before .before .before .before .before .if2 .taken) _ _ _ (c .before .before .way .ensures)
 
 same-length-5 : tie.Need-same-length-5
 same-length-5 c = search needs
 
-returns-2 : tie.Need-returns-2
-returns-2 c = let p = c .before .before .before .before .before .before .before .before .before .before .before .before .before .before .before .before .pre in
-    λ sub g. path-cut sub _ _ _ _ _ _ g _ _ _ (p .1 .1 .r-ok) (omega (arith, p .1 .0 .room .bests)) (c .before .before .before .before .before .search .ensures sub g) (c .if1 .left) _
+same-length-6 : tie.Need-same-length-6
+same-length-6 c = search needs
+
+returns-3 : tie.Need-returns-3
+returns-3 c =
+    let p = c .before .before .before .before .before .before .before .before .before .before .before .before .before .before .before .before .before .before .pre in
+    λ sub g. path-cut sub _ _ _ _ _ _ g _ _ _ (p .1 .1 .r-ok) (omega (arith, p .1 .0 .room .bests)) (c .before .before .before .before .before .search .ensures sub g) (c .if2 .left) _
 
 pub path-spec : {M : Type 1} → statement M
 path-spec =
     tie.close
     (tie.spec
+    direct-half-requires
+    mul-out
+    add-out
+    sub-out
+    slice-write-out
+    same-length
+    returns
     search-requires
     way-requires
-    same-length
     same-length-2
     same-length-3
-    returns
     same-length-4
+    returns-2
     same-length-5
-    returns-2)
+    same-length-6
+    returns-3)

@@ -1,0 +1,47 @@
+use native.Mathlib.Omega.{arith}
+use Rattle.search.proofs.Direct.{direct-of, direct-none}
+use borrow.Author.Needs.{needs}
+use Rattle.search.proofs.direct_half.Statement.{statement}
+use Rattle.search.proofs.direct_half.Tie as tie
+use Rattle.search.proofs.direct_half.Reads as reads
+use Rattle.search.proofs.direct_half.Lts as lts
+use Rattle.search.proofs.least_sum.Reads as least-sum-reads
+
+mul-least-sum : tie.Need-mul-least-sum
+mul-least-sum c = search needs
+
+shared-slice-read-least-sum : tie.Need-shared-slice-read-least-sum
+shared-slice-read-least-sum c = search needs
+
+least-sum-requires : tie.Need-least-sum-requires
+least-sum-requires c κs = let s = c .before .before .before .before .before .before in (s .pre .0, s .pre .1 .0 .head-ok (s .args .r) (s .pre .1 .1 .1 .r-ok))
+
+returns : tie.Need-returns
+returns c = direct-none _ _ _ _ _ _ _ _
+
+mul-if2 : tie.Need-mul-if2
+mul-if2 c = search needs
+
+shared-slice-read-if2 : tie.Need-shared-slice-read-if2
+shared-slice-read-if2 c = search needs
+
+returns-2 : tie.Need-returns-2
+returns-2 c =
+    let p = c .before .before .before .before .before .before .before .before .before .before .pre in
+    direct-of _ _ _ _ _ _ _ _ _ (p .1 .1 .1) (c .before .before .before .least-sum .ensures) (omega arith) (c .if2 .taken)
+
+returns-3 : tie.Need-returns-3
+returns-3 c = direct-none _ _ _ _ _ _ _ _
+
+pub direct-half-spec : {M : Type 1} → statement M
+direct-half-spec =
+    tie.close
+    (tie.spec
+    mul-least-sum
+    shared-slice-read-least-sum
+    least-sum-requires
+    returns
+    mul-if2
+    shared-slice-read-if2
+    returns-2
+    returns-3)
