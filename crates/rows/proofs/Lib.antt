@@ -1,3 +1,4 @@
 pub mod Totals
 pub mod Passes
 pub mod Turning
+pub mod Again

@@ -24,39 +24,41 @@ use Rattle.rows.specs.Turns.{Tables, NodesRoom, Due, TurnDone, RowDone, 
 use Rattle.rows.proofs.Passes.{path-lines, path-spelt, row-is, closing-ok, codes-ok}
 
 module _ {ls : List ℤ} {n cnt number t : ℕ} {tip long head next fars add : List ℕ} (tb : Tables ls n t tip long) (d : Due ls n cnt number tip head next fars add) where
-  x : Next n (standing ls) tip (d .close) (d .i) cnt head next fars add (d .going)
-  x = going-turn n (standing ls) tip (d .close) (d .i) cnt head next fars add (d .going) (d .left)
+  pub turn-line : Next n (standing ls) tip (d .close) (d .i) cnt head next fars add (d .going)
+  turn-line = going-turn n (standing ls) tip (d .close) (d .i) cnt head next fars add (d .going) (d .left)
 
-  abbrev path-of : List Pass
-  path-of = shortest (n - 1) (only (d .going .sub) (standing ls)) (x .c .to) (x .c .from)
+  abbrev pub path-of : List Pass
+  path-of = shortest (n - 1) (only (d .going .sub) (standing ls)) (turn-line .c .to) (turn-line .c .from)
 
-  taking : Taking (standing ls) (d .going .sub) (x .c) n (length ls / 5 + 1) cnt number tip long head next fars add
-  taking = record { listed = tb .listed; drawn = d .going .drawn; isLine = x .isLine; its = sym (d .number-is ∙ x .number) }
+  pub taking : Taking (standing ls) (d .going .sub) (turn-line .c) n (length ls / 5 + 1) cnt number tip long head next fars add
+  taking = record { listed = tb .listed; drawn = d .going .drawn; isLine = turn-line .isLine; its = sym (d .number-is ∙ turn-line .number) }
 
   pub takes-of : {best seg path : List ℕ} → NodesRoom ls next fars add → Rooms n best seg path → Takes n cnt number tip long head next fars add best seg path
   takes-of nr ro = record {
     tips = tb .tips;
     longs = tb .longs;
     rooms = ro;
-    nexts = omega (arith, d .going .room, ap length (x .is), nr .nexts);
-    ends = omega (arith, d .going .room, ap length (x .is), nr .ends);
-    adds = omega (arith, d .going .room, ap length (x .is), nr .adds);
+    nexts = omega (arith, d .going .room, ap length (turn-line .is), nr .nexts);
+    ends = omega (arith, d .going .room, ap length (turn-line .is), nr .ends);
+    adds = omega (arith, d .going .room, ap length (turn-line .is), nr .adds);
     q = length ls / 5 + 1;
     lines = standing ls;
     sub = d .going .sub;
-    c = x .c;
+    c = turn-line .c;
     taking = taking;
   }
 
-  lines-of : (p : Pass) → List·Memᴰ p (shortest (n - 1) (only (d .going .sub) (standing ls)) (x .c .to) (x .c .from)) → List·Memᴰ (p .line) (standing ls)
-  lines-of p i = of-only (d .going .sub) (standing ls) (p .line) (path-lines (n - 1) (only (d .going .sub) (standing ls)) (x .c .to) (x .c .from) p i) .0
+  pub lines-of : (p : Pass) → List·Memᴰ p (shortest (n - 1) (only (d .going .sub) (standing ls)) (turn-line .c .to) (turn-line .c .from)) → List·Memᴰ (p .line) (standing ls)
+  lines-of p i = of-only (d .going .sub) (standing ls) (p .line) (path-lines (n - 1) (only (d .going .sub) (standing ls)) (turn-line .c .to) (turn-line .c .from) p i) .0
 
   module _ {path path′ head′ next′ fars′ add′ : List ℕ} {count nodes : ℕ} (room : n ≤ length path) (tk : Taken n cnt number tip long head next fars add path head′ next′ fars′ add′ path′ count nodes) where
-    took : Took (standing ls) (d .going .sub) (x .c) n cnt tip path head′ next′ fars′ add′ path′ count nodes
-    took = tk (length ls / 5 + 1) (standing ls) (d .going .sub) (x .c) taking
+    pub took : Took (standing ls) (d .going .sub) (turn-line .c) n cnt tip path head′ next′ fars′ add′ path′ count nodes
+    took = tk (length ls / 5 + 1) (standing ls) (d .going .sub) (turn-line .c) taking
 
-    spelt : take count path′ ≡ codes (shortest (n - 1) (only (d .going .sub) (standing ls)) (x .c .to) (x .c .from))
-    spelt = path-spelt n path-of path path′ count room (took .written)
+    pub spelt : take count path′ ≡ codes (shortest (n - 1) (only (d .going .sub) (standing ls)) (turn-line .c .to) (turn-line .c .from))
+    spelt =
+        let w = took .written in
+        ap₂ take (w .count) (w .places) ∙ path-taken n (length ls / 5 + 1) ls tip long (tb .listed) path path-of (omega (arith, w .count, w .few))
 
     pub row-asked : RowAsked ls long path′ count number t
     row-asked = record {
@@ -68,23 +70,20 @@ module _ {ls : List ℤ} {n cnt number t : ℕ} {tip long head next fars add : L
         ok = λ j h. subst (HalfOk ls) (ap (λ (l : List ℕ). getD l j 0) (sym spelt) ∙ getD-take count path′ j 0 h)
             (codes-ok n (length ls / 5 + 1) ls tip long (tb .listed) path-of lines-of refl j (omega (arith, w .count)));
       };
-      closing = closing-ok n (length ls / 5 + 1) ls tip long (tb .listed) (x .c) (x .isLine) refl number (sym (d .number-is ∙ x .number));
+      closing = closing-ok n (length ls / 5 + 1) ls tip long (tb .listed) (turn-line .c) (turn-line .isLine) refl number (sym (d .number-is ∙ turn-line .number));
       tolerance = tb .tolerance;
     }
       where
-        w : Written n (shortest (n - 1) (only (d .going .sub) (standing ls)) (x .c .to) (x .c .from)) path path′ count
+        w : Written n (shortest (n - 1) (only (d .going .sub) (standing ls)) (turn-line .c .to) (turn-line .c .from)) path path′ count
         w = took .written
 
-    pub turn-done : TurnDone ls n cnt number t tip long head next fars add head′ next′ fars′ add′ path′ count nodes d
-    turn-done = record {
-      going = going-next n (standing ls) tip (d .close) (d .i) cnt head next fars add (d .going) x took;
-      c = x .c;
-      path = shortest (n - 1) (only (d .going .sub) (standing ls)) (x .c .to) (x .c .from);
-      more = going-more n (standing ls) tip (d .close) (d .i) cnt head next fars add (d .going) x took;
-      its = d .number-is ∙ x .number;
-      spelt = spelt;
-      row-is = ap₂ (λ (k : ℕ) (hs : List ℕ). rowOf t ls long k hs) (d .number-is ∙ x .number) spelt
-          ∙ row-is n (length ls / 5 + 1) ls tip long (tb .listed) t (x .c) path-of (x .isLine) lines-of;
+    abbrev pub row-done : (out′ : List ℤ) → out′ ≡ rowOf t ls long number (take count path′) → RowDone ls n cnt number t tip head next fars add head′ next′ fars′ add′ out′ nodes d
+    row-done out′ e = record {
+      going = going-next n (standing ls) tip (d .close) (d .i) cnt head next fars add (d .going) turn-line took;
+      lp = pass (turn-line .c) true ∷ shortest (n - 1) (only (d .going .sub) (standing ls)) (turn-line .c .to) (turn-line .c .from);
+      more = going-more n (standing ls) tip (d .close) (d .i) cnt head next fars add (d .going) turn-line took;
+      its = e ∙ ap₂ (λ (k : ℕ) (hs : List ℕ). rowOf t ls long k hs) (d .number-is ∙ turn-line .number) spelt
+          ∙ row-is n (length ls / 5 + 1) ls tip long (tb .listed) t (turn-line .c) path-of (turn-line .isLine) lines-of;
     }
 
     pub row-done : (out′ : List ℤ) → out′ ≡ rowOf t ls long number (take count path′) → RowDone ls n cnt number t tip head next fars add head′ next′ fars′ add′ out′ nodes d
@@ -92,7 +91,7 @@ module _ {ls : List ℤ} {n cnt number t : ℕ} {tip long head next fars add : L
 
 -- ---- row by row
 
-rows-more : (t : ℕ) (done : List Loop) (lp : Loop) → rows t (done ++ (lp ∷ [])) ≡ rows t done ++ row t lp
+pub rows-more : (t : ℕ) (done : List Loop) (lp : Loop) → rows t (done ++ (lp ∷ [])) ≡ rows t done ++ row t lp
 unfolding rows
 rows-more t [] lp = append-nil (row t lp)
 rows-more t (l ∷ done) lp = ap (λ (r : List ℤ). row t l ++ r) (rows-more t done lp) ∙ sym (append-assoc (row t l) (rows t done) (row t lp))
@@ -101,7 +100,7 @@ length-row : (t : ℕ) (lp : Loop) → length (row t lp) ≡ 5
 unfolding row
 length-row t lp = refl
 
-length-rows : (t : ℕ) (done : List Loop) → length (rows t done) ≡ length done * 5
+pub length-rows : (t : ℕ) (done : List Loop) → length (rows t done) ≡ length done * 5
 unfolding rows
 length-rows t [] = refl
 length-rows t (l ∷ done) = length-append (row t l) (rows t done) ∙ omega (arith, length-row t l, length-rows t done)
@@ -120,7 +119,7 @@ module _ {ls : List ℤ} {n t : ℕ} {tip close : List ℕ} where
     abbrev pub rows-due : i < length (loops (n - 1) (standing ls)) → (number : ℕ) → number ≡ getD close i 0 → Due ls n cnt number tip head next fars add
     rows-due lt number e = record { i = i; close = close; going = r .going; left = lt; number-is = e }
 
-    pub rows-next : {number nodes : ℕ} {head′ next′ fars′ add′ : List ℕ} (lt : i < length (loops (n - 1) (standing ls))) (e : number ≡ getD close i 0) (vs : List ℤ)
+    abbrev pub rows-next : {number nodes : ℕ} {head′ next′ fars′ add′ : List ℕ} (lt : i < length (loops (n - 1) (standing ls))) (e : number ≡ getD close i 0) (vs : List ℤ)
         → RowTaken ls n cnt number t tip head next fars add head′ next′ fars′ add′ vs nodes
         → RowsAt ls n (i + 1) nodes t tip close head′ next′ fars′ add′ out₀ (putMid (i * 5) (i * 5 + 5 - i * 5) out vs)
     rows-next {number = number} lt e vs tk =
@@ -131,18 +130,16 @@ module _ {ls : List ℤ} {n t : ℕ} {tip close : List ℕ} where
               (ap (λ (v : List ℤ). rows t (r .going .done) ++ v) (x .its) ∙ sym (rows-more t (r .going .done) (x .lp)) ∙ ap (rows t) (sym (x .more)));
         }
 
-    pub rows-end : (count : ℕ) → count ≡ length (loops (n - 1) (standing ls)) → i ≡ count → out ≡ rows t (loops (n - 1) (standing ls)) ++ drop (count * 5) out₀
-    rows-end count e z = r .places ∙ ap₂ (λ (l : List Loop) (k : ℕ). rows t l ++ drop (k * 5) out₀) (sym all) z
+    pub all-done : (count : ℕ) → count ≡ length (loops (n - 1) (standing ls)) → i ≡ count → loops (n - 1) (standing ls) ≡ r .going .done
+    all-done count e z =
+        r .going .reached .all
+        ∙ ap (λ (l : List Loop). r .going .done ++ l) (nothing (loopsFrom (n - 1) (standing ls) (r .going .rest) (r .going .sub))
+        (omega (arith, e, z, r .going .count, ap length (r .going .reached .all), length-append (r .going .done) (loopsFrom (n - 1) (standing ls) (r .going .rest) (r .going .sub)))))
+        ∙ append-nil (r .going .done)
       where
         nothing : (l : List Loop) → length l ≡ 0 → l ≡ []
         nothing [] q = refl
         nothing (x ∷ l) q = absurd (omega arith)
 
-        rest : List Loop
-        rest = loopsFrom (n - 1) (standing ls) (r .going .rest) (r .going .sub)
-
-        all : loops (n - 1) (standing ls) ≡ r .going .done
-        all = r .going .reached .all
-            ∙ ap (λ (l : List Loop). r .going .done ++ l) (nothing (loopsFrom (n - 1) (standing ls) (r .going .rest) (r .going .sub))
-            (omega (arith, e, z, r .going .count, ap length (r .going .reached .all), length-append (r .going .done) (loopsFrom (n - 1) (standing ls) (r .going .rest) (r .going .sub)))))
-            ∙ append-nil (r .going .done)
+    pub rows-end : (count : ℕ) → count ≡ length (loops (n - 1) (standing ls)) → i ≡ count → out ≡ rows t (loops (n - 1) (standing ls)) ++ drop (count * 5) out₀
+    rows-end count e z = r .places ∙ ap₂ (λ (l : List Loop) (k : ℕ). rows t l ++ drop (k * 5) out₀) (sym (all-done count e z)) z
