@@ -4,3 +4,4 @@ pub mod SameNumbers
 pub mod Keeping
 pub mod Corrected
 pub mod Places
+pub mod Remeasured

@@ -5,7 +5,12 @@ ghost use mathlib.Core.List.{_++_};
 ghost use lib.ListN.{length, set};
 ghost use Rattle.survey.specs.GoodLines.{GoodLines};
 ghost use Rattle.survey.specs.Stands.{Sets};
-ghost use Rattle.survey.specs.Kept.{keptOf, Refresh, Refreshed};
+ghost use lib.IntN.{natAbs};
+ghost use Rattle.book.specs.Line.{differenceField};
+ghost use Rattle.book.specs.Limits.{mostDifference};
+ghost use Rattle.rows.specs.Again.{Again};
+ghost use Rattle.survey.specs.Survey.{surveyed};
+ghost use Rattle.survey.specs.Kept.{keptOf, rerunKept, Refresh, Refreshed};
 ghost use Rattle.survey.specs.Report.{counted, reportOf};
 ghost use Rattle.survey.specs.Correction.{noLine, placeOf, corrected, correctGood};
 use crate::Answer;
@@ -82,4 +87,48 @@ pub fn correct_good(
     let at = (signed::magnitude(number) - 1) * Line::WORDS + field;
     lines[at] = value;
     refresh(book, lines, report, before)
+}
+
+// Refusal 9, or the report becomes that of the book with one line run again.
+fn rerun_report(book: Book, lines: &[i64], again: &[i64], report: &mut [i64]) -> Answer
+    requires { ⌜ GoodLines book (now lines) × Again (now lines) (now again) ⌝ }
+    ensures { λ r. ⌜ surveyed r (now (report .exit)) ≡ rerunKept book (now (lines .entry)) (now (again .entry)) (now (report .entry)) ⌝ }
+{
+    let mut rows = [0i64; 2560];
+    let mut fresh = [0i64; 2560];
+    let a = work::survey_again(book, lines, again, &mut rows[..], &mut fresh[..]);
+    let words = a.rows * work::ROW_WORDS;
+    if kept::differs(report, &rows[..words]) {
+        return crate::refuse(9, 0);
+    }
+    kept::put(&fresh[..words], report);
+    a
+}
+
+// Refusals 8 and 9, or the difference of the line is set and the report brought up to date. A re-run keeps every loop's lines, so that one survey
+// gives the rows of before and after.
+pub fn rerun_good(
+    book: Book,
+    lines: &mut [i64],
+    report: &mut [i64],
+    number: i64,
+    difference: i64,
+) -> Answer
+    requires { ⌜ GoodLines book (now lines) ⌝ ∗ ⌜ natAbs difference ≤ mostDifference ⌝ }
+    ensures { λ r. ⌜ corrected r (now (lines .exit)) (now (report .exit)) ≡ correctGood book (now (lines .entry)) (now (report .entry)) number (set (now (lines .entry)) (placeOf number differenceField) difference) ⌝ }
+{
+    if no_line(lines, number) {
+        return crate::refuse(8, 0);
+    }
+    let at = (signed::magnitude(number) - 1) * Line::WORDS + Line::DIFFERENCE;
+    let mut again = [0i64; 2560];
+    let words = lines.len();
+    kept::put(lines, &mut again[..]);
+    again[at] = difference;
+    let a = rerun_report(book, lines, &again[..words], report);
+    if 0 < a.number {
+        return a;
+    }
+    lines[at] = difference;
+    a
 }

@@ -57,14 +57,7 @@ pub fn rerun(
     }
     match book::test(b, t, held, lines) {
         Tested::Refused(r) => refuse(r.number, r.place),
-        Tested::Good(book) => correct::correct_good(
-            book,
-            lines,
-            report,
-            line,
-            Line::DIFFERENCE,
-            difference,
-        ),
+        Tested::Good(book) => correct::rerun_good(book, lines, report, line, difference),
     }
 }
 

@@ -4,7 +4,9 @@ use native.Mathlib.Omega.{arith}
 use Rattle.book.specs.Test.{testOf}
 use Rattle.book.proofs.Goods.{tested-good}
 use Rattle.survey.specs.Correction.{correctTested, rerunLines, rerunOf}
-use Rattle.survey.specs.Stands.{Sets, re-run}
+use Prim.Native.Nat.{_≤_}
+use lib.IntN.{natAbs}
+use Rattle.book.specs.Limits.{mostDifference}
 use Rattle.survey.proofs.Sounding.{good-lines}
 use Rattle.laws.proofs.Size.{size-within}
 use Rattle.book.specs.Line.{differenceOut}
@@ -15,7 +17,7 @@ use Rattle.survey.proofs.rerun.Reads as reads
 use Rattle.survey.proofs.rerun.Lts as lts
 use Rattle.book.proofs.line.Line.outside_difference.Reads as outside-difference-reads
 use Rattle.book.proofs.test.Reads as test-reads
-use Rattle.survey.proofs.correct.correct_good.Reads as correct-good-reads
+use Rattle.survey.proofs.correct.rerun_good.Reads as rerun-good-reads
 use Rattle.survey.proofs.refuse.Reads as refuse-reads
 
 outside-difference-requires : tie.Need-outside-difference-requires
@@ -49,15 +51,15 @@ tested : (c : tie.After-test) → (let a = c .before .before .before .before .ar
 tested c = c .test .ensures ∙ search needs
 
 -- the difference is inside its limit
-sets : (c : tie.Else1) → Sets 2 (c .before .before .args .difference)
+small : (c : tie.Else1) → natAbs (c .before .before .args .difference) ≤ mostDifference
 unfolding differenceOut
-sets c = re-run refl (size-within 99999999 _ (sym (flag (c .before)) ∙ c .if1 .left))
+small c = size-within 99999999 _ (sym (flag (c .before)) ∙ c .if1 .left)
 
-correct-good-requires : tie.Need-correct-good-requires
-correct-good-requires c κs =
+rerun-good-requires : tie.Need-rerun-good-requires
+rerun-good-requires c κs =
     let g = c .before .before .before in
     let a = c .before .before .before .before .before .before .before .before .before .args in
-    (good-lines _ _ _ _ _ (tested-good (a .b) (a .t) (a .held .now) (a .lines .now) (g .book .given .0 .0) (sym (tested (c .before .before .before .before .before)) ∙ g .book .given .1)), rw (toZ-ofZ (c .before .before .before .before .before .before .before .before .before .fits .difference)) (sets (c .before .before .before .before .before .before .before)))
+    (good-lines _ _ _ _ _ (tested-good (a .b) (a .t) (a .held .now) (a .lines .now) (g .book .given .0 .0) (sym (tested (c .before .before .before .before .before)) ∙ g .book .given .1)), rw (toZ-ofZ (c .before .before .before .before .before .before .before .before .before .fits .difference)) (small (c .before .before .before .before .before .before .before)))
 
 same-length : tie.Need-same-length
 same-length c = search needs
@@ -75,7 +77,7 @@ same-length-3 c = search needs
 returns-3 : tie.Need-returns-3
 unfolding rerunOf correctTested rerunLines
 returns-3 c =
-    let e = c .before .before .correct-good .ensures in
+    let e = c .before .before .rerun-good .ensures in
     rw (← (flag (c .before .before .before .before .before .before .before .before .before .before .before)), c .before .before .before .before .before .before .before .before .before .before .if1 .left, ← (tested (c .before .before .before .before .before .before .before .before)), c .before .before .before .before .before .before .book .given .1) (e ∙ search needs)
 
 pub rerun-spec : {M : Type 1} → statement M
@@ -89,7 +91,7 @@ rerun-spec =
     enum-known-r
     refuse-requires-2
     enum-known-book
-    correct-good-requires
+    rerun-good-requires
     same-length
     returns-2
     same-length-2

@@ -1,0 +1,105 @@
+use Prim.Native.Nat.{_*_, _≤_}
+use mathlib.Core.Path.{_≡_, refl, sym, _∙_}
+use native.Mathlib.Omega.{arith}
+use lib.ListN.{length, length-take}
+use Rattle.survey.specs.Correction.{otherReport}
+use Rattle.survey.proofs.SameNumbers.{long-enough}
+use Rattle.survey.proofs.Keeping.{fresh, few-words, words-are, front-is, answer-is}
+use Rattle.survey.proofs.Remeasured.{again-good, kept-nine, kept-done}
+use borrow.Author.Needs.{needs}
+use Rattle.survey.proofs.correct.rerun_report.Statement.{statement}
+use Rattle.survey.proofs.correct.rerun_report.Tie as tie
+use Rattle.survey.proofs.correct.rerun_report.Reads as reads
+use Rattle.survey.proofs.correct.rerun_report.Lts as lts
+use Rattle.survey.proofs.kept.differs.Reads as differs-reads
+use Rattle.survey.proofs.kept.put.Reads as put-reads
+use Rattle.survey.proofs.refuse.Reads as refuse-reads
+use Rattle.survey.proofs.work.survey_again.Reads as survey-again-reads
+
+slice-aggregate-survey-again : tie.Need-slice-aggregate-survey-again
+slice-aggregate-survey-again c = search needs
+
+slice-aggregate-survey-again-2 : tie.Need-slice-aggregate-survey-again-2
+slice-aggregate-survey-again-2 c = search needs
+
+survey-again-requires : tie.Need-survey-again-requires
+survey-again-requires c κs = search needs
+
+-- the rows of the book are in the first places
+few : (c : tie.After-survey-again) → c .survey-again .result .rows * 5 ≤ 2560
+few c = let s = c .before .before .before in few-words (s .args .book) (s .args .lines .now) (s .pre .0) _ _ _ refl (c .survey-again .ensures .0)
+
+words : (c : tie.After-survey-again) → (let s = c .before .before .before in c .survey-again .result .rows * 5 ≡ length (fresh (s .args .book) (s .args .lines .now) (s .pre .0)))
+words c = let s = c .before .before .before in words-are (s .args .book) (s .args .lines .now) (s .pre .0) _ _ _ refl (c .survey-again .ensures .0)
+
+-- the flag that the code has is the definition's comparison
+flag : (c : tie.After-differs) → (let s = c .before .before .before .before .before .before .before .before .before in c .differs .result ≡ otherReport (s .args .report .now) (fresh (s .args .book) (s .args .lines .now) (s .pre .0)))
+flag c = let s = c .before .before .before .before .before .before .before .before .before in rw (front-is (s .args .book) (s .args .lines .now) (s .pre .0) _ _ _ refl (c .before .before .before .before .before .before .survey-again .ensures .0)) at (c .differs .ensures)
+
+mul-words : tie.Need-mul-words
+mul-words c = let f = few (c .before .before .before) in omega arith
+
+array-share-prefix-rows : tie.Need-array-share-prefix-rows
+array-share-prefix-rows c = let f = few (c .before .before .before .before) in let k = c .before .before .before .before .survey-again .kept in omega (arith, k .1 .1 .1 .0)
+
+slice-aggregate-differs : tie.Need-slice-aggregate-differs
+slice-aggregate-differs c = let f = few (c .before .before .before .before .before) in let k = c .before .before .before .before .before .survey-again .kept in simp length-take (omega (arith, k .1 .1 .1 .0))
+
+differs-requires : tie.Need-differs-requires
+differs-requires c κs = search needs
+
+refuse-requires : tie.Need-refuse-requires
+refuse-requires c κs = search needs
+
+same-length : tie.Need-same-length
+same-length c = search needs
+
+returns : tie.Need-returns
+returns c =
+    let s = c .before .before .before .before .before .before .before .before .before .before .before in
+    rw (c .refuse .ensures) (kept-nine (s .args .book) (s .args .lines .now) (s .args .again .now) (s .pre .0) (s .pre .1) (s .args .report .now) _ (flag (c .before .before)) (c .before .if1 .taken))
+
+array-share-prefix-fresh : tie.Need-array-share-prefix-fresh
+array-share-prefix-fresh c = let f = few (c .before .before .before .before .before .before .before) in let k = c .before .before .before .before .before .before .before .survey-again .kept in omega (arith, k .1 .1 .1 .1 .0)
+
+slice-aggregate-put : tie.Need-slice-aggregate-put
+slice-aggregate-put c = let f = few (c .before .before .before .before .before .before .before .before) in let k = c .before .before .before .before .before .before .before .before .survey-again .kept in simp length-take (omega (arith, k .1 .1 .1 .1 .0))
+
+put-requires : tie.Need-put-requires
+put-requires c κs =
+    let f = few (c .before .before .before .before .before .before .before .before .before) in
+    let w = words (c .before .before .before .before .before .before .before .before .before) in
+    let k = c .before .before .before .before .before .before .before .before .before .survey-again .kept in
+    let o = long-enough _ _ (sym (flag (c .before .before .before)) ∙ c .before .before .if1 .left) in
+    simp length-take (omega (arith, k .1 .1 .1 .1 .0, w, o))
+
+same-length-2 : tie.Need-same-length-2
+same-length-2 c = search needs
+
+returns-2 : tie.Need-returns-2
+returns-2 c =
+    let s = c .before .before .before .before .before .before .before .before .before .before .before .before .before .before in
+    let v = c .before .before .before .before .before .before .before .before .before .before .before .survey-again .ensures .1 in
+    let g = again-good (s .args .book) (s .args .lines .now) (s .args .again .now) (s .pre .0) (s .pre .1) in
+    kept-done (s .args .book) (s .args .lines .now) (s .args .again .now) (s .pre .0) (s .pre .1) (s .args .report .now) _ (flag (c .before .before .before .before .before)) (c .before .before .before .before .if1 .left) _
+    (answer-is (s .args .book) (s .args .again .now) g _ _ _ refl v) _ (rw (front-is (s .args .book) (s .args .again .now) g _ _ _ refl v) at (c .before .put .ensures))
+
+pub rerun-report-spec : {M : Type 1} → statement M
+rerun-report-spec =
+    tie.close
+    (tie.spec
+    slice-aggregate-survey-again
+    slice-aggregate-survey-again-2
+    survey-again-requires
+    mul-words
+    array-share-prefix-rows
+    slice-aggregate-differs
+    differs-requires
+    refuse-requires
+    same-length
+    returns
+    array-share-prefix-fresh
+    slice-aggregate-put
+    put-requires
+    same-length-2
+    returns-2)
