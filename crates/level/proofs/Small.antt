@@ -5,8 +5,9 @@ use native.Mathlib.Omega.{arith}
 use mathlib.Core.Path.{_≡_, refl, sym, subst}
 use mathlib.Core.Logic.{_⊎_, inl, inr}
 use mathlib.Core.Bool.{Bool, true, false}
-use mathlib.Core.List.{List}
+use mathlib.Core.List.{List, map}
 use lib.Dec.{ltb}
+use borrow.Author.Tests.{ltb-false}
 use lib.IntN.{ℤ, pos, natAbs}
 use lib.ListN.{length, getD, set}
 use Rattle.laws.specs.Tests.{outZ, eqZ}
@@ -25,9 +26,12 @@ use Rattle.network.specs.Standing.{standing}
 use Rattle.network.proofs.Entries.{tree-lines-count}
 use Rattle.survey.specs.GoodLines.{GoodLines}
 use Rattle.survey.specs.Stands.{Sets, re-run, withdrawal}
-use Rattle.survey.specs.Report.{reportOf, loopsOf, piecesOf, refusal, counted}
+use Rattle.survey.specs.Report.{loopsOf, reportOf, piecesOf, refusal, counted}
 use Rattle.survey.specs.Survey.{Surveyed, surveyGood, surveyTested, surveyOf}
 use Rattle.survey.specs.Correction.{Corrected, noLine, otherReport, placeOf, correctGood, correctTested, rerunLines, withdrawLines, rerunOf, withdrawOf}
+use Rattle.survey.specs.Listing.{Listing, unlisted, listOf, loopAt, listingGood, listingTested, listingOf}
+use Rattle.survey.specs.NotChecked.{uncheckedOf, notCheckedTested, notCheckedOf}
+use Rattle.loops.specs.Row.{listed}
 use Rattle.survey.proofs.Sounding.{good-lines, lines-sound, few-loops}
 use Rattle.survey.proofs.Corrected.{stands-of, corrected-good}
 use Rattle.adjust.specs.Rates.{refusedRate, lineRate, firstHigh, goodRate, testedRate, rateAnswer}
@@ -37,6 +41,7 @@ use Rattle.file.specs.Read.{readOf}
 use Rattle.file.proofs.Reading.{ReadOrRefused, read-or-refused}
 use Rattle.level.specs.Signed.{Small, SmallRead}
 use Rattle.level.specs.Answers.{SmallAnswer}
+use Rattle.level.specs.Listings.{SmallListed}
 use Rattle.level.specs.Rating.{SmallRate}
 
 pub read-small : (file : List ℕ) (held lines : List ℤ) → SmallRead (readOf file held lines .answer)
@@ -75,6 +80,17 @@ counted-small k lines g =
       rows = omega (arith, few-loops k lines g, g .few);
       pieces = omega (arith, tree-lines-count (k .marks) (standing lines) (lines-sound k lines g), g .few-marks);
     }
+
+unlisted-small : (number place : ℕ) → number ≤ 13 → place ≤ 512 → SmallListed (unlisted number place)
+unlisted-small number place high near = record { number = omega arith; place = omega arith; entries = omega arith }
+
+-- no more entries than places
+list-small : (list out : List ℤ) → Small (length out) → SmallListed (listOf list out .answer)
+unfolding listOf
+list-small list out small =
+    cond-ind (λ (o : Listing). SmallListed (o .answer)) (ltb (length out) (length list)) _ _
+    (λ _. unlisted-small 10 0 (omega arith) (omega arith))
+    (λ fits. let f = ltb-false (length out) (length list) fits in record { number = omega arith; place = omega arith; entries = omega arith })
 
 module _ (b t : ℤ) (held lines : List ℤ) where
   -- the test's own refusals
@@ -125,6 +141,29 @@ module _ (b t : ℤ) (held lines : List ℤ) where
     pub withdraw-small : SmallAnswer (withdrawOf b t held lines report number .answer)
     unfolding withdrawOf withdrawLines
     withdraw-small = corrected-small 4 (pos 0) (withdrawal refl refl)
+
+  module _ (out : List ℤ) (small : Small (length out)) where
+    untested-small : (r : Refusal) → testOf b t held lines ≡ Refused r → SmallListed (unlisted (r .number) (r .place))
+    untested-small r e = let n = tested-numbered b t held lines r e in unlisted-small (r .number) (r .place) (omega (arith, n .high)) (n .near)
+
+    pub listing-small : (number : ℤ) → SmallListed (listingOf b t held lines number out .answer)
+    unfolding listingOf listingTested listingGood
+    listing-small number = go (testOf b t held lines) refl
+      where
+        go : (x : Tested) → testOf b t held lines ≡ x → SmallListed (listingTested lines number out x .answer)
+        go (Refused r) e = untested-small r e
+        go (Good k) e =
+            cond-ind (λ (o : Listing). SmallListed (o .answer)) (outZ (pos 1) (pos (length (loopsOf (k .marks) lines))) number) _ _
+            (λ _. unlisted-small 8 0 (omega arith) (omega arith))
+            (λ _. list-small (map listed (loopAt (loopsOf (k .marks) lines) (natAbs number - 1))) out small)
+
+    pub not-checked-small : SmallListed (notCheckedOf b t held lines out .answer)
+    unfolding notCheckedOf notCheckedTested
+    not-checked-small = go (testOf b t held lines) refl
+      where
+        go : (x : Tested) → testOf b t held lines ≡ x → SmallListed (notCheckedTested lines out x .answer)
+        go (Refused r) e = untested-small r e
+        go (Good k) e = list-small (uncheckedOf (k .marks) lines) out small
 
   module _ (heights : List ℤ) (line : ℤ) where
     rate-refusal-small : (number place : ℕ) → number ≤ 13 → place ≤ 512 → SmallRate (refusedRate number place)

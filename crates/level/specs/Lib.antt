@@ -1,3 +1,4 @@
 pub mod Signed
 pub mod Answers
+pub mod Listings
 pub mod Rating

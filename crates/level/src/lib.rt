@@ -7,6 +7,7 @@ ghost use Rattle.survey.specs.Correction.{rerunOf, withdrawOf};
 ghost use Rattle.adjust.specs.Rates.{rateAnswer};
 ghost use Rattle.level.specs.Signed.{SmallRead, signedRead, readNow, ofRead};
 ghost use Rattle.level.specs.Answers.{SmallAnswer, signedAnswer, surveyNow, ofSurvey, correctionNow, ofCorrection};
+ghost use Rattle.level.specs.Listings.{SmallListed, signedListed};
 ghost use Rattle.level.specs.Rating.{SmallRate, signedRate};
 use adjust::rates::Rate;
 use adjust::rates::RateAnswer;
@@ -104,6 +105,25 @@ pub extern "C" fn level_withdraw(
     ensures { λ r. ⌜ correctionNow r (now (lines .exit)) (now (report .exit)) ≡ ofCorrection (withdrawOf b t (now (held .entry)) (now (lines .entry)) (now (report .entry)) line) ⌝ }
 {
     survey_answer(survey::withdraw(b, t, held, lines, report, line))
+}
+
+// What the two listings answer.
+#[repr(C)]
+pub struct Listed {
+    pub number: i64,
+    pub place: i64,
+    pub entries: i64,
+}
+
+fn listing_answer(a: survey::Listed) -> Listed
+    requires { ⌜ SmallListed a ⌝ }
+    ensures { λ r. ⌜ r ≡ signedListed a ⌝ }
+{
+    Listed {
+        number: signed::signed_count(a.number),
+        place: signed::signed_count(a.place),
+        entries: signed::signed_count(a.entries),
+    }
 }
 
 // What the rate call answers: withdrawn is 1 of a withdrawn line, else 0.

@@ -166,7 +166,7 @@ fn survey_again_in(
     let count = start.count;
     let nodes = start.nodes;
     let t = book.tolerance;
-    rows::write_rows_again(
+    rows::rerun::write_rows_again(
         lines,
         again,
         tip,

@@ -14,7 +14,7 @@ use Rattle.survey.proofs.work.survey_again_in.Reads as reads
 use Rattle.survey.proofs.work.survey_again_in.Lts as lts
 use Rattle.prepare.proofs.order_loops.Reads as order-loops-reads
 use Rattle.prepare.proofs.plant_book.Reads as plant-book-reads
-use Rattle.rows.proofs.write_rows_again.Reads as write-rows-again-reads
+use Rattle.rows.proofs.rerun.write_rows_again.Reads as write-rows-again-reads
 
 add-n : tie.Need-add-n
 add-n c = search needs

@@ -5,8 +5,8 @@ use lib.ListN.{length, length-take, length-drop}
 use Rattle.rows.specs.Again.{BothAt}
 use Rattle.rows.proofs.Turning.{rows-due, rows-end}
 use Rattle.rows.proofs.Again.{both-start, both-next, both-end}
-use Rattle.rows.proofs.write_rows_again.Statement.{statement}
-use Rattle.rows.proofs.write_rows_again.Tie as tie
+use Rattle.rows.proofs.rerun.write_rows_again.Statement.{statement}
+use Rattle.rows.proofs.rerun.write_rows_again.Tie as tie
 
 abbrev Inv-loop : tie.InvT-loop
 Inv-loop lines again tip long close head₀ next₀ far₀ add₀ best₀ seg₀ path₀ out₀ fresh₀ n nodes count t cnt₀ i₀ head next far add best seg path out fresh cnt i =

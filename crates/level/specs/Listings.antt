@@ -1,0 +1,26 @@
+-- What the two listings answer, with the numbers as int64, beside what the lent output then holds.
+-- Assumes nothing.
+use mathlib.Core.List.{List}
+use lib.IntN.{ℤ, pos}
+use Rattle.survey.specs.declared.Listed as survey
+use Rattle.survey.specs.Listing.{Listing}
+use Rattle.level.specs.Signed.{Small}
+use Rattle.level.specs.declared.Listed.{Listed}
+
+pub record SmallListed (a : survey.Listed) : Type 0 where
+  pub number : Small (a .number)
+  pub place : Small (a .place)
+  pub entries : Small (a .entries)
+
+unfoldable pub signedListed : survey.Listed → Listed
+signedListed a = record { number = pos (a .number); place = pos (a .place); entries = pos (a .entries) }
+
+pub record ListingNow : Type 0 where
+  pub answer : Listed
+  pub out : List ℤ
+
+abbrev pub listingNow : Listed → List ℤ → ListingNow
+listingNow a out = record { answer = a; out = out }
+
+abbrev pub ofListing : Listing → ListingNow
+ofListing o = listingNow (signedListed (o .answer)) (o .out)
