@@ -8,3 +8,4 @@ pub mod Floats
 pub mod Ring
 pub mod FirstBad
 pub mod Inside
+pub mod Laid

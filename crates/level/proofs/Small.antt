@@ -29,13 +29,13 @@ use Rattle.survey.specs.Stands.{Sets, re-run, withdrawal}
 use Rattle.survey.specs.Report.{loopsOf, reportOf, piecesOf, refusal, counted}
 use Rattle.survey.specs.Survey.{Surveyed, surveyGood, surveyTested, surveyOf}
 use Rattle.survey.specs.Correction.{Corrected, noLine, otherReport, placeOf, correctGood, correctTested, rerunLines, withdrawLines, rerunOf, withdrawOf}
-use Rattle.survey.specs.Listing.{Listing, unlisted, listOf, loopAt, listingGood, listingTested, listingOf}
-use Rattle.survey.specs.NotChecked.{uncheckedOf, notCheckedTested, notCheckedOf}
+use Rattle.lists.specs.Listing.{Listing, unlisted, listOf, loopAt, listingGood, listingTested, listingOf}
+use Rattle.lists.specs.NotChecked.{uncheckedOf, notCheckedTested, notCheckedOf}
 use Rattle.loops.specs.Row.{listed}
 use Rattle.survey.proofs.Sounding.{good-lines, lines-sound, few-loops}
 use Rattle.survey.proofs.Corrected.{stands-of, corrected-good}
-use Rattle.adjust.specs.Rates.{refusedRate, lineRate, firstHigh, goodRate, testedRate, rateAnswer}
-use Rattle.adjust.specs.declared.rates.RateAnswer.{RateAnswer}
+use Rattle.rates.specs.Rates.{refusedRate, lineRate, firstHigh, goodRate, testedRate, rateAnswer}
+use Rattle.rates.specs.declared.RateAnswer.{RateAnswer}
 use Rattle.adjust.proofs.Rating.{marks-of}
 use Rattle.file.specs.Read.{readOf}
 use Rattle.file.proofs.Reading.{ReadOrRefused, read-or-refused}

@@ -2,17 +2,17 @@
 -- Assumes nothing.
 use mathlib.Core.List.{List}
 use lib.IntN.{ℤ, pos}
-use Rattle.survey.specs.declared.Listed as survey
-use Rattle.survey.specs.Listing.{Listing}
+use Rattle.lists.specs.declared.Listed as lists
+use Rattle.lists.specs.Listing.{Listing}
 use Rattle.level.specs.Signed.{Small}
 use Rattle.level.specs.declared.Listed.{Listed}
 
-pub record SmallListed (a : survey.Listed) : Type 0 where
+pub record SmallListed (a : lists.Listed) : Type 0 where
   pub number : Small (a .number)
   pub place : Small (a .place)
   pub entries : Small (a .entries)
 
-unfoldable pub signedListed : survey.Listed → Listed
+unfoldable pub signedListed : lists.Listed → Listed
 signedListed a = record { number = pos (a .number); place = pos (a .place); entries = pos (a .entries) }
 
 pub record ListingNow : Type 0 where

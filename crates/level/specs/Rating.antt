@@ -4,9 +4,9 @@ use Prim.Native.Nat.{ℕ}
 use mathlib.Core.Bool.{false}
 use lib.IntN.{ℤ, pos}
 use lib.Ieee.{Float, fin}
-use Rattle.adjust.specs.declared.rates.Rate.{Rate}
-use Rattle.adjust.specs.declared.rates.Rate.the-variants.{PerKm, Withdrawn}
-use Rattle.adjust.specs.declared.rates.RateAnswer.{RateAnswer}
+use Rattle.rates.specs.declared.Rate.{Rate}
+use Rattle.rates.specs.declared.Rate.the-variants.{PerKm, Withdrawn}
+use Rattle.rates.specs.declared.RateAnswer.{RateAnswer}
 use Rattle.level.specs.Signed.{Small}
 use Rattle.level.specs.declared.Rated.{Rated}
 

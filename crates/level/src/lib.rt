@@ -4,13 +4,13 @@ ghost use mathlib.Core.Path.{_≡_};
 ghost use Rattle.file.specs.Read.{readOf};
 ghost use Rattle.survey.specs.Survey.{surveyOf};
 ghost use Rattle.survey.specs.Correction.{rerunOf, withdrawOf};
-ghost use Rattle.adjust.specs.Rates.{rateAnswer};
+ghost use Rattle.rates.specs.Rates.{rateAnswer};
 ghost use Rattle.level.specs.Signed.{SmallRead, signedRead, readNow, ofRead};
 ghost use Rattle.level.specs.Answers.{SmallAnswer, signedAnswer, surveyNow, ofSurvey, correctionNow, ofCorrection};
 ghost use Rattle.level.specs.Listings.{SmallListed, signedListed};
 ghost use Rattle.level.specs.Rating.{SmallRate, signedRate};
-use adjust::rates::Rate;
-use adjust::rates::RateAnswer;
+use rates::Rate;
+use rates::RateAnswer;
 
 // What the reader answers.
 #[repr(C)]
@@ -115,7 +115,7 @@ pub struct Listed {
     pub entries: i64,
 }
 
-fn listing_answer(a: survey::Listed) -> Listed
+fn listing_answer(a: lists::Listed) -> Listed
     requires { ⌜ SmallListed a ⌝ }
     ensures { λ r. ⌜ r ≡ signedListed a ⌝ }
 {

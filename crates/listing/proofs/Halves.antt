@@ -9,7 +9,7 @@ use lib.IntN.{ℤ, pos}
 use lib.ListN.{length, take, drop, getD, set, length-set, length-take, length-map}
 use lib.Seq.{take-suc-set, drop-set-lt, getD-take}
 use Rattle.listing.specs.Halves.{halfListed, halvesListed, Halves}
-use Rattle.listing.proofs.Laid.{Laid, laid-end}
+use Rattle.laws.proofs.Laid.{Laid, laid-end}
 
 pub getD-map : {A B : Type 0} (f : A → B) (xs : List A) (i : ℕ) (a : A) (b : B) → i < length xs → getD (map f xs) i b ≡ f (getD xs i a)
 getD-map f [] i a b h = absurd (omega arith)

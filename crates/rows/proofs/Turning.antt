@@ -56,9 +56,7 @@ module _ {ls : List ℤ} {n cnt number t : ℕ} {tip long head next fars add : L
     took = tk (length ls / 5 + 1) (standing ls) (d .going .sub) (turn-line .c) taking
 
     pub spelt : take count path′ ≡ codes (shortest (n - 1) (only (d .going .sub) (standing ls)) (turn-line .c .to) (turn-line .c .from))
-    spelt =
-        let w = took .written in
-        ap₂ take (w .count) (w .places) ∙ path-taken n (length ls / 5 + 1) ls tip long (tb .listed) path path-of (omega (arith, w .count, w .few))
+    spelt = path-spelt n path-of path path′ count room (took .written)
 
     pub row-asked : RowAsked ls long path′ count number t
     row-asked = record {
@@ -77,16 +75,19 @@ module _ {ls : List ℤ} {n cnt number t : ℕ} {tip long head next fars add : L
         w : Written n (shortest (n - 1) (only (d .going .sub) (standing ls)) (turn-line .c .to) (turn-line .c .from)) path path′ count
         w = took .written
 
-    abbrev pub row-done : (out′ : List ℤ) → out′ ≡ rowOf t ls long number (take count path′) → RowDone ls n cnt number t tip head next fars add head′ next′ fars′ add′ out′ nodes d
-    row-done out′ e = record {
+    abbrev pub turn-done : TurnDone ls n cnt number t tip long head next fars add head′ next′ fars′ add′ path′ count nodes d
+    turn-done = record {
       going = going-next n (standing ls) tip (d .close) (d .i) cnt head next fars add (d .going) turn-line took;
-      lp = pass (turn-line .c) true ∷ shortest (n - 1) (only (d .going .sub) (standing ls)) (turn-line .c .to) (turn-line .c .from);
+      c = turn-line .c;
+      path = shortest (n - 1) (only (d .going .sub) (standing ls)) (turn-line .c .to) (turn-line .c .from);
       more = going-more n (standing ls) tip (d .close) (d .i) cnt head next fars add (d .going) turn-line took;
-      its = e ∙ ap₂ (λ (k : ℕ) (hs : List ℕ). rowOf t ls long k hs) (d .number-is ∙ turn-line .number) spelt
+      its = d .number-is ∙ turn-line .number;
+      spelt = spelt;
+      row-is = ap₂ (λ (k : ℕ) (hs : List ℕ). rowOf t ls long k hs) (d .number-is ∙ turn-line .number) spelt
           ∙ row-is n (length ls / 5 + 1) ls tip long (tb .listed) t (turn-line .c) path-of (turn-line .isLine) lines-of;
     }
 
-    pub row-done : (out′ : List ℤ) → out′ ≡ rowOf t ls long number (take count path′) → RowDone ls n cnt number t tip head next fars add head′ next′ fars′ add′ out′ nodes d
+    abbrev pub row-done : (out′ : List ℤ) → out′ ≡ rowOf t ls long number (take count path′) → RowDone ls n cnt number t tip head next fars add head′ next′ fars′ add′ out′ nodes d
     row-done out′ e = let z = turn-done in record { going = z .going; lp = pass (z .c) true ∷ z .path; more = z .more; its = e ∙ z .row-is }
 
 -- ---- row by row

@@ -146,9 +146,8 @@ fn survey_again_in(
     ensures { λ r. ⌜ surveyed r (now (rows .exit)) ≡ surveyGood book (now (lines .entry)) (now (rows .entry)) ⌝ ∗ ⌜ surveyed r (now (fresh .exit)) ≡ surveyGood book (now (again .entry)) (now (fresh .entry)) ⌝ }
 {
     let n = book.marks + 1;
-    let q = book.lines + 1;
-    prepare::plant_book(lines, tip, long, head, next, far, add, best, seg, order, n);
-    let start = prepare::order_loops(
+    let start = prepare::start_book(
+        lines,
         tip,
         long,
         head,
@@ -156,12 +155,12 @@ fn survey_again_in(
         far,
         add,
         best,
+        seg,
         order,
         rank,
         sort,
         close,
         n,
-        q,
     );
     let count = start.count;
     let nodes = start.nodes;

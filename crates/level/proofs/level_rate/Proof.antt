@@ -1,5 +1,5 @@
 use mathlib.Core.Path.{_≡_, sym, _∙_, ap, subst}
-use Rattle.adjust.specs.Rates.{rateAnswer}
+use Rattle.rates.specs.Rates.{rateAnswer}
 use Rattle.level.specs.Rating.{SmallRate, signedRate}
 use Rattle.level.proofs.Small.{rate-small}
 use borrow.Author.Needs.{needs}

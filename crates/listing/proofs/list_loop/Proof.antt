@@ -5,7 +5,7 @@ use lib.IntN.{pos}
 use lib.ListN.{length, length-set}
 use borrow.Author.Needs.{needs}
 use Rattle.laws.proofs.Signed.{stored}
-use Rattle.listing.proofs.Laid.{Laid, laid-next}
+use Rattle.laws.proofs.Laid.{Laid, laid-next}
 use Rattle.listing.proofs.Halves.{wanted, wanted-length, list-start, list-at, list-end}
 use Rattle.listing.proofs.list_loop.Statement.{statement}
 use Rattle.listing.proofs.list_loop.Tie as tie

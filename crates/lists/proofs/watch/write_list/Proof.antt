@@ -5,7 +5,7 @@ use mathlib.Core.List.{map}
 use lib.IntN.{pos}
 use lib.ListN.{length, length-map}
 use Rattle.laws.proofs.Signed.{stored}
-use Rattle.listing.proofs.Laid.{Laid, laid-start, laid-next, laid-end}
+use Rattle.laws.proofs.Laid.{Laid, laid-start, laid-next, laid-end}
 use Rattle.listing.proofs.Halves.{getD-map}
 use Rattle.lists.proofs.Lists.{list-ten, list-whole}
 use borrow.Author.Needs.{needs}

@@ -4,7 +4,7 @@ use lib.IntN.{pos}
 use lib.ListN.{length}
 use borrow.Author.Needs.{needs}
 use Rattle.laws.proofs.Signed.{back}
-use Rattle.listing.proofs.Laid.{Laid, laid-start, laid-next, laid-end}
+use Rattle.laws.proofs.Laid.{Laid, laid-start, laid-next, laid-end}
 use Rattle.survey.proofs.kept.put.Statement.{statement}
 use Rattle.survey.proofs.kept.put.Tie as tie
 use Rattle.survey.proofs.kept.put.Reads as reads

@@ -1,11 +1,11 @@
 use Prim.Native.Nat.{_≤_}
-use Rattle.listing.proofs.Laid.{zeroed-length, zeroed-start, zeroed-at}
+use Rattle.laws.proofs.Laid.{zeroed-length, zeroed-start, zeroed-at}
 use Prim.Native.Nat.{_-_}
 use mathlib.Core.List.{_++_}
 use native.Mathlib.Omega.{arith}
 use lib.IntN.{pos}
 use lib.ListN.{length, take, replicate}
-use Rattle.listing.proofs.Laid.{Laid, laid-start, laid-next, laid-end}
+use Rattle.laws.proofs.Laid.{Laid, laid-start, laid-next, laid-end}
 use Rattle.survey.proofs.kept.vacate.Statement.{statement}
 use Rattle.survey.proofs.kept.vacate.Tie as tie
 use Rattle.survey.proofs.kept.vacate.Reads as reads
