@@ -2,3 +2,4 @@ pub mod Signed
 pub mod Answers
 pub mod Listings
 pub mod Rating
+pub mod Heights

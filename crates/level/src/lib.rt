@@ -7,7 +7,11 @@ ghost use Rattle.survey.specs.Correction.{rerunOf, withdrawOf};
 ghost use Rattle.rates.specs.Rates.{rateAnswer};
 ghost use Rattle.level.specs.Signed.{SmallRead, signedRead, readNow, ofRead};
 ghost use Rattle.level.specs.Answers.{SmallAnswer, signedAnswer, surveyNow, ofSurvey, correctionNow, ofCorrection};
-ghost use Rattle.level.specs.Listings.{SmallListed, signedListed};
+ghost use Rattle.lists.specs.Listing.{listingOf};
+ghost use Rattle.lists.specs.NotChecked.{notCheckedOf};
+ghost use Rattle.adjust.specs.Call.{adjustOf};
+ghost use Rattle.level.specs.Listings.{SmallListed, signedListed, listingNow, ofListing};
+ghost use Rattle.level.specs.Heights.{SmallAdjusted, signedAdjusted, adjustNow, ofAdjust};
 ghost use Rattle.level.specs.Rating.{SmallRate, signedRate};
 use rates::Rate;
 use rates::RateAnswer;
@@ -124,6 +128,65 @@ fn listing_answer(a: lists::Listed) -> Listed
         place: signed::signed_count(a.place),
         entries: signed::signed_count(a.entries),
     }
+}
+
+#[no_mangle]
+pub extern "C" fn level_listing(
+    b: i64,
+    t: i64,
+    held: &[i64],
+    lines: &[i64],
+    number: i64,
+    out: &mut [i64],
+) -> Listed
+    ensures { λ r. ⌜ listingNow r (now (out .exit)) ≡ ofListing (listingOf b t (now (held .entry)) (now (lines .entry)) number (now (out .entry))) ⌝ }
+{
+    listing_answer(lists::listing(b, t, held, lines, number, out))
+}
+
+#[no_mangle]
+pub extern "C" fn level_not_checked(
+    b: i64,
+    t: i64,
+    held: &[i64],
+    lines: &[i64],
+    out: &mut [i64],
+) -> Listed
+    ensures { λ r. ⌜ listingNow r (now (out .exit)) ≡ ofListing (notCheckedOf b t (now (held .entry)) (now (lines .entry)) (now (out .entry))) ⌝ }
+{
+    listing_answer(lists::not_checked(b, t, held, lines, out))
+}
+
+// What the adjustment answers.
+#[repr(C)]
+pub struct Adjusted {
+    pub number: i64,
+    pub place: i64,
+    pub sweeps: i64,
+}
+
+fn adjust_answer(a: adjust::Adjusted) -> Adjusted
+    requires { ⌜ SmallAdjusted a ⌝ }
+    ensures { λ r. ⌜ r ≡ signedAdjusted a ⌝ }
+{
+    Adjusted {
+        number: signed::signed_count(a.number),
+        place: signed::signed_count(a.place),
+        sweeps: signed::signed_count(a.sweeps),
+    }
+}
+
+#[no_mangle]
+pub extern "C" fn level_adjust(
+    b: i64,
+    t: i64,
+    held: &[i64],
+    lines: &[i64],
+    heights: &mut [i64],
+) -> Adjusted
+    ensures { λ r. ⌜ adjustNow r (now (heights .exit)) ≡ ofAdjust (adjustOf b t (now (held .entry)) (now (lines .entry)) (now (heights .entry))) ⌝ }
+{
+    adjust_answer(adjust::adjust(b, t, held, lines, heights))
 }
 
 // What the rate call answers: withdrawn is 1 of a withdrawn line, else 0.

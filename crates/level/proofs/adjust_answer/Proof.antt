@@ -1,0 +1,37 @@
+use Rattle.laws.proofs.Signed.{stored}
+use Rattle.level.specs.Heights.{signedAdjusted}
+use borrow.Author.Needs.{needs}
+use Rattle.level.proofs.adjust_answer.Statement.{statement}
+use Rattle.level.proofs.adjust_answer.Tie as tie
+use Rattle.level.proofs.adjust_answer.Reads as reads
+use Rattle.level.proofs.adjust_answer.Lts as lts
+use Rattle.signed.proofs.signed_count.Reads as signed-count-reads
+
+signed-count-requires : tie.Need-signed-count-requires
+signed-count-requires c κs = search needs
+
+signed-count-requires-2 : tie.Need-signed-count-requires-2
+signed-count-requires-2 c κs = search needs
+
+signed-count-requires-3 : tie.Need-signed-count-requires-3
+signed-count-requires-3 c κs = search needs
+
+returns : tie.Need-returns
+unfolding signedAdjusted
+returns c =
+    let c₂ = c .before in
+    let c₁ = c₂ .before in
+    rw (
+      stored _ (c₁ .signed-count .ok) (c₁ .signed-count .ensures),
+      stored _ (c₂ .signed-count2 .ok) (c₂ .signed-count2 .ensures),
+      stored _ (c .signed-count3 .ok) (c .signed-count3 .ensures),
+    )
+
+pub adjust-answer-spec : {M : Type 1} → statement M
+adjust-answer-spec =
+    tie.close
+    (tie.spec
+    signed-count-requires
+    signed-count-requires-2
+    signed-count-requires-3
+    returns)

@@ -1,0 +1,32 @@
+use mathlib.Core.Path.{_≡_, sym, _∙_, ap, subst}
+use native.Mathlib.Omega.{arith}
+use Rattle.lists.specs.Listing.{Listing}
+use Rattle.lists.specs.Listing.{listingOf}
+use Rattle.level.specs.Listings.{SmallListed, ofListing}
+use Rattle.level.proofs.Small.{listing-small}
+use borrow.Author.Needs.{needs}
+use Rattle.level.proofs.level_listing.Statement.{statement}
+use Rattle.level.proofs.level_listing.Tie as tie
+
+listing-requires : tie.Need-listing-requires
+listing-requires c κs = search needs
+
+-- what the call below answered, at the numbers that were lent
+called : (c : tie.After-listing) → (let a = c .before .before .args in c .listing .result ≡ listingOf (a .b) (a .t) (a .held .now) (a .lines .now) (a .number) (a .out .now) .answer)
+called c = ap (λ (o : Listing). o .answer) (c .listing .ensures) ∙ search needs
+
+listing-answer-requires : tie.Need-listing-answer-requires
+listing-answer-requires c κs =
+    let r = c .before in
+    let s = r .before .before in
+    let a = s .args in
+    subst SmallListed (sym (called r)) (listing-small (a .b) (a .t) (a .held .now) (a .lines .now) (a .out .now) (omega (arith, s .good)) (a .number))
+
+same-length : tie.Need-same-length
+same-length c = search needs
+
+returns : tie.Need-returns
+returns c = rw (c .listing-answer .ensures) (ap ofListing (c .before .before .listing .ensures) ∙ search needs)
+
+pub level-listing-spec : {M : Type 1} → statement M
+level-listing-spec = tie.close (tie.spec listing-requires listing-answer-requires same-length returns)

@@ -1,0 +1,32 @@
+use mathlib.Core.Path.{_≡_, sym, _∙_, ap, subst}
+use native.Mathlib.Omega.{arith}
+use Rattle.lists.specs.Listing.{Listing}
+use Rattle.lists.specs.NotChecked.{notCheckedOf}
+use Rattle.level.specs.Listings.{SmallListed, ofListing}
+use Rattle.level.proofs.Small.{not-checked-small}
+use borrow.Author.Needs.{needs}
+use Rattle.level.proofs.level_not_checked.Statement.{statement}
+use Rattle.level.proofs.level_not_checked.Tie as tie
+
+not-checked-requires : tie.Need-not-checked-requires
+not-checked-requires c κs = search needs
+
+-- what the call below answered, at the numbers that were lent
+called : (c : tie.After-not-checked) → (let a = c .before .before .args in c .not-checked .result ≡ notCheckedOf (a .b) (a .t) (a .held .now) (a .lines .now) (a .out .now) .answer)
+called c = ap (λ (o : Listing). o .answer) (c .not-checked .ensures) ∙ search needs
+
+listing-answer-requires : tie.Need-listing-answer-requires
+listing-answer-requires c κs =
+    let r = c .before in
+    let s = r .before .before in
+    let a = s .args in
+    subst SmallListed (sym (called r)) (not-checked-small (a .b) (a .t) (a .held .now) (a .lines .now) (a .out .now) (omega (arith, s .good)))
+
+same-length : tie.Need-same-length
+same-length c = search needs
+
+returns : tie.Need-returns
+returns c = rw (c .listing-answer .ensures) (ap ofListing (c .before .before .not-checked .ensures) ∙ search needs)
+
+pub level-not-checked-spec : {M : Type 1} → statement M
+level-not-checked-spec = tie.close (tie.spec not-checked-requires listing-answer-requires same-length returns)

@@ -1,0 +1,26 @@
+-- What the adjustment answers, with the numbers as int64, beside what the lent heights then hold.
+-- Assumes nothing.
+use mathlib.Core.List.{List}
+use lib.IntN.{ℤ, pos}
+use Rattle.adjust.specs.declared.Adjusted as adjust
+use Rattle.adjust.specs.Call.{Given}
+use Rattle.level.specs.Signed.{Small}
+use Rattle.level.specs.declared.Adjusted.{Adjusted}
+
+pub record SmallAdjusted (a : adjust.Adjusted) : Type 0 where
+  pub number : Small (a .number)
+  pub place : Small (a .place)
+  pub sweeps : Small (a .sweeps)
+
+unfoldable pub signedAdjusted : adjust.Adjusted → Adjusted
+signedAdjusted a = record { number = pos (a .number); place = pos (a .place); sweeps = pos (a .sweeps) }
+
+pub record AdjustNow : Type 0 where
+  pub answer : Adjusted
+  pub heights : List ℤ
+
+abbrev pub adjustNow : Adjusted → List ℤ → AdjustNow
+adjustNow a heights = record { answer = a; heights = heights }
+
+abbrev pub ofAdjust : Given → AdjustNow
+ofAdjust g = adjustNow (signedAdjusted (g .answer)) (g .heights)
