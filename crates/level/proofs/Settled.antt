@@ -6,16 +6,19 @@ use mathlib.Core.Path.{_≡_, refl}
 use mathlib.Core.Bool.{Bool, true, false}
 use mathlib.Core.List.{List}
 use lib.Dec.{ltb}
-use lib.IntN.{ℤ}
+use lib.IntN.{ℤ, pos, _+ℤ_}
 use lib.ListN.{length}
+use Rattle.laws.specs.Tests.{eqZ}
 use Rattle.laws.proofs.Tests.{cond-ind}
 use Rattle.laws.proofs.Scans.{first-most}
+use Rattle.book.specs.Height.{workHeightOut}
 use Rattle.book.specs.Test.{testOf}
 use Rattle.book.specs.declared.Tested.{Tested}
 use Rattle.book.specs.declared.Tested.the-variants.{Good, Refused}
 use Rattle.book.proofs.Goods.{tested-good, tested-numbered}
+use Rattle.fields.specs.Heights.{height}
 use Rattle.sights.specs.Sights.{Sight, sightsOf}
-use Rattle.sweeps.specs.Sweeps.{Swept, still, moved, outside, placed, visited, hasMoved, visit, sweep, Settled, settled, unsettled, onward, settleFrom, settle}
+use Rattle.sweeps.specs.Sweeps.{moveOf, Swept, still, moved, outside, placed, visited, hasMoved, visit, sweep, Settled, settled, unsettled, onward, settleFrom, settle}
 use Rattle.network.specs.Standing.{standing}
 use Rattle.network.specs.Tree.{tree}
 use Rattle.start.specs.Start.{heldHeight, isHeld, rootedBy, unheldPiece, startHeights}
@@ -39,7 +42,10 @@ placed-near b false false m z hs h = tt
 
 visited-near : (b : ℕ) (ss : List Sight) (hs : List ℤ) (m : ℕ) → m ≤ b → Near b (visited ss hs m)
 unfolding visited
-visited-near b ss hs m h = placed-near b _ _ m _ hs h
+visited-near b ss hs m h =
+    let d = moveOf ss hs m in
+    let z = height hs m +ℤ d in
+    placed-near b (workHeightOut z) (eqZ d (pos 0)) m z hs h
 
 moved-near : (b : ℕ) (s : Swept) → Near b s → Near b (hasMoved s)
 moved-near b (still hs) h = tt

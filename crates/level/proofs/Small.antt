@@ -36,7 +36,7 @@ use Rattle.survey.proofs.Sounding.{good-lines, lines-sound, few-loops}
 use Rattle.survey.proofs.Corrected.{stands-of, corrected-good}
 use Rattle.rates.specs.Rates.{refusedRate, lineRate, firstHigh, goodRate, testedRate, rateAnswer}
 use Rattle.rates.specs.declared.RateAnswer.{RateAnswer}
-use Rattle.adjust.proofs.Rating.{marks-of}
+use Rattle.rates.proofs.Rating.{marks-of}
 use Rattle.file.specs.Read.{readOf}
 use Rattle.file.proofs.Reading.{ReadOrRefused, read-or-refused}
 use Rattle.level.specs.Signed.{Small, SmallRead}
