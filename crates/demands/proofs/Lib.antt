@@ -12,3 +12,4 @@ pub mod Corrections
 pub mod StillStands
 pub mod ShutOut
 pub mod Heights
+pub mod Start

@@ -2,15 +2,19 @@
 -- Assumes nothing.
 use mathlib.Core.Bool.{Bool, true, false, not, _||_}
 use mathlib.Core.Path.{_≡_}
-use mathlib.Core.List.{List, [], _∷_, _++_}
-use Prim.Native.Nat.{ℕ, _-_}
+use mathlib.Core.List.{List, [], _∷_, _++_, List·Memᴰ}
+use mathlib.Core.Option.{none, some}
+use Prim.Native.Nat.{ℕ, _-_, _≤_, _<_}
 use lib.Dec.{ltb}
 use lib.ListN.{length, take, drop}
-use lib.IntN.{ℤ, pos, natAbs}
+use lib.IntN.{ℤ, pos, natAbs, _+ℤ_}
 use Rattle.laws.specs.Tests.{outZ, eqZ}
 use Rattle.book.specs.Line.{lineCount}
-use Rattle.network.specs.Standing.{standing}
-use Rattle.network.specs.Tree.{tree}
+use Rattle.network.specs.Standing.{Line, standing}
+use Rattle.network.specs.Walk.{Pass, Walk}
+use Rattle.network.specs.Piece.{LowestOfPiece}
+use Rattle.network.specs.Tree.{tree, treeLines}
+use Rattle.fields.specs.Heights.{height}
 use Rattle.sights.specs.Sights.{sightsOf}
 use Rattle.sweeps.specs.Sweeps.{Settled, settled, unsettled, settle}
 use Rattle.start.specs.Start.{heldHeight, isHeld, rootedBy, unheldPiece, startHeights}
@@ -105,3 +109,30 @@ rateDone lines heights line = lineRate heights lines (natAbs line) (natAbs line 
 abbrev pub RateKeepsToTable : ℤ → ℤ → List ℤ → List ℤ → List ℤ → ℤ → RateAnswer → Type 0
 RateKeepsToTable b t held lines heights line given =
     KeepsToTable (λ (r : RateAnswer). r .number) (λ (r : RateAnswer). r .place) (rateRules b t held lines heights line) refusedRate (rateDone lines heights line) given
+
+-- ---- pieces and the start
+
+-- a walk along the standing lines joins the two marks
+abbrev pub Joined : List ℤ → ℕ → ℕ → Type 0
+Joined lines a c = (w : List Pass) × Walk (standing lines) a c w
+
+-- the piece of mark m has a held mark
+abbrev pub PieceHeld : ℕ → List ℤ → List ℤ → ℕ → Type 0
+PieceHeld b held lines m = (k : ℕ) × (0 < k) × (k ≤ b) × (isHeld held k ≡ true) × Joined lines k m
+
+-- 11 at mark m: "a piece has no held mark", "its lowest mark, lowest of all such"
+pub record UnheldAt (b : ℕ) (held lines : List ℤ) (m : ℕ) : Type 0 where
+  pub a-mark : (0 < m) × (m ≤ b)
+  pub none-held : PieceHeld b held lines m → ⊥
+  pub lowest-of-piece : LowestOfPiece (standing lines) m
+  pub lowest-of-all : (k : ℕ) → 0 < k → k < m → PieceHeld b held lines k
+
+-- "Start: in each piece the lowest held mark has its held height, the others follow along the tree; then every held mark is set to its own."
+pub record StartIs (b : ℕ) (held lines : List ℤ) : Type 0 where
+  pub followed : ℕ → ℤ
+  pub lowest-held-has-its-own : (k : ℕ) (z : ℤ) → 0 < k → k ≤ b → heldHeight held k ≡ some z
+      → ((j : ℕ) → 0 < j → j < k → Joined lines j k → heldHeight held j ≡ none) → followed k ≡ z
+  pub others-follow-the-tree : (l : Line) → List·Memᴰ l (treeLines (tree b (standing lines))) → followed (l .to) ≡ followed (l .from) +ℤ l .difference
+  pub one-to-each-mark : length (startHeights b held lines) ≡ b
+  pub held-set-to-its-own : (m : ℕ) (z : ℤ) → 0 < m → m ≤ b → heldHeight held m ≡ some z → height (startHeights b held lines) m ≡ z
+  pub free-stays : (m : ℕ) → 0 < m → m ≤ b → heldHeight held m ≡ none → height (startHeights b held lines) m ≡ followed m

@@ -4,3 +4,5 @@ pub mod Lifting
 pub mod Beginning
 pub mod Joining
 pub mod Starting
+pub mod Pieces
+pub mod Following
