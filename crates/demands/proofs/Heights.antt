@@ -7,20 +7,22 @@ use mathlib.Core.List.{List, [], _∷_, _++_}
 use mathlib.Core.Option.{some}
 use Prim.Native.Nat.{ℕ, zero, suc, _-_, _≤_, _<_}
 use native.Mathlib.Omega.{arith}
-use lib.Dec.{ltb}
+use lib.Dec.{T, ltb}
 use lib.ListN.{length, take, drop}
 use lib.Seq.{take-at, drop-at}
 use lib.IntN.{ℤ, pos, negsuc, natAbs, _-ℤ_}
-use lib.Ieee.{fin, binary64, ofInt, div}
-use borrow.Author.Tests.{ltb-false, lt-ltb, le-ltb}
+use lib.Ieee.{fin, binary64, inFloat, ofInt, div}
+use borrow.Author.Tests.{ltb-false, lt-ltb, le-ltb, not-false}
 use Rattle.laws.specs.Tests.{outZ, eqZ}
+use Rattle.laws.proofs.Tests.{or-left, or-right}
+use Rattle.laws.proofs.Size.{Between, between, size-sub}
 use Rattle.book.specs.Held.{heldCount}
 use Rattle.book.specs.Line.{fromAt, toAt, differenceAt, lengthAt, standingAt, lineCount}
 use Rattle.book.specs.Test.{counts, testOf}
 use Rattle.book.specs.declared.Book.{Book}
 use Rattle.book.specs.declared.Tested.the-variants.{Good}
 use Rattle.network.specs.Standing.{standing}
-use Rattle.fields.specs.Heights.{height}
+use Rattle.fields.specs.Heights.{height, Working}
 use Rattle.fields.specs.Places.{Lines}
 use Rattle.fields.proofs.Stands.{lines-of}
 use Rattle.fields.proofs.Fair.{fair-lines}
@@ -31,6 +33,8 @@ use Rattle.sweeps.proofs.Keeping.{Kept}
 use Rattle.sweeps.proofs.Best.{fairs-sound, sweep-not-worse}
 use Rattle.start.specs.Start.{heldHeight, isHeld, startHeights}
 use Rattle.rates.specs.Rates.{correctionAt, quotient, refusedRate, lineRate, goodRate, testedRate, rateAnswer, firstHigh}
+use Rattle.rates.proofs.Exact.{exact-below}
+use Rattle.rates.proofs.Rating.{marks-of, working-lent}
 use Rattle.rates.specs.declared.Rate.the-variants.{PerKm, Withdrawn}
 use Rattle.rates.specs.declared.RateAnswer.{RateAnswer}
 use Rattle.adjust.specs.Adjusted.{done, unlessUnheld, ended, adjustment}
@@ -44,6 +48,10 @@ use Rattle.demands.proofs.Rules.{byRules, cond-or, keeps-to-table}
 use Rattle.demands.proofs.BookRules.{None, none-in, none-and, first-of, rest-of, by-the-test, passes-if, passes-only-if}
 
 -- ---- refusals
+
+-- a place that is none
+no-mark : (u : ℕ) → ltb 0 u ≡ false → u ≡ 0
+no-mark u h = let l : u ≤ 0 = ltb-false 0 u h in omega arith
 
 -- a test the other way round
 cond-not : {A : Type 0} (t : Bool) (x y : A) → cond t x y ≡ cond (not t) y x
@@ -111,6 +119,39 @@ module _ (b t : ℤ) (held lines : List ℤ) where
     abbrev at : ℕ
     at = natAbs line - 1
 
+    none-applies : None (rateRules b t held lines heights line)
+    none-applies = rate-keeps-to-table heights line .table .done-exactly-if .0 given
+
+    passed : testOf b t held lines ≡ Good (counts b t (heldCount held) (lineCount lines))
+    unfolding rateRules
+    passed =
+        let h = none-applies in
+        passes-if b t held lines {more = heightRules lines heights line} (none-and (or-right (not (eqZ (pos (length heights)) b)) (bookFault b t held lines) (first-of h)) (rest-of h))
+
+    there : Between 1 (lineCount lines) line
+    unfolding rateRules
+    there = between 1 (lineCount lines) line (first-of (rest-of (rest-of (rest-of none-applies))))
+
+    inside : Working heights (natAbs b)
+    unfolding rateRules
+    inside =
+        let h = none-applies in
+        let many = not-false (eqZ (pos (length heights)) b) (or-left (not (eqZ (pos (length heights)) b)) (bookFault b t held lines) (first-of h)) in
+        working-lent heights (natAbs b) (marks-of b t held lines (counts b t (heldCount held) (lineCount lines)) passed (length heights) many)
+        (no-mark (firstHigh heights) (first-of (rest-of (rest-of (rest-of (rest-of h))))))
+
+    -- "Both numbers are exact as 64-bit floats"
+    pub both-numbers-are-exact : T (inFloat binary64 (correctionAt heights lines at)) × T (inFloat binary64 (lengthAt lines at))
+    unfolding correctionAt
+    both-numbers-are-exact =
+        let g = lines-of b t held lines (counts b t (heldCount held) (lineCount lines)) passed .each at (omega (arith, there .low, there .high)) in
+        let x = height heights (natAbs (toAt lines at)) in
+        let y = height heights (natAbs (fromAt lines at)) in (
+          exact-below (x -ℤ y -ℤ differenceAt lines at)
+              (omega (arith, size-sub (x -ℤ y) (differenceAt lines at), size-sub x y, inside .inside (natAbs (toAt lines at) - 1), inside .inside (natAbs (fromAt lines at) - 1), g .difference)),
+          exact-below (lengthAt lines at) (omega (arith, g .long .high)),
+        )
+
     -- of a standing line: "adjusted minus observed difference", and the one rounded quotient of two whole numbers
     pub rate-is-one-quotient : standingAt lines at ≡ pos 1 → let c = height heights (natAbs (toAt lines at)) -ℤ height heights (natAbs (fromAt lines at)) -ℤ differenceAt lines at in
         rateAnswer b t held lines heights line
@@ -125,9 +166,6 @@ module _ (b t : ℤ) (held lines : List ℤ) where
     withdrawn-line-has-no-rate stands = rate-keeps-to-table heights line .finished given ∙ rw stands
 
   -- ---- the adjustment, when it is done
-
-  no-mark : (u : ℕ) → ltb 0 u ≡ false → u ≡ 0
-  no-mark u h = let l : u ≤ 0 = ltb-false 0 u h in omega arith
 
   -- sweeps that neither went outside nor still move a mark have settled
   have-settled : (s : Settled) → stillMoves s ≡ false → wentOutside s ≡ false → s ≡ settled (countOf s) (heightsOf s)
