@@ -1,8 +1,7 @@
 -- The answer of the call by its tests. Assumes nothing.
-use Prim.Native.Nat.{ℕ, zero, suc, _≤_, _<_}
+use Prim.Native.Nat.{ℕ, _≤_, _<_}
 use native.Mathlib.Omega.{arith}
-use mathlib.Core.Path.{_≡_, refl, sym, _∙_, ap, subst}
-use mathlib.Core.Bool.{Bool, cond}
+use mathlib.Core.Path.{_≡_, sym, _∙_, ap, subst}
 use mathlib.Core.List.{List, _++_}
 use lib.ListN.{length, drop}
 use lib.IntN.{ℤ}
@@ -11,7 +10,7 @@ use Rattle.book.specs.Good.{GoodBook}
 use Rattle.book.specs.declared.Book.{Book}
 use Rattle.adjust.specs.Adjusted.{Outcome, done, refused, adjustment}
 use Rattle.adjust.specs.Answers.{answer, answered, Answers}
-use Rattle.adjust.specs.Call.{Given, adjusted, givenBy, adjustGood, GoodEntries}
+use Rattle.adjust.specs.Call.{adjusted, givenBy, adjustGood, GoodEntries}
 use Rattle.adjust.specs.declared.Adjusted.{Adjusted}
 
 -- a tested book has good entries

@@ -2,10 +2,9 @@
 use Prim.Native.Nat.{ℕ, zero, suc, _≤_}
 use native.Mathlib.Omega.{arith}
 use mathlib.Core.Path.{_≡_, refl}
-use mathlib.Core.Bool.{Bool, false}
-use mathlib.Core.List.{List}
+use mathlib.Core.Bool.{false}
 use lib.ListN.{length, getD, take, replicate, length-replicate, length-take}
-use lib.IntN.{ℤ, pos}
+use lib.IntN.{pos}
 use Rattle.start.specs.Along.{Blank, Bare}
 
 -- k of w equal things

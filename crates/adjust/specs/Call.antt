@@ -1,6 +1,6 @@
 -- What the adjustment answers, and what the lent heights then hold: refusals 4, 6, 7, 10, 11, then 12 or 13 by whichever comes first.
 -- Assumes nothing.
-use Prim.Native.Nat.{ℕ, _≤_}
+use Prim.Native.Nat.{_≤_}
 use mathlib.Core.Bool.{cond}
 use mathlib.Core.List.{List, _++_}
 use lib.Dec.{ltb}

@@ -1,9 +1,9 @@
 -- The adjustment and the correction rate, sentence by sentence: refusals, what is given, and what the settled heights are worth.
 -- Assumes nothing.
-use mathlib.Core.Path.{_≡_, refl, sym, _∙_, ap, subst}
+use mathlib.Core.Path.{_≡_, refl, sym, _∙_, ap}
 use mathlib.Core.Logic.{_↔_}
-use mathlib.Core.Bool.{Bool, true, false, not, cond, _||_, true≢false}
-use mathlib.Core.List.{List, [], _∷_, _++_}
+use mathlib.Core.Bool.{Bool, true, false, not, cond, true≢false}
+use mathlib.Core.List.{List}
 use mathlib.Core.Option.{some}
 use Prim.Native.Nat.{ℕ, zero, suc, _-_, _≤_, _<_}
 use native.Mathlib.Omega.{arith}
@@ -13,7 +13,7 @@ use lib.Seq.{take-at, drop-at}
 use lib.IntN.{ℤ, pos, negsuc, natAbs, _-ℤ_}
 use lib.Ieee.{fin, binary64, inFloat, ofInt, div}
 use borrow.Author.Tests.{ltb-false, lt-ltb, le-ltb, not-false}
-use Rattle.laws.specs.Tests.{outZ, eqZ}
+use Rattle.laws.specs.Tests.{eqZ}
 use Rattle.laws.proofs.Tests.{or-left, or-right}
 use Rattle.laws.proofs.Size.{Between, between, size-sub}
 use Rattle.book.specs.Held.{heldCount}
@@ -41,7 +41,6 @@ use Rattle.adjust.specs.Adjusted.{done, unlessUnheld, ended, adjustment}
 use Rattle.adjust.specs.Answers.{answer}
 use Rattle.adjust.specs.Call.{Given, adjusted, givenBy, adjustTested, adjustOf}
 use Rattle.adjust.proofs.Promises.{as-many, never-worse, best-at-every-mark, held-marks-keep}
-use Rattle.demands.specs.Rules.{Rule}
 use Rattle.demands.specs.Tables.{bookFault}
 use Rattle.demands.specs.Heights.{sweepsOf, unheldMark, stillMoves, wentOutside, outsideMark, countOf, heightsOf, sweepRules, adjustRules, adjustDone, AdjustmentKeepsToTable, marksHeights, heightRules, rateRules, rateDone, RateKeepsToTable}
 use Rattle.demands.proofs.Rules.{byRules, cond-or, keeps-to-table}

@@ -3,12 +3,10 @@ use mathlib.Core.Path.{_≡_, refl, sym, _∙_, ap, subst}
 use mathlib.Core.Logic.{_↔_}
 use mathlib.Core.Bool.{Bool, true, false, not, true≢false}
 use mathlib.Core.List.{List}
-use mathlib.Core.Option.{Option, none, some}
 use Prim.Native.Nat.{ℕ, zero, suc, _-_, _≤_, _<_}
 use native.Mathlib.Omega.{arith}
 use lib.IntN.{ℤ}
 use borrow.Author.Tests.{not-false, not-true}
-use Rattle.laws.specs.Scan.{firstBad}
 use Rattle.laws.proofs.Scans.{none-bad}
 use Rattle.laws.proofs.FirstBad.{first-is-first}
 use Rattle.book.specs.Test.{testOf}
@@ -20,11 +18,11 @@ use Rattle.network.specs.Sound.{Sound}
 use Rattle.network.specs.Tree.{tree}
 use Rattle.survey.proofs.Sounding.{good-sound}
 use Rattle.fields.specs.Heights.{height}
-use Rattle.start.specs.Start.{heldHeight, isSome, isHeld, rootedBy, rootHeight, rootOf, unheldPiece, startOf, startHeights}
+use Rattle.start.specs.Start.{heldHeight, isSome, isHeld, rootedBy, rootHeight, rootOf, unheldPiece, startOf}
 use Rattle.start.proofs.Beginning.{start-length, start-height}
 use Rattle.start.proofs.Pieces.{joined-one-root, piece-is-held}
 use Rattle.start.proofs.Following.{followed, follows-tree-line, lowest-held-has-its-own}
-use Rattle.demands.specs.Heights.{unheldMark, Joined, PieceHeld, UnheldAt, StartIs}
+use Rattle.demands.specs.Heights.{unheldMark, PieceHeld, UnheldAt, StartIs}
 
 module _ (b t : ℤ) (held lines : List ℤ) (k : Book) (passes : testOf b t held lines ≡ Good k) where
   sound : Sound (k .marks) (standing lines)

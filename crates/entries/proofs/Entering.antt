@@ -1,19 +1,17 @@
 -- The listed entries are those of the tree. Assumes nothing.
-use Prim.Native.Nat.{ℕ, zero, suc, _+_, _-_, _*_, _/_, _%_, _≤_, _<_}
+use Prim.Native.Nat.{ℕ, zero, suc, _+_, _-_, _/_, _≤_, _<_}
 use mathlib.Core.Path.{_≡_, refl, sym, _∙_, ap, subst}
-use mathlib.Core.Logic.{_⊎_, inl, inr}
-use mathlib.Core.List.{List, _∷_, List·Memᴰ}
-use mathlib.Core.Option.{Option, none, some}
+use mathlib.Core.List.{List, _∷_}
 use native.Mathlib.Omega.{arith}
 use lib.ListN.{length, getD, set, length-set}
 use lib.IntN.{ℤ}
 use Rattle.book.specs.Limits.{mostMarks}
 use Rattle.book.specs.Good.{GoodLine}
 use Rattle.network.specs.Standing.{Line, standing}
-use Rattle.network.specs.Tree.{Entry, Tree, distance, grow, marks, tree}
+use Rattle.network.specs.Tree.{Tree, grow, marks, tree}
 use Rattle.network.proofs.Grown.{Stepped, line, root, stop, stepped}
-use Rattle.network.proofs.Count.{Placed, placed-end, of-marks}
-use Rattle.chains.specs.Chains.{Half, fore, aft, halves}
+use Rattle.network.proofs.Count.{placed-end, of-marks}
+use Rattle.chains.specs.Chains.{Half, fore, aft}
 use Rattle.chains.specs.Listed as ch
 use Rattle.search.specs.Front.{Key, By}
 use Rattle.search.specs.Front as f

@@ -1,10 +1,10 @@
 // The tree of a tested book as two lists: its marks in the order in which they enter, and the number of the line by which each came in.
-ghost use Prim.Native.Nat.{_+_, _≤_, _<_};
+ghost use Prim.Native.Nat.{_+_, _≤_};
 ghost use lib.ListN.{length};
 ghost use Rattle.book.specs.Limits.{mostMarks};
 ghost use Rattle.network.specs.Standing.{standing};
 ghost use Rattle.network.specs.Tree.{tree};
-ghost use Rattle.prepare.specs.Prepared.{Good, Chained, Soil};
+ghost use Rattle.prepare.specs.Prepared.{Chained, Soil};
 ghost use Rattle.fields.specs.Places.{Lines};
 ghost use Rattle.start.specs.Along.{Entered, Growth};
 ghost use Rattle.entries.specs.Entries.{Readable, Listed};

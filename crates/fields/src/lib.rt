@@ -1,6 +1,6 @@
 // What is read of a tested book: the marks and the difference of the line at a place.
 ghost use mathlib.Core.Path.{_≡_};
-ghost use Prim.Native.Nat.{_+_, _-_, _*_, _≤_, _<_};
+ghost use Prim.Native.Nat.{_≤_, _<_};
 ghost use lib.IntN.{natAbs};
 ghost use Rattle.book.specs.Limits.{mostDifference};
 ghost use Rattle.book.specs.Line.{fromAt, toAt, differenceAt};

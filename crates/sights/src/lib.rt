@@ -7,9 +7,9 @@ ghost use lib.IntN.{natAbs};
 ghost use Rattle.book.specs.Limits.{mostDifference, mostMarks};
 ghost use Rattle.network.specs.Standing.{standing};
 ghost use Rattle.fields.specs.Places.{standsFrom, Place, Lines};
-ghost use Rattle.divisions.specs.Weight.{mostWeight, weightOf};
+ghost use Rattle.divisions.specs.Weight.{mostWeight};
 ghost use Rattle.sights.specs.Sights.{sightsOf};
-ghost use Rattle.sights.specs.Table.{Upto, InRange, Written, Filled, Weighable, weighed, Rowed, Broad, Table, rows, Sighted, seen};
+ghost use Rattle.sights.specs.Table.{Upto, InRange, Written, Filled, Weighable, weighed, Rowed, Broad, Table, rows, Sighted};
 ghost use Rattle.sights.specs.Chains.{sightAt, chain, Nodes, Pushed, Joined, Linked, Room, Empty, Spaces};
 use book::line::Line;
 

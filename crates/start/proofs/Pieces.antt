@@ -9,14 +9,14 @@ use mathlib.Core.Bool.{Bool, true, false, true≢false}
 use mathlib.Core.List.{List, [], _∷_, _++_}
 use mathlib.Core.Option.{Option, none, some}
 use lib.Dec.{eqb}
-use lib.IntN.{ℤ, pos}
+use lib.IntN.{ℤ}
 use borrow.Author.Tests.{eqb-true, eqb-false, eq-eqb, ne-eqb}
 use Rattle.network.specs.Standing.{Line}
 use Rattle.network.specs.Sound.{Sound}
-use Rattle.network.specs.Walk.{Ends, along, against, Pass, Walk, here}
-use Rattle.network.specs.Tree.{Entry, entry, Tree, Candidate, distance, far, tree}
+use Rattle.network.specs.Walk.{Ends, along, against, here}
+use Rattle.network.specs.Tree.{Entry, entry, Tree, distance, far, tree}
 use Rattle.network.specs.Piece.{rootIf, rootAt}
-use Rattle.network.specs.Growth.{EntersNext, Growth, nothing, enters, nextRoot}
+use Rattle.network.specs.Growth.{Growth, nothing, enters, nextRoot}
 use Rattle.network.proofs.Grown.{Scored, scored, After, new, old, after, ends-to}
 use Rattle.network.proofs.Shortest.{never, turn}
 use Rattle.network.proofs.Growth.{tree-grows}

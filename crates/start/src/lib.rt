@@ -1,7 +1,7 @@
 // The heights before the first sweep: document 01, "Adjustment", "Start". The tree comes as the marks in the order in which they enter, and
 // the number of the line by which each came in, 0 for a root.
 ghost use mathlib.Core.Path.{_≡_};
-ghost use Prim.Native.Nat.{_+_, _-_, _*_, _≤_, _<_};
+ghost use Prim.Native.Nat.{_+_, _≤_, _<_};
 ghost use lib.ListN.{length};
 ghost use Rattle.book.specs.Limits.{mostMarks, mostHeldHeight};
 ghost use Rattle.laws.specs.Scan.{firstBad};

@@ -1,7 +1,6 @@
 // A visit, a sweep, and the sweeps until nothing moves: document 01, "Adjustment". The lines at each mark stand in a table of arrays.
 ghost use mathlib.Core.Path.{_≡_};
-ghost use mathlib.Core.Bool.{false};
-ghost use Prim.Native.Nat.{suc, _+_, _-_, _*_, _<_, _≤_, _^_};
+ghost use Prim.Native.Nat.{suc, _+_, _-_, _<_, _≤_, _^_};
 ghost use lib.ListN.{length};
 ghost use lib.IntN.{natAbs};
 ghost use Rattle.network.specs.Standing.{standing};
@@ -10,7 +9,6 @@ ghost use Rattle.fields.specs.Heights.{Working};
 ghost use Rattle.fields.specs.Places.{Lines};
 ghost use Rattle.sights.specs.Sights.{sightsOf, pull};
 ghost use Rattle.sights.specs.Table.{seen, rows, Ends, Span, Table};
-ghost use Rattle.divisions.specs.Nearest.{nearestSize, nearest};
 ghost use Rattle.sweeps.specs.Turns.{termAt, flags, swept, endedAt, joinedTurn, movedTurn, outsideTurn};
 ghost use Rattle.sweeps.specs.Sweeps.{moveOf, visited, visit, sweep, settle};
 use book::height::Height;

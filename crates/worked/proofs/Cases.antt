@@ -18,7 +18,7 @@ use Rattle.survey.specs.Survey.{Surveyed, surveyOf}
 use Rattle.lists.specs.Listing.{Listing, listingOf}
 use Rattle.lists.specs.NotChecked.{notCheckedOf}
 use Rattle.survey.specs.Correction.{Corrected, rerunOf, withdrawOf, withdrawLines}
-use Rattle.rates.specs.Rates.{quotient, correctionAt, lineRate, goodRate, firstHigh, refusedRate, rateAnswer}
+use Rattle.rates.specs.Rates.{quotient, rateAnswer}
 use Rattle.rates.specs.declared.Rate.{Rate}
 use Rattle.rates.specs.declared.Rate.the-variants.{PerKm, Withdrawn}
 use Rattle.rates.specs.declared.RateAnswer.{RateAnswer}

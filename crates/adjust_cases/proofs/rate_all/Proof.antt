@@ -1,6 +1,5 @@
-use Prim.Native.Nat.{_-_, _/_}
+use Prim.Native.Nat.{_-_}
 use native.Mathlib.Omega.{arith}
-use lib.ListN.{length}
 use borrow.Author.Needs.{needs}
 use Rattle.adjust_cases.proofs.rate_all.Statement.{statement}
 use Rattle.adjust_cases.proofs.rate_all.Tie as tie

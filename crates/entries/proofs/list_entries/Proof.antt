@@ -1,10 +1,8 @@
 use Prim.Native.Nat.{_-_}
 use mathlib.Core.Path.{refl}
 use native.Mathlib.Omega.{arith}
-use lib.ListN.{length, getD}
 use Rattle.entries.specs.Entries.{Listing}
 use Rattle.entries.proofs.Entering.{listing-none, listing-next, listing-end}
-use borrow.Author.Needs.{needs}
 use Rattle.entries.proofs.list_entries.Statement.{statement}
 use Rattle.entries.proofs.list_entries.Tie as tie
 use Rattle.entries.proofs.list_entries.Reads as reads

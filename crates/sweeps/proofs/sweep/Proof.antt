@@ -5,7 +5,6 @@ use Rattle.sights.specs.Table.{rows}
 use Rattle.sweeps.specs.Sweeps.{sweep}
 use Rattle.sweeps.specs.Turns.{flags, swept}
 use Rattle.sweeps.proofs.States.{sweep-none, sweep-turn}
-use borrow.Author.Needs.{needs}
 use native.Mathlib.Omega.{arith}
 use Rattle.sweeps.proofs.sweep.Statement.{statement}
 use Rattle.sweeps.proofs.sweep.Tie as tie
