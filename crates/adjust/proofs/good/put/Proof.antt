@@ -3,7 +3,7 @@ use native.Mathlib.Omega.{arith}
 use lib.IntN.{pos}
 use lib.ListN.{length}
 use borrow.Author.Needs.{needs}
-use Rattle.adjust.proofs.Laid.{Laid, laid-start, laid-next, laid-end}
+use Rattle.laws.proofs.Laid.{Laid, laid-start, laid-next, laid-end}
 use Rattle.adjust.proofs.good.put.Statement.{statement}
 use Rattle.adjust.proofs.good.put.Tie as tie
 use Rattle.adjust.proofs.good.put.Reads as reads
