@@ -5,7 +5,7 @@ import struct
 
 from books import BOOKS
 from reader_cases import WORKED, answer, book, line
-from survey_cases import path, tree_and_closing
+from survey_cases import loops_of
 
 NAME_BYTES = 48
 
@@ -33,21 +33,13 @@ def report(file):
         return "REFUSED %d AT %d\n" % read
     b, t, h, n, _, numbers = read
     lines = [numbers[5 * i : 5 * i + 5] for i in range(n)]
-    tree, closing, pieces = tree_and_closing(b, lines)
-    usable, text = set(tree), ""
-    for k, c in enumerate(closing):
-        way = path(lines, sorted(usable), lines[c][1], lines[c][0])
-        if len(way) != 1:
-            usable.add(c)
-        loop = [(c, 1)] + way
-        length = sum(lines[i][3] for i, _ in loop)
-        misclosure = sum(sense * lines[i][2] for i, sense in loop)
-        verdict = "OVER" if misclosure**2 > 10 * t * t * length else "WITHIN"
-        listed = "".join(f" {sense * (i + 1)}" for i, sense in loop)
-        text += f"LOOP {k + 1} LENGTH {length} MISCLOSURE {misclosure} {verdict}:{listed}\n"
+    loops, pieces = loops_of(b, t, lines)
     left = not_checked(lines)
-    head = f"LEVEL BOOK 1\nMARKS {b} LINES {n} PIECES {pieces} LOOPS {len(closing)}\n"
-    return head + text + f"NOT CHECKED {len(left)}:" + "".join(f" {i}" for i in left) + "\n"
+    text = f"LEVEL BOOK 1\nMARKS {b} LINES {n} PIECES {pieces} LOOPS {len(loops)}\n"
+    for k, (loop, length, misclosure, over) in enumerate(loops):
+        text += f"LOOP {k + 1} LENGTH {length} MISCLOSURE {misclosure} {'OVER' if over else 'WITHIN'}:"
+        text += "".join(f" {sense * (i + 1)}" for i, sense in loop) + "\n"
+    return text + f"NOT CHECKED {len(left)}:" + "".join(f" {i}" for i in left) + "\n"
 
 
 def ring(difference):

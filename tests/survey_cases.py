@@ -58,10 +58,10 @@ def path(lines, usable, start, goal):
     return way
 
 
-def survey(b, t, lines):
-    """The report's numbers and the pieces."""
+def loops_of(b, t, lines):
+    """Each loop as its lines with their senses, its length, its misclosure and whether that is over; and the pieces."""
     tree, closing, pieces = tree_and_closing(b, lines)
-    usable, report = set(tree), []
+    usable, loops = set(tree), []
     for c in closing:
         way = path(lines, sorted(usable), lines[c][1], lines[c][0])
         if len(way) != 1:
@@ -69,8 +69,15 @@ def survey(b, t, lines):
         loop = [(c, 1)] + way
         length = sum(lines[i][3] for i, _ in loop)
         misclosure = sum(sense * lines[i][2] for i, sense in loop)
-        report += [c + 1, len(loop), length, misclosure, int(misclosure**2 > 10 * t * t * length)]
-    return report, pieces
+        loops.append((loop, length, misclosure, misclosure**2 > 10 * t * t * length))
+    return loops, pieces
+
+
+def survey(b, t, lines):
+    """The report's numbers and the pieces."""
+    loops, pieces = loops_of(b, t, lines)
+    rows = [[loop[0][0] + 1, len(loop), length, misclosure, int(over)] for loop, length, misclosure, over in loops]
+    return [number for row in rows for number in row], pieces
 
 
 def printed(name, answer, report, lines):
