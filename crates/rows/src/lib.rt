@@ -15,8 +15,6 @@ ghost use Rattle.rows.specs.Sums.{lengthOf, riseAt, riseOf, verdictOf, r
 ghost use Rattle.rows.specs.Turns.{Tables, NodesRoom, Due, RowTaken, RowsAsked};
 use book::line::Line;
 
-pub mod rerun;
-
 // "A report row is five numbers."
 pub const ROW: usize = 5;
 

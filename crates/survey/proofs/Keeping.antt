@@ -19,7 +19,7 @@ use Rattle.survey.specs.declared.Answer.{Answer}
 use Rattle.survey.specs.declared.correct.Kept.{Kept}
 use Rattle.survey.specs.declared.correct.Kept.the-variants.{Rows, Other}
 use Rattle.survey.proofs.Sounding.{few-loops, report-length}
-use Rattle.survey.proofs.SameNumbers.{long-enough}
+use Rattle.kept.proofs.SameNumbers.{long-enough}
 
 -- what was made of the comparison tells its test
 told-other : (t : Bool) (n : ℕ) → cond t Other (Rows n) ≡ Other → t ≡ true

@@ -17,8 +17,8 @@ use Rattle.network.specs.Tree.{tree, pieces}
 use Rattle.loops.specs.Loops.{loops}
 use Rattle.loops.specs.Row.{rows}
 use Rattle.loops.proofs.Rerun.{rerun-keeps-loops, rerun-keeps-pieces}
-use Rattle.rows.specs.Again.{Again}
-use Rattle.rows.proofs.Again.{lines-again}
+use Rattle.reruns.specs.Again.{Again}
+use Rattle.reruns.proofs.Again.{lines-again}
 use Rattle.survey.specs.GoodLines.{GoodLines}
 use Rattle.survey.specs.Report.{loopsOf, reportOf, piecesOf, refusal, counted}
 use Rattle.survey.specs.Survey.{Surveyed, surveyed, surveyGood}

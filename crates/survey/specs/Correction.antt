@@ -1,9 +1,9 @@
 -- What re-run and withdrawal answer, and what the book's lines and its kept report then hold: refusals 4, 6, 7, 8 and 9.
 -- Assumes nothing.
-use mathlib.Core.Bool.{Bool, true, false, not, cond, _||_}
-use mathlib.Core.List.{List, [], _∷_, _++_}
+use mathlib.Core.Bool.{Bool, cond, _||_}
+use mathlib.Core.List.{List, _++_}
 use Prim.Native.Nat.{ℕ, _+_, _-_, _*_}
-use lib.ListN.{length, take, drop, set, replicate}
+use lib.ListN.{length, drop, set, replicate}
 use lib.IntN.{ℤ, pos, natAbs}
 use Rattle.laws.specs.Tests.{outZ, eqZ}
 use Rattle.book.specs.Line.{lineWords, differenceField, standingField, lineCount, standingAt, differenceOut}
@@ -11,6 +11,7 @@ use Rattle.book.specs.Test.{testOf}
 use Rattle.book.specs.declared.Book.{Book}
 use Rattle.book.specs.declared.Tested.{Tested}
 use Rattle.book.specs.declared.Tested.the-variants.{Good, Refused}
+unfoldable pub use Rattle.kept.specs.Other.{sameNumbers, otherReport}
 use Rattle.survey.specs.Report.{reportOf, refusal, counted}
 use Rattle.survey.specs.declared.Answer.{Answer}
 
@@ -26,18 +27,6 @@ corrected a lines report = record { answer = a; lines = lines; report = report }
 -- "no such line .. also a withdrawn line": the line of this number does not stand
 unfoldable pub noLine : List ℤ → ℤ → Bool
 noLine lines number = outZ (pos 1) (pos (lineCount lines)) number || eqZ (standingAt lines (natAbs number - 1)) (pos 0)
-
--- the two lists of numbers are the same
-unfoldable pub sameNumbers : List ℤ → List ℤ → Bool
-sameNumbers [] [] = true
-sameNumbers [] (y ∷ ys) = false
-sameNumbers (x ∷ xs) [] = false
-sameNumbers (x ∷ xs) (y ∷ ys) = cond (eqZ x y) (sameNumbers xs ys) false
-
--- "lent report is shorter than this book's rows, or differs from them in their places"
-unfoldable pub otherReport : List ℤ → List ℤ → Bool
-unfolding sameNumbers
-otherReport report now = not (sameNumbers (take (length now) report) now)
 
 -- the kept report brought up to date: the rows of the book as it then stands; "if the loops become one fewer, the vacated last row becomes zeros";
 -- places past the old rows unchanged

@@ -5,7 +5,6 @@ ghost use Rattle.survey.specs.Survey.{surveyed, surveyOf};
 ghost use Rattle.survey.specs.Correction.{corrected, rerunOf, withdrawOf};
 
 mod correct;
-mod kept;
 mod work;
 
 use book::Tested;

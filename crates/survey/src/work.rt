@@ -3,7 +3,7 @@ ghost use mathlib.Core.Path.{_≡_};
 ghost use Rattle.survey.specs.GoodLines.{GoodLines};
 ghost use Rattle.survey.specs.Survey.{surveyed, surveyGood};
 ghost use Rattle.survey.specs.Desk.{Desk};
-ghost use Rattle.rows.specs.Again.{Again};
+ghost use Rattle.reruns.specs.Again.{Again};
 ghost use Prim.Native.Nat.{_≤_};
 ghost use lib.ListN.{length};
 use crate::Answer;
@@ -165,7 +165,7 @@ fn survey_again_in(
     let count = start.count;
     let nodes = start.nodes;
     let t = book.tolerance;
-    rows::rerun::write_rows_again(
+    reruns::write_rows_again(
         lines,
         again,
         tip,

@@ -9,7 +9,7 @@ use Rattle.survey.proofs.correct.kept_rows.Statement.{statement}
 use Rattle.survey.proofs.correct.kept_rows.Tie as tie
 use Rattle.survey.proofs.correct.kept_rows.Reads as reads
 use Rattle.survey.proofs.correct.kept_rows.Lts as lts
-use Rattle.survey.proofs.kept.differs.Reads as differs-reads
+use Rattle.kept.proofs.differs.Reads as differs-reads
 use Rattle.survey.proofs.work.survey_good.Reads as survey-good-reads
 
 slice-aggregate-survey-good : tie.Need-slice-aggregate-survey-good

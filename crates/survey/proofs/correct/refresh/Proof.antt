@@ -8,8 +8,8 @@ use Rattle.survey.proofs.correct.refresh.Statement.{statement}
 use Rattle.survey.proofs.correct.refresh.Tie as tie
 use Rattle.survey.proofs.correct.refresh.Reads as reads
 use Rattle.survey.proofs.correct.refresh.Lts as lts
-use Rattle.survey.proofs.kept.put.Reads as put-reads
-use Rattle.survey.proofs.kept.vacate.Reads as vacate-reads
+use Rattle.kept.proofs.put.Reads as put-reads
+use Rattle.kept.proofs.vacate.Reads as vacate-reads
 use Rattle.survey.proofs.work.survey_good.Reads as survey-good-reads
 
 slice-aggregate-survey-good : tie.Need-slice-aggregate-survey-good

@@ -8,7 +8,7 @@ use lib.ListN.{length, take, set, length-take, length-set}
 use mir.Syntax.{w64}
 use mir.Val.{toZ, ofZ}
 use mir.Facts.{toZ-ofZ}
-use Rattle.rows.specs.Again.{Again}
+use Rattle.reruns.specs.Again.{Again}
 use Rattle.survey.specs.Stands.{Stands}
 use Rattle.survey.specs.Correction.{noLine, placeOf, corrected, correctGood}
 use Rattle.survey.proofs.Corrected.{stands-of, place-is}
@@ -21,7 +21,7 @@ use Rattle.survey.proofs.correct.rerun_good.Lts as lts
 use Rattle.signed.proofs.magnitude.Reads as magnitude-reads
 use Rattle.survey.proofs.correct.no_line.Reads as no-line-reads
 use Rattle.survey.proofs.correct.rerun_report.Reads as rerun-report-reads
-use Rattle.survey.proofs.kept.put.Reads as put-reads
+use Rattle.kept.proofs.put.Reads as put-reads
 use Rattle.survey.proofs.refuse.Reads as refuse-reads
 
 no-line-requires : tie.Need-no-line-requires

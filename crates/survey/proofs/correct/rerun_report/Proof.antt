@@ -3,7 +3,7 @@ use mathlib.Core.Path.{_≡_, refl, sym, _∙_}
 use native.Mathlib.Omega.{arith}
 use lib.ListN.{length, length-take}
 use Rattle.survey.specs.Correction.{otherReport}
-use Rattle.survey.proofs.SameNumbers.{long-enough}
+use Rattle.kept.proofs.SameNumbers.{long-enough}
 use Rattle.survey.proofs.Keeping.{fresh, few-words, words-are, front-is, answer-is}
 use Rattle.survey.proofs.Remeasured.{again-good, kept-nine, kept-done}
 use borrow.Author.Needs.{needs}
@@ -11,8 +11,8 @@ use Rattle.survey.proofs.correct.rerun_report.Statement.{statement}
 use Rattle.survey.proofs.correct.rerun_report.Tie as tie
 use Rattle.survey.proofs.correct.rerun_report.Reads as reads
 use Rattle.survey.proofs.correct.rerun_report.Lts as lts
-use Rattle.survey.proofs.kept.differs.Reads as differs-reads
-use Rattle.survey.proofs.kept.put.Reads as put-reads
+use Rattle.kept.proofs.differs.Reads as differs-reads
+use Rattle.kept.proofs.put.Reads as put-reads
 use Rattle.survey.proofs.refuse.Reads as refuse-reads
 use Rattle.survey.proofs.work.survey_again.Reads as survey-again-reads
 

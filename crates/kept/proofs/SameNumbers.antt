@@ -12,7 +12,7 @@ use lib.IntN.{ℤ, pos}
 use lib.ListN.{length, take, drop, getD, length-take, drop-of-length-le}
 use lib.Seq.{drop-cons, getD-take}
 use Rattle.laws.specs.Tests.{eqZ}
-use Rattle.survey.specs.Correction.{sameNumbers, otherReport}
+use Rattle.kept.specs.Other.{sameNumbers, otherReport}
 
 -- a list that is too short is not the same
 short-differs : (xs ys : List ℤ) → length xs < length ys → sameNumbers xs ys ≡ false

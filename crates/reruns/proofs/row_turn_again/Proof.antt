@@ -1,11 +1,11 @@
 use Rattle.rows.proofs.Turning.{takes-of, row-asked}
-use Rattle.rows.proofs.Again.{asked-again, both-done}
+use Rattle.reruns.proofs.Again.{asked-again, both-done}
 use borrow.Author.Needs.{needs}
-use Rattle.rows.proofs.rerun.row_turn_again.Statement.{statement}
-use Rattle.rows.proofs.rerun.row_turn_again.Tie as tie
-use Rattle.rows.proofs.rerun.row_turn_again.Reads as reads
-use Rattle.rows.proofs.rerun.row_turn_again.Lts as lts
+use Rattle.reruns.proofs.row_turn_again.Statement.{statement}
+use Rattle.reruns.proofs.row_turn_again.Tie as tie
+use Rattle.reruns.proofs.row_turn_again.Reads as reads
+use Rattle.reruns.proofs.row_turn_again.Lts as lts
 use Rattle.rows.proofs.row_of.Reads as row-of-reads
 use Rattle.subgraph.proofs.take_loop.Reads as take-loop-reads
 
 take-loop-requires : tie.Need-take-loop-requires

@@ -4,7 +4,7 @@ ghost use mathlib.Core.List.{_++_};
 ghost use Prim.Native.Nat.{_≤_, _-_};
 ghost use lib.ListN.{length, take, drop, replicate};
 ghost use lib.IntN.{pos};
-ghost use Rattle.survey.specs.Correction.{otherReport};
+ghost use Rattle.kept.specs.Other.{otherReport};
 
 // Whether the lent report is shorter than the rows, or differs from them in their places.
 pub fn differs(report: &[i64], rows: &[i64]) -> bool

@@ -6,11 +6,11 @@ use mathlib.Core.Path.{_≡_, sym, _∙_}
 use native.Mathlib.Omega.{arith}
 use lib.ListN.{length}
 use borrow.Author.Needs.{needs}
-use Rattle.survey.proofs.SameNumbers.{Compared, too-short, compare-start, compare-next, compare-stop, compare-end}
-use Rattle.survey.proofs.kept.differs.Statement.{statement}
-use Rattle.survey.proofs.kept.differs.Tie as tie
-use Rattle.survey.proofs.kept.differs.Reads as reads
-use Rattle.survey.proofs.kept.differs.Lts as lts
+use Rattle.kept.proofs.SameNumbers.{Compared, too-short, compare-start, compare-next, compare-stop, compare-end}
+use Rattle.kept.proofs.differs.Statement.{statement}
+use Rattle.kept.proofs.differs.Tie as tie
+use Rattle.kept.proofs.differs.Reads as reads
+use Rattle.kept.proofs.differs.Lts as lts
 use Rattle.signed.proofs.same.Reads as same-reads
 
 abbrev Inv-loop : tie.InvT-loop

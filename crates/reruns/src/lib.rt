@@ -7,8 +7,8 @@ ghost use Rattle.network.specs.Standing.{standing};
 ghost use Rattle.loops.specs.Loops.{loops};
 ghost use Rattle.loops.specs.Row.{rows};
 ghost use Rattle.search.specs.Front.{Rooms};
 ghost use Rattle.rows.specs.Turns.{Tables, NodesRoom, Due, RowsAsked};
-ghost use Rattle.rows.specs.Again.{Again, BothTaken};
+ghost use Rattle.reruns.specs.Again.{Again, BothTaken};
 
 // A loop takes its turn and its row is written twice: by the book, and with one line run again. The answer is the count of the subgraph's nodes.
 pub fn row_turn_again(
@@ -48,8 +48,8 @@ pub fn row_turn_again(
         number,
     );
     let count = turn.count;
-    crate::row_of(lines, long, path, out, count, number, t);
-    crate::row_of(again, long, path, fresh, count, number, t);
+    rows::row_of(lines, long, path, out, count, number, t);
+    rows::row_of(again, long, path, fresh, count, number, t);
     turn.nodes
 }
 
@@ -80,7 +80,7 @@ pub fn write_rows_again(
     let mut cnt = nodes;
     let mut i = 0;
     while i < count {
-        let at = i * crate::ROW;
+        let at = i * rows::ROW;
         cnt = row_turn_again(
             lines,
             again,
@@ -93,8 +93,8 @@ pub fn write_rows_again(
             best,
             seg,
             path,
-            &mut out[at..at + crate::ROW],
-            &mut fresh[at..at + crate::ROW],
+            &mut out[at..at + rows::ROW],
+            &mut fresh[at..at + rows::ROW],
             n,
             cnt,
             close[i] as usize,

@@ -21,11 +21,11 @@ use Rattle.laws.proofs.Lists.{pour}
 use Rattle.chains.specs.Chains.{Half, fore, aft, Sound, codeOf, codes}
 use Rattle.chains.specs.Listed.{Listed}
 use Rattle.subgraph.specs.Turn.{Taken}
 use Rattle.rows.specs.Sums.{rowOf, Gentle, HalfOk, RowAsked, steepest}
 use Rattle.rows.specs.Turns.{Tables, Due, RowsAsked}
-use Rattle.rows.specs.Again.{Again, BothDone, BothTaken, BothAt}
+use Rattle.reruns.specs.Again.{Again, BothDone, BothTaken, BothAt}
 use Rattle.rows.proofs.Passes.{row-is}
 use Rattle.rows.proofs.Turning.{rows-more, length-rows, rows-start, rows-due, rows-next, rows-end, all-done, turn-line, lines-of, spelt, path-of, row-done}
 
 -- ---- the tables are those of the book with lines measured again
 

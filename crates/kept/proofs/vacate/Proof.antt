@@ -6,10 +6,10 @@ use native.Mathlib.Omega.{arith}
 use lib.IntN.{pos}
 use lib.ListN.{length, take, replicate}
 use Rattle.laws.proofs.Laid.{Laid, laid-start, laid-next, laid-end}
-use Rattle.survey.proofs.kept.vacate.Statement.{statement}
-use Rattle.survey.proofs.kept.vacate.Tie as tie
-use Rattle.survey.proofs.kept.vacate.Reads as reads
-use Rattle.survey.proofs.kept.vacate.Lts as lts
+use Rattle.kept.proofs.vacate.Statement.{statement}
+use Rattle.kept.proofs.vacate.Tie as tie
+use Rattle.kept.proofs.vacate.Reads as reads
+use Rattle.kept.proofs.vacate.Lts as lts
 
 abbrev Inv-loop : tie.InvT-loop
 Inv-loop out₀ a e i₀ out i = (a ≤ i) × Laid (take a out₀ ++ replicate (e - a) (pos 0)) out₀ out i
