@@ -5,16 +5,16 @@ use std::env;
 use std::fs;
 use std::path::Path;
 
-const CALLS: [&str; 8] = [
-    "level_read",
-    "level_survey",
-    "level_listing",
-    "level_not_checked",
-    "level_rerun",
-    "level_withdraw",
-    "level_adjust",
-    "level_rate",
-];
+#[path = "src/header.rs"]
+mod header;
+
+macro_rules! names {
+    ($($name:ident $arguments:tt -> $answer:ident = $call:ident $lent:tt;)*) => {
+        [$(stringify!($name)),*]
+    };
+}
+
+const CALLS: [&str; 8] = header!(names);
 
 /// Whether a name stands among the archive's names, which end in a zero byte.
 fn has(archive: &[u8], call: &str) -> bool {

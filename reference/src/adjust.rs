@@ -2,7 +2,6 @@
 
 use crate::answers::{refuse, refuse_at, Refusal};
 use crate::book::within;
-use crate::calls::Lent;
 use crate::network::{Network, NONE};
 use crate::*;
 

@@ -1,4 +1,6 @@
-//! What the calls answer, laid out as in `include/level.h`.
+//! The eight calls, and what they answer, laid out as in `include/level.h`.
+
+use crate::{Lent, LentMut};
 
 /// A refusal by document 01's table.
 #[derive(Clone, Copy, Debug, PartialEq, Eq)]
@@ -77,69 +79,27 @@ impl PartialEq for Rated {
     }
 }
 
-/// The eight calls, in the words and with the arguments of `include/level.h`.
+/// The eight calls, in the order of `include/level.h` and of the server.
+#[derive(Clone, Copy, Debug, PartialEq, Eq)]
+pub enum Kind {
+    Read,
+    Survey,
+    Listing,
+    NotChecked,
+    Rerun,
+    Withdraw,
+    Adjust,
+    Rate,
+}
+
+/// Who answers the eight calls, in the words of `include/level.h`.
 pub trait Level {
     fn read(&mut self, file: &[u8], held: &mut [i64], lines: &mut [i64]) -> ReadAnswer;
-
-    fn survey(&mut self, b: i64, t: i64, held: &[i64], lines: &[i64], rows: &mut [i64]) -> Answer;
-
-    fn listing(
-        &mut self,
-        b: i64,
-        t: i64,
-        held: &[i64],
-        lines: &[i64],
-        number: i64,
-        out: &mut [i64],
-    ) -> Listed;
-
-    fn not_checked(
-        &mut self,
-        b: i64,
-        t: i64,
-        held: &[i64],
-        lines: &[i64],
-        out: &mut [i64],
-    ) -> Listed;
-
-    #[allow(clippy::too_many_arguments)]
-    fn rerun(
-        &mut self,
-        b: i64,
-        t: i64,
-        held: &[i64],
-        lines: &mut [i64],
-        report: &mut [i64],
-        line: i64,
-        difference: i64,
-    ) -> Answer;
-
-    fn withdraw(
-        &mut self,
-        b: i64,
-        t: i64,
-        held: &[i64],
-        lines: &mut [i64],
-        report: &mut [i64],
-        line: i64,
-    ) -> Answer;
-
-    fn adjust(
-        &mut self,
-        b: i64,
-        t: i64,
-        held: &[i64],
-        lines: &[i64],
-        heights: &mut [i64],
-    ) -> Adjusted;
-
-    fn rate(
-        &mut self,
-        b: i64,
-        t: i64,
-        held: &[i64],
-        lines: &[i64],
-        heights: &[i64],
-        line: i64,
-    ) -> Rated;
+    fn survey(&mut self, book: Lent, rows: &mut [i64]) -> Answer;
+    fn listing(&mut self, book: Lent, number: i64, out: &mut [i64]) -> Listed;
+    fn not_checked(&mut self, book: Lent, out: &mut [i64]) -> Listed;
+    fn rerun(&mut self, book: LentMut, report: &mut [i64], line: i64, difference: i64) -> Answer;
+    fn withdraw(&mut self, book: LentMut, report: &mut [i64], line: i64) -> Answer;
+    fn adjust(&mut self, book: Lent, heights: &mut [i64]) -> Adjusted;
+    fn rate(&mut self, book: Lent, heights: &[i64], line: i64) -> Rated;
 }

@@ -1,7 +1,59 @@
-//! The book: its tests (refusals 4, 6 and 7), and its file.
+//! The book as it is lent: its tests (refusals 4, 6 and 7), and its file.
 
 use crate::answers::{refuse, refuse_at, Refusal};
 use crate::*;
+
+/// A lent book: its lines are to be read or, in a [`LentMut`], to be corrected.
+#[derive(Clone, Copy, Debug)]
+pub struct Lent<'a, Lines = &'a [i64]> {
+    pub b: i64,
+    pub t: i64,
+    pub held: &'a [i64],
+    pub lines: Lines,
+}
+
+/// A book that is lent to be corrected.
+pub type LentMut<'a> = Lent<'a, &'a mut [i64]>;
+
+impl LentMut<'_> {
+    /// The book, lent on to be read.
+    pub fn lent(&self) -> Lent<'_> {
+        Lent { b: self.b, t: self.t, held: self.held, lines: self.lines }
+    }
+
+    /// The book, lent on to be corrected.
+    pub fn lent_mut(&mut self) -> LentMut<'_> {
+        Lent { b: self.b, t: self.t, held: self.held, lines: self.lines }
+    }
+}
+
+impl Lent<'_> {
+    /// 4, 6 and 7, in that order.
+    pub(crate) fn test(&self) -> Result<(), Refusal> {
+        if !self.held.len().is_multiple_of(HELD) || !self.lines.len().is_multiple_of(LINE) {
+            return refuse(4);
+        }
+        test_head(self.b, self.t, self.held.len() / HELD, self.lines.len() / LINE)?;
+        test_held(self.b, self.held)?;
+        test_lines(self.b, self.lines)
+    }
+
+    /// A line's five numbers, or 8.
+    pub(crate) fn line(&self, number: i64) -> Result<&[i64], Refusal> {
+        if number < 1 || number > (self.lines.len() / LINE) as i64 {
+            return refuse(8);
+        }
+        Ok(&self.lines[LINE * (number as usize - 1)..][..LINE])
+    }
+
+    /// 8, of a line to be corrected.
+    pub(crate) fn test_standing(&self, number: i64) -> Result<(), Refusal> {
+        if self.line(number)?[4] == 0 {
+            return refuse(8);
+        }
+        Ok(())
+    }
+}
 
 /// The numbers in the head of a file.
 pub(crate) struct Head {
@@ -53,16 +105,6 @@ fn test_lines(b: i64, lines: &[i64]) -> Result<(), Refusal> {
         }
     }
     Ok(())
-}
-
-/// 4, 6 and 7, in that order, of a book in memory.
-pub(crate) fn test_book(b: i64, t: i64, held: &[i64], lines: &[i64]) -> Result<(), Refusal> {
-    if !held.len().is_multiple_of(HELD) || !lines.len().is_multiple_of(LINE) {
-        return refuse(4);
-    }
-    test_head(b, t, held.len() / HELD, lines.len() / LINE)?;
-    test_held(b, held)?;
-    test_lines(b, lines)
 }
 
 /// The first two, four and eight bytes, big-endian.
@@ -128,7 +170,7 @@ pub(crate) fn read(file: &[u8], held: &mut [i64], lines: &mut [i64]) -> Result<H
 }
 
 /// The file of a book, good or not, all its lines standing: what does not fit is cut to its last bytes.
-pub fn write(b: i64, t: i64, held: &[i64], lines: &[i64]) -> Vec<u8> {
+pub fn write(Lent { b, t, held, lines }: Lent) -> Vec<u8> {
     let (h, n) = (held.len() / HELD, lines.len() / LINE);
     let size = HEAD_BYTES + HELD_BYTES * h + LINE_BYTES * n;
     let mut file = Vec::with_capacity(size);

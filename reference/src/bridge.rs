@@ -10,19 +10,6 @@ use std::process::{Child, ChildStdin, ChildStdout, Command, Stdio};
 const TOUCHED: i64 = -1;
 const ENDED: i64 = -2;
 
-/// The calls in the server's order.
-#[derive(Clone, Copy)]
-enum Kind {
-    Read,
-    Survey,
-    Listing,
-    NotChecked,
-    Rerun,
-    Withdraw,
-    Adjust,
-    Rate,
-}
-
 struct Server {
     process: Child,
     input: ChildStdin,
@@ -35,15 +22,12 @@ pub struct Bridge {
     server: Option<Server>,
 }
 
-/// A request: its numbers, and the slices after the book.
+/// A request: the book, the loop or line with its difference, and the slice that is left.
 struct Request<'a> {
     kind: Kind,
-    b: i64,
-    t: i64,
+    book: Lent<'a>,
     number: i64,
     difference: i64,
-    held: &'a [i64],
-    lines: &'a [i64],
     third: Third<'a>,
 }
 
@@ -78,7 +62,7 @@ impl Bridge {
                 Third::Numbers(numbers) => numbers.to_vec(),
                 Third::File(_) => vec![],
             };
-            let (held, lines) = (request.held.to_vec(), request.lines.to_vec());
+            let (held, lines) = (request.book.held.to_vec(), request.book.lines.to_vec());
             Reply { answer: [ENDED, 0, 0, 0, 0, 0], held, lines, third }
         })
     }
@@ -91,8 +75,8 @@ impl Bridge {
         let Server { input, output, .. } = self.server.insert(server);
         input.write_all(&sent(request))?;
         let numbers = receive(output, 8)?;
-        let held = receive(output, request.held.len())?;
-        let lines = receive(output, request.lines.len())?;
+        let held = receive(output, request.book.held.len())?;
+        let lines = receive(output, request.book.lines.len())?;
         let third = match request.third {
             Third::Numbers(numbers) => receive(output, numbers.len())?,
             Third::File(file) => {
@@ -106,6 +90,30 @@ impl Bridge {
             answer[0] = TOUCHED;
         }
         Ok(Reply { answer, held, lines, third })
+    }
+
+    /// A call that fills an output. Gives the numbers of its answer.
+    fn fill(&mut self, kind: Kind, book: Lent, number: i64, out: &mut [i64]) -> [i64; 6] {
+        let third = Third::Numbers(out);
+        let reply = self.ask(&Request { kind, book, number, difference: 0, third });
+        out.copy_from_slice(&reply.third);
+        reply.answer
+    }
+
+    /// A correction of a line. Gives the numbers of its answer.
+    fn correct(
+        &mut self,
+        kind: Kind,
+        book: LentMut,
+        report: &mut [i64],
+        number: i64,
+        difference: i64,
+    ) -> [i64; 6] {
+        let third = Third::Numbers(report);
+        let reply = self.ask(&Request { kind, book: book.lent(), number, difference, third });
+        book.lines.copy_from_slice(&reply.lines);
+        report.copy_from_slice(&reply.third);
+        reply.answer
     }
 }
 
@@ -130,7 +138,7 @@ fn start(command: &[String]) -> io::Result<Server> {
 }
 
 fn sent(request: &Request) -> Vec<u8> {
-    let Request { kind, b, t, number, difference, held, lines, third } = request;
+    let Request { kind, book: Lent { b, t, held, lines }, number, difference, third } = request;
     let third_count = match third {
         Third::Numbers(numbers) => numbers.len(),
         Third::File(file) => file.len(),
@@ -165,124 +173,46 @@ fn listed([number, place, entries, ..]: [i64; 6]) -> Listed {
     Listed { number, place, entries }
 }
 
-/// A request on a book, with no number and no difference.
-fn of_book<'a>(
-    kind: Kind,
-    b: i64,
-    t: i64,
-    held: &'a [i64],
-    lines: &'a [i64],
-    third: &'a [i64],
-) -> Request<'a> {
-    let third = Third::Numbers(third);
-    Request { kind, b, t, number: 0, difference: 0, held, lines, third }
-}
-
 impl Level for Bridge {
     fn read(&mut self, file: &[u8], held: &mut [i64], lines: &mut [i64]) -> ReadAnswer {
+        let book = Lent { b: 0, t: 0, held, lines: &*lines };
         let third = Third::File(file);
-        let request =
-            Request { kind: Kind::Read, b: 0, t: 0, number: 0, difference: 0, held, lines, third };
-        let reply = self.ask(&request);
+        let reply = self.ask(&Request { kind: Kind::Read, book, number: 0, difference: 0, third });
         held.copy_from_slice(&reply.held);
         lines.copy_from_slice(&reply.lines);
         let [number, place, b, t, h, n] = reply.answer;
         ReadAnswer { number, place, b, t, h, n }
     }
 
-    fn survey(&mut self, b: i64, t: i64, held: &[i64], lines: &[i64], rows: &mut [i64]) -> Answer {
-        let reply = self.ask(&of_book(Kind::Survey, b, t, held, lines, rows));
-        rows.copy_from_slice(&reply.third);
-        answer(reply.answer)
+    fn survey(&mut self, book: Lent, rows: &mut [i64]) -> Answer {
+        answer(self.fill(Kind::Survey, book, 0, rows))
     }
 
-    fn listing(
-        &mut self,
-        b: i64,
-        t: i64,
-        held: &[i64],
-        lines: &[i64],
-        number: i64,
-        out: &mut [i64],
-    ) -> Listed {
-        let request = of_book(Kind::Listing, b, t, held, lines, out);
-        let reply = self.ask(&Request { number, ..request });
-        out.copy_from_slice(&reply.third);
-        listed(reply.answer)
+    fn listing(&mut self, book: Lent, number: i64, out: &mut [i64]) -> Listed {
+        listed(self.fill(Kind::Listing, book, number, out))
     }
 
-    fn not_checked(
-        &mut self,
-        b: i64,
-        t: i64,
-        held: &[i64],
-        lines: &[i64],
-        out: &mut [i64],
-    ) -> Listed {
-        let reply = self.ask(&of_book(Kind::NotChecked, b, t, held, lines, out));
-        out.copy_from_slice(&reply.third);
-        listed(reply.answer)
+    fn not_checked(&mut self, book: Lent, out: &mut [i64]) -> Listed {
+        listed(self.fill(Kind::NotChecked, book, 0, out))
     }
 
-    fn rerun(
-        &mut self,
-        b: i64,
-        t: i64,
-        held: &[i64],
-        lines: &mut [i64],
-        report: &mut [i64],
-        line: i64,
-        difference: i64,
-    ) -> Answer {
-        let request = of_book(Kind::Rerun, b, t, held, lines, report);
-        let reply = self.ask(&Request { number: line, difference, ..request });
-        lines.copy_from_slice(&reply.lines);
-        report.copy_from_slice(&reply.third);
-        answer(reply.answer)
+    fn rerun(&mut self, book: LentMut, report: &mut [i64], line: i64, difference: i64) -> Answer {
+        answer(self.correct(Kind::Rerun, book, report, line, difference))
     }
 
-    fn withdraw(
-        &mut self,
-        b: i64,
-        t: i64,
-        held: &[i64],
-        lines: &mut [i64],
-        report: &mut [i64],
-        line: i64,
-    ) -> Answer {
-        let request = of_book(Kind::Withdraw, b, t, held, lines, report);
-        let reply = self.ask(&Request { number: line, ..request });
-        lines.copy_from_slice(&reply.lines);
-        report.copy_from_slice(&reply.third);
-        answer(reply.answer)
+    fn withdraw(&mut self, book: LentMut, report: &mut [i64], line: i64) -> Answer {
+        answer(self.correct(Kind::Withdraw, book, report, line, 0))
     }
 
-    fn adjust(
-        &mut self,
-        b: i64,
-        t: i64,
-        held: &[i64],
-        lines: &[i64],
-        heights: &mut [i64],
-    ) -> Adjusted {
-        let reply = self.ask(&of_book(Kind::Adjust, b, t, held, lines, heights));
-        heights.copy_from_slice(&reply.third);
-        let [number, place, sweeps, ..] = reply.answer;
+    fn adjust(&mut self, book: Lent, heights: &mut [i64]) -> Adjusted {
+        let [number, place, sweeps, ..] = self.fill(Kind::Adjust, book, 0, heights);
         Adjusted { number, place, sweeps }
     }
 
-    fn rate(
-        &mut self,
-        b: i64,
-        t: i64,
-        held: &[i64],
-        lines: &[i64],
-        heights: &[i64],
-        line: i64,
-    ) -> Rated {
-        let request = of_book(Kind::Rate, b, t, held, lines, heights);
-        let reply = self.ask(&Request { number: line, ..request });
-        let [number, place, line, correction, withdrawn, rate] = reply.answer;
+    fn rate(&mut self, book: Lent, heights: &[i64], line: i64) -> Rated {
+        let third = Third::Numbers(heights);
+        let request = Request { kind: Kind::Rate, book, number: line, difference: 0, third };
+        let [number, place, line, correction, withdrawn, rate] = self.ask(&request).answer;
         Rated { number, place, line, correction, withdrawn, rate: f64::from_bits(rate as u64) }
     }
 }

@@ -1,7 +1,7 @@
 //! The calls on a book in memory: survey, listings, re-run and withdrawal.
 
 use crate::answers::{refuse, Refusal};
-use crate::book::{self, test_book, within};
+use crate::book::{self, within};
 use crate::network::Network;
 use crate::*;
 
@@ -15,38 +15,6 @@ pub struct Reference {
 impl Default for Reference {
     fn default() -> Self {
         Self::new()
-    }
-}
-
-/// A book as it is lent to be read.
-#[derive(Clone, Copy)]
-pub(crate) struct Lent<'a> {
-    pub b: i64,
-    pub t: i64,
-    pub held: &'a [i64],
-    pub lines: &'a [i64],
-}
-
-impl Lent<'_> {
-    /// 4, 6 and 7.
-    pub fn test(&self) -> Result<(), Refusal> {
-        test_book(self.b, self.t, self.held, self.lines)
-    }
-
-    /// A line's five numbers, or 8.
-    pub fn line(&self, number: i64) -> Result<&[i64], Refusal> {
-        if number < 1 || number > (self.lines.len() / LINE) as i64 {
-            return refuse(8);
-        }
-        Ok(&self.lines[LINE * (number as usize - 1)..][..LINE])
-    }
-
-    /// 8, of a line to be corrected.
-    fn test_standing(&self, number: i64) -> Result<(), Refusal> {
-        if self.line(number)?[4] == 0 {
-            return refuse(8);
-        }
-        Ok(())
     }
 }
 
@@ -178,11 +146,11 @@ impl Reference {
     }
 
     /// Tree lines of a good book in their order of entry; of a refused one none.
-    pub fn tree(&mut self, b: i64, t: i64, held: &[i64], lines: &[i64]) -> Vec<i64> {
-        if test_book(b, t, held, lines).is_err() {
+    pub fn tree(&mut self, book: Lent) -> Vec<i64> {
+        if book.test().is_err() {
             return Vec::new();
         }
-        self.network.load(b, lines);
+        self.network.load(book.b, book.lines);
         let network = &self.network;
         let entered = network.order[..network.marks].iter().map(|&m| network.up_line[m as usize]);
         entered.filter(|&line| line != network::NONE).map(|line| line as i64 + 1).collect()
@@ -220,103 +188,56 @@ impl Level for Reference {
         }
     }
 
-    fn survey(&mut self, b: i64, t: i64, held: &[i64], lines: &[i64], rows: &mut [i64]) -> Answer {
-        answer(self.try_survey(Lent { b, t, held, lines }, rows))
+    fn survey(&mut self, book: Lent, rows: &mut [i64]) -> Answer {
+        answer(self.try_survey(book, rows))
     }
 
-    fn listing(
-        &mut self,
-        b: i64,
-        t: i64,
-        held: &[i64],
-        lines: &[i64],
-        number: i64,
-        out: &mut [i64],
-    ) -> Listed {
-        listed(self.try_listing(Lent { b, t, held, lines }, number, out))
+    fn listing(&mut self, book: Lent, number: i64, out: &mut [i64]) -> Listed {
+        listed(self.try_listing(book, number, out))
     }
 
-    fn not_checked(
-        &mut self,
-        b: i64,
-        t: i64,
-        held: &[i64],
-        lines: &[i64],
-        out: &mut [i64],
-    ) -> Listed {
-        listed(self.try_not_checked(Lent { b, t, held, lines }, out))
+    fn not_checked(&mut self, book: Lent, out: &mut [i64]) -> Listed {
+        listed(self.try_not_checked(book, out))
     }
 
     /// Sets the line's difference, and mends the rows of the kept report that have the line.
-    fn rerun(
-        &mut self,
-        b: i64,
-        t: i64,
-        held: &[i64],
-        lines: &mut [i64],
-        report: &mut [i64],
-        line: i64,
-        difference: i64,
-    ) -> Answer {
-        let counts = self.try_rerun(Lent { b, t, held, lines }, report, line, difference);
+    fn rerun(&mut self, book: LentMut, report: &mut [i64], line: i64, difference: i64) -> Answer {
+        let counts = self.try_rerun(book.lent(), report, line, difference);
         if counts.is_ok() {
-            let kept = &mut lines[LINE * (line as usize - 1) + 2];
+            let kept = &mut book.lines[LINE * (line as usize - 1) + 2];
             let change = difference - *kept;
             *kept = difference;
             for &(i, sense) in &self.touched {
                 let row = &mut report[ROW * i..][..ROW];
                 row[3] += sense * change;
-                row[4] = verdict(t, row[2], row[3]);
+                row[4] = verdict(book.t, row[2], row[3]);
             }
         }
         answer(counts)
     }
 
     /// Sets the line's standing to 0, and works the kept report out afresh.
-    fn withdraw(
-        &mut self,
-        b: i64,
-        t: i64,
-        held: &[i64],
-        lines: &mut [i64],
-        report: &mut [i64],
-        line: i64,
-    ) -> Answer {
-        let before = match self.try_withdraw(Lent { b, t, held, lines }, report, line) {
+    fn withdraw(&mut self, book: LentMut, report: &mut [i64], line: i64) -> Answer {
+        let before = match self.try_withdraw(book.lent(), report, line) {
             Ok((rows, _)) => rows,
             refused => return answer(refused),
         };
-        lines[LINE * (line as usize - 1) + 4] = 0;
-        self.network.load(b, lines);
-        self.fill(t, report);
+        book.lines[LINE * (line as usize - 1) + 4] = 0;
+        self.network.load(book.b, book.lines);
+        self.fill(book.t, report);
         report[ROW * self.network.rows..ROW * before].fill(0);
         answer(Ok(self.counts()))
     }
 
-    fn adjust(
-        &mut self,
-        b: i64,
-        t: i64,
-        held: &[i64],
-        lines: &[i64],
-        heights: &mut [i64],
-    ) -> Adjusted {
-        match adjust::adjust(&mut self.network, Lent { b, t, held, lines }, heights) {
+    fn adjust(&mut self, book: Lent, heights: &mut [i64]) -> Adjusted {
+        match adjust::adjust(&mut self.network, book, heights) {
             Ok(sweeps) => Adjusted { number: 0, place: 0, sweeps },
             Err(Refusal { number, place }) => Adjusted { number, place, sweeps: 0 },
         }
     }
 
-    fn rate(
-        &mut self,
-        b: i64,
-        t: i64,
-        held: &[i64],
-        lines: &[i64],
-        heights: &[i64],
-        line: i64,
-    ) -> Rated {
-        match adjust::rate(Lent { b, t, held, lines }, heights, line) {
+    fn rate(&mut self, book: Lent, heights: &[i64], line: i64) -> Rated {
+        match adjust::rate(book, heights, line) {
             Ok(rated) => rated,
             Err(Refusal { number, place }) => Rated { number, place, ..Rated::default() },
         }

@@ -11,13 +11,14 @@ pub mod archive;
 mod book;
 pub mod bridge;
 mod calls;
+mod header;
 mod network;
 mod paths;
 mod text;
 pub mod trial;
 
-pub use answers::{Adjusted, Answer, Level, Listed, Rated, ReadAnswer};
-pub use book::write;
+pub use answers::{Adjusted, Answer, Kind, Level, Listed, Rated, ReadAnswer};
+pub use book::{write, Lent, LentMut};
 pub use calls::Reference;
 pub use network::verdict;
 

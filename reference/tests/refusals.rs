@@ -20,7 +20,7 @@ fn ring() -> Book {
 
 fn survey(book: &Book) -> (i64, i64) {
     let mut rows = [9; 15];
-    let answer = Reference::new().survey(book.b, book.t, &book.held, &book.lines, &mut rows);
+    let answer = Reference::new().survey(book.lent(), &mut rows);
     if answer.number != 0 {
         assert_eq!((answer.rows, answer.pieces), (0, 0));
         assert_eq!(rows, [9; 15]);
@@ -163,46 +163,46 @@ fn the_lowest_number() {
 
 #[test]
 fn listing_of_no_loop() {
-    let Book { b, t, held, lines } = ring();
+    let book = ring();
     let mut out = [9; 3];
     for number in [0, 2, -1, i64::MIN, i64::MAX] {
-        let listed = Reference::new().listing(b, t, &held, &lines, number, &mut out);
+        let listed = Reference::new().listing(book.lent(), number, &mut out);
         assert_eq!(listed, Listed { number: 8, place: 0, entries: 0 });
     }
-    let short = Reference::new().listing(b, t, &held, &lines, 1, &mut out[..2]);
+    let short = Reference::new().listing(book.lent(), 1, &mut out[..2]);
     assert_eq!(short, Listed { number: 10, place: 0, entries: 0 });
-    assert_eq!(Reference::new().listing(b, t, &held, &lines, 2, &mut []).number, 8);
+    assert_eq!(Reference::new().listing(book.lent(), 2, &mut []).number, 8);
     assert_eq!(out, [9; 3]);
 }
 
 #[test]
 fn outputs_too_short() {
-    let Book { b, t, held, mut lines } = ring();
+    let mut book = ring();
     let mut reference = Reference::new();
-    assert_eq!(reference.survey(b, t, &held, &lines, &mut [9; 4]).number, 10);
-    assert_eq!(reference.adjust(b, t, &held, &lines, &mut [9; 2]).number, 10);
-    assert_eq!(reference.adjust(b, t, &[], &lines, &mut [9; 2]).number, 10, "before 11");
-    lines[4] = 0;
+    assert_eq!(reference.survey(book.lent(), &mut [9; 4]).number, 10);
+    assert_eq!(reference.adjust(book.lent(), &mut [9; 2]).number, 10);
+    let free = Lent { held: &[], ..book.lent() };
+    assert_eq!(reference.adjust(free, &mut [9; 2]).number, 10, "before 11");
+    book.lines[4] = 0;
     let mut out = [9; 2];
-    assert_eq!(reference.not_checked(b, t, &held, &lines, &mut out[..1]).number, 10);
+    assert_eq!(reference.not_checked(book.lent(), &mut out[..1]).number, 10);
     assert_eq!(out, [9; 2]);
-    assert_eq!(reference.not_checked(b, t, &held, &lines, &mut out).entries, 2);
+    assert_eq!(reference.not_checked(book.lent(), &mut out).entries, 2);
     assert_eq!(out, [2, 3]);
 }
 
 /// The number with which both corrections are refused; nothing has changed.
 fn corrections(book: &Book, report: &[i64], line: i64, difference: i64) -> (i64, i64) {
-    let (mut lines, mut kept) = (book.lines.clone(), report.to_vec());
+    let (mut corrected, mut kept) = (book.clone(), report.to_vec());
     let mut reference = Reference::new();
-    let rerun =
-        reference.rerun(book.b, book.t, &book.held, &mut lines, &mut kept, line, difference);
+    let rerun = reference.rerun(corrected.lent_mut(), &mut kept, line, difference);
     if rerun.number != 0 {
-        assert_eq!((&lines, &kept[..]), (&book.lines, report));
+        assert_eq!((&corrected, &kept[..]), (book, report));
     }
-    (lines, kept) = (book.lines.clone(), report.to_vec());
-    let withdraw = reference.withdraw(book.b, book.t, &book.held, &mut lines, &mut kept, line);
+    (corrected, kept) = (book.clone(), report.to_vec());
+    let withdraw = reference.withdraw(corrected.lent_mut(), &mut kept, line);
     if withdraw.number != 0 {
-        assert_eq!((&lines, &kept[..]), (&book.lines, report));
+        assert_eq!((&corrected, &kept[..]), (book, report));
     }
     (rerun.number, withdraw.number)
 }
@@ -241,7 +241,7 @@ fn a_piece_without_held_marks() {
     book.lines.extend([5, 4, 0, 10, 1]);
     let adjust = |held: &[i64]| {
         let mut heights = [9; 6];
-        let answer = Reference::new().adjust(book.b, book.t, held, &book.lines, &mut heights);
+        let answer = Reference::new().adjust(Lent { held, ..book.lent() }, &mut heights);
         (answer.number, answer.place)
     };
     assert_eq!(adjust(&[]), (11, 1));
@@ -258,7 +258,8 @@ fn sweeps_without_end() {
         lines.extend([from, to, 100_000_000, 1000, 1]);
     }
     let mut heights = [9; 256];
-    let answer = Reference::new().adjust(256, 1, &[1, 0], &lines, &mut heights);
+    let book = Book { b: 256, t: 1, held: vec![1, 0], lines };
+    let answer = Reference::new().adjust(book.lent(), &mut heights);
     assert_eq!(answer, Adjusted { number: 12, place: 0, sweeps: 0 });
     assert_eq!(heights, [9; 256]);
 }
@@ -266,7 +267,8 @@ fn sweeps_without_end() {
 #[test]
 fn no_free_mark_is_one_sweep() {
     let mut heights = [9; 3];
-    let answer = Reference::new().adjust(2, 1, &[2, 5, 1, 6], &[], &mut heights);
+    let book = Book { b: 2, t: 1, held: vec![2, 5, 1, 6], lines: vec![] };
+    let answer = Reference::new().adjust(book.lent(), &mut heights);
     assert_eq!(answer, Adjusted { number: 0, place: 0, sweeps: 1 });
     assert_eq!(heights, [6, 5, 9]);
 }
@@ -275,18 +277,19 @@ fn no_free_mark_is_one_sweep() {
 fn halves_go_toward_zero() {
     for (difference, height) in [(1, 0), (-1, 0), (3, 1), (-3, -1)] {
         // The free mark starts at 0 by the tree line, and the other says difference: g/D is half of it.
-        let lines = [1, 2, 0, 1000, 1, 1, 2, difference, 1000, 1];
+        let lines = vec![1, 2, 0, 1000, 1, 1, 2, difference, 1000, 1];
         let mut heights = [9; 2];
-        let answer = Reference::new().adjust(2, 1, &[1, 0], &lines, &mut heights);
+        let book = Book { b: 2, t: 1, held: vec![1, 0], lines };
+        let answer = Reference::new().adjust(book.lent(), &mut heights);
         assert_eq!((answer.number, heights), (0, [0, height]));
     }
 }
 
 #[test]
 fn rates_refused() {
-    let Book { b, t, held, lines } = ring();
+    let book = ring();
     let most = 50_000_000_000;
-    let rate = |heights: &[i64], line| Reference::new().rate(b, t, &held, &lines, heights, line);
+    let rate = |heights: &[i64], line| Reference::new().rate(book.lent(), heights, line);
     let refused = |number, place| Rated { number, place, ..Rated::default() };
     assert_eq!(rate(&[0, 0], 1), refused(4, 0));
     assert_eq!(rate(&[0; 4], 1), refused(4, 0));
@@ -301,8 +304,8 @@ fn rates_refused() {
     let extreme =
         Rated { line: 2, correction, rate: correction as f64 / 100.0, ..Rated::default() };
     assert_eq!(rate(&[0, most, -most], 2), extreme);
-    let wrong_b = Reference::new().rate(i64::MAX, t, &held, &lines, &[], 1);
-    assert_eq!(wrong_b, refused(4, 0));
+    let wrong_b = Lent { b: i64::MAX, ..book.lent() };
+    assert_eq!(Reference::new().rate(wrong_b, &[], 1), refused(4, 0));
 }
 
 /// A number that a careless caller might lend.
@@ -327,24 +330,23 @@ fn never_panics() {
     let random = &mut random;
     let mut reference = Reference::new();
     for _ in 0..50_000 {
-        let Book { b, t, held, mut lines } = edge_book(random);
+        let Book { b, t, held, lines } = edge_book(random);
         let b = if random.once_in(2) { b } else { any_number(random) };
         let t = if random.once_in(2) { t } else { any_number(random) };
         let held = if random.once_in(2) { held } else { any_numbers(random) };
-        if random.once_in(2) {
-            lines = any_numbers(random);
-        }
+        let lines = if random.once_in(2) { any_numbers(random) } else { lines };
+        let mut book = Book { b, t, held, lines };
         let (number, difference) = (any_number(random), any_number(random));
         let mut out = any_numbers(random);
         let file: Vec<u8> = (0..random.below(30)).map(|_| random.bits() as u8).collect();
         reference.report(&file);
         reference.read(&file, &mut any_numbers(random), &mut out);
-        reference.survey(b, t, &held, &lines, &mut out);
-        reference.listing(b, t, &held, &lines, number, &mut out);
-        reference.not_checked(b, t, &held, &lines, &mut out);
-        reference.rate(b, t, &held, &lines, &out, number);
-        reference.adjust(b, t, &held, &lines, &mut out);
-        reference.rerun(b, t, &held, &mut lines, &mut out, number, difference);
-        reference.withdraw(b, t, &held, &mut lines, &mut out, number);
+        reference.survey(book.lent(), &mut out);
+        reference.listing(book.lent(), number, &mut out);
+        reference.not_checked(book.lent(), &mut out);
+        reference.rate(book.lent(), &out, number);
+        reference.adjust(book.lent(), &mut out);
+        reference.rerun(book.lent_mut(), &mut out, number, difference);
+        reference.withdraw(book.lent_mut(), &mut out, number);
     }
 }

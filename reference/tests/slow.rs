@@ -244,12 +244,11 @@ fn corrections(reference: &mut Reference, book: &Book, rows: &[i64], random: &mu
     let line = all[random.below(all.len())].number;
     for withdrawing in [false, true] {
         let (mut book, mut report) = (book.clone(), [rows, &[77]].concat());
-        let Book { b, t, held, lines } = &mut book;
         let answer = if withdrawing {
-            reference.withdraw(*b, *t, held, lines, &mut report, line)
+            reference.withdraw(book.lent_mut(), &mut report, line)
         } else {
             let difference = random.within(-MAX_DIFFERENCE, MAX_DIFFERENCE);
-            reference.rerun(*b, *t, held, lines, &mut report, line, difference)
+            reference.rerun(book.lent_mut(), &mut report, line, difference)
         };
         let mut fresh = own_report(reference, &book);
         assert_eq!((answer.number, answer.rows as usize), (0, fresh.len() / ROW), "{book:?}");
@@ -259,32 +258,31 @@ fn corrections(reference: &mut Reference, book: &Book, rows: &[i64], random: &mu
 }
 
 fn same_as_slow(reference: &mut Reference, book: &Book, random: &mut Random) {
-    let Book { b, t, held, lines } = book;
     let all = standing(book);
-    let slow = slow_tree(*b, &all);
-    let (rows, lists) = slow_loops(*t, &slow);
+    let slow = slow_tree(book.b, &all);
+    let (rows, lists) = slow_loops(book.t, &slow);
     let open = slow_not_checked(&all, &lists);
     assert_eq!(open, slow_on_no_circuit(&all), "{book:?}");
 
     let tree: Vec<i64> = slow.tree.iter().map(|l| l.number).collect();
-    assert_eq!(reference.tree(*b, *t, held, lines), tree, "{book:?}");
+    assert_eq!(reference.tree(book.lent()), tree, "{book:?}");
     let mut got = vec![0; rows.len()];
-    let answer = reference.survey(*b, *t, held, lines, &mut got);
+    let answer = reference.survey(book.lent(), &mut got);
     let count = slow.closing.len() as i64;
     assert_eq!(answer, Answer { number: 0, place: 0, rows: count, pieces: slow.pieces });
     assert_eq!(got, rows, "{book:?}");
     for (number, list) in (1..).zip(&lists) {
         let mut out = vec![0; list.len()];
-        let listed = reference.listing(*b, *t, held, lines, number, &mut out);
+        let listed = reference.listing(book.lent(), number, &mut out);
         assert_eq!((listed.number, &out), (0, list), "{book:?}");
     }
     let mut out = vec![0; open.len()];
-    let listed = reference.not_checked(*b, *t, held, lines, &mut out);
+    let listed = reference.not_checked(book.lent(), &mut out);
     assert_eq!((listed.entries, &out), (open.len() as i64, &open), "{book:?}");
     corrections(reference, book, &rows, random);
 
-    let mut heights = vec![5; *b as usize];
-    let adjusted = reference.adjust(*b, *t, held, lines, &mut heights);
+    let mut heights = vec![5; book.b as usize];
+    let adjusted = reference.adjust(book.lent(), &mut heights);
     match slow_adjust(book, &slow.tree) {
         Err((number, place)) => {
             assert_eq!(adjusted, Adjusted { number, place, sweeps: 0 }, "{book:?}");

@@ -1,24 +1,26 @@
 //! Document 01's worked network and its cases (a) to (h), and the Memorandum's figure.
 
+use reference::trial::Book;
 use reference::*;
 
-#[rustfmt::skip]
-const LINES: [i64; 35] = [
-    1, 3, 6_345_000, 1600, 1,
-    2, 3, 4_235_000, 2500, 1,
-    5, 2, 3_060_000, 1000, 1,
-    5, 1,   920_000, 4000, 1,
-    1, 4, 3_895_000, 1600, 1,
-    4, 3, 2_410_000, 1250, 1,
-    5, 4, 4_820_000, 2000, 1,
-];
-const HELD_ENTRIES: [i64; 2] = [1, 100_000_000];
+fn worked() -> Book {
+    #[rustfmt::skip]
+    let lines = vec![
+        1, 3, 6_345_000, 1600, 1,
+        2, 3, 4_235_000, 2500, 1,
+        5, 2, 3_060_000, 1000, 1,
+        5, 1,   920_000, 4000, 1,
+        1, 4, 3_895_000, 1600, 1,
+        4, 3, 2_410_000, 1250, 1,
+        5, 4, 4_820_000, 2000, 1,
+    ];
+    Book { b: 5, t: 120, held: vec![1, 100_000_000], lines }
+}
 
-/// The report of these lines, with numbers after it that no call may touch.
-fn fresh(lines: &[i64]) -> Vec<i64> {
+/// The book's report, with numbers after it that no call may touch.
+fn fresh(book: &Book) -> Vec<i64> {
     let mut rows = vec![-7; 20];
-    let answer = Reference::new().survey(5, 120, &HELD_ENTRIES, lines, &mut rows);
-    assert_eq!(answer.number, 0);
+    assert_eq!(Reference::new().survey(book.lent(), &mut rows).number, 0);
     rows
 }
 
@@ -28,7 +30,7 @@ fn done(rows: i64, pieces: i64) -> Answer {
 
 #[test]
 fn a_report() {
-    let file = write(5, 120, &HELD_ENTRIES, &LINES);
+    let file = worked().file();
     assert_eq!(file.len(), 13 + 10 + 12 * 7);
     let text = Reference::new().report(&file);
     assert_eq!(
@@ -40,61 +42,59 @@ fn a_report() {
          LOOP 3 LENGTH 6750 MISCLOSURE 65000 OVER: 3 2 -6 -7\n\
          NOT CHECKED 0:\n"
     );
-    let rows = fresh(&LINES);
+    let rows = fresh(&worked());
     assert_eq!(rows[..16], [6, 3, 4450, -40000, 1, 4, 3, 7600, -5000, 0, 3, 4, 6750, 65000, 1, -7]);
 }
 
 #[test]
 fn a_read() {
-    let file = write(5, 120, &HELD_ENTRIES, &LINES);
+    let book = worked();
     let (mut held, mut lines) = ([9; 3], [9; 36]);
-    let answer = Reference::new().read(&file, &mut held, &mut lines);
+    let answer = Reference::new().read(&book.file(), &mut held, &mut lines);
     assert_eq!(answer, ReadAnswer { number: 0, place: 0, b: 5, t: 120, h: 1, n: 7 });
-    assert_eq!(held, [1, 100_000_000, 9]);
-    assert_eq!(lines[..35], LINES);
-    assert_eq!(lines[35], 9);
+    assert_eq!(held[..], [&book.held[..], &[9]].concat());
+    assert_eq!(lines[..], [&book.lines[..], &[9]].concat());
 }
 
 #[test]
 fn b_tree() {
-    assert_eq!(Reference::new().tree(5, 120, &HELD_ENTRIES, &LINES), [1, 5, 7, 2]);
+    assert_eq!(Reference::new().tree(worked().lent()), [1, 5, 7, 2]);
 }
 
 #[test]
 fn c_rerun() {
-    let (mut lines, mut rows) = (LINES, fresh(&LINES));
-    let answer = Reference::new().rerun(5, 120, &HELD_ENTRIES, &mut lines, &mut rows, 6, 2_428_000);
+    let (mut book, mut rows) = (worked(), fresh(&worked()));
+    let answer = Reference::new().rerun(book.lent_mut(), &mut rows, 6, 2_428_000);
     assert_eq!(answer, done(3, 1));
     assert_eq!(rows[..16], [6, 3, 4450, -22000, 0, 4, 3, 7600, -5000, 0, 3, 4, 6750, 47000, 1, -7]);
-    assert_eq!(fresh(&lines), rows);
-    let mut only_change = LINES;
-    only_change[27] = 2_428_000;
-    assert_eq!(lines, only_change);
+    assert_eq!(fresh(&book), rows);
+    let mut only_change = worked();
+    only_change.lines[27] = 2_428_000;
+    assert_eq!(book, only_change);
 }
 
 #[test]
 fn d_withdraw_closing_line() {
     let mut reference = Reference::new();
-    let (mut lines, mut rows) = (LINES, fresh(&LINES));
-    let answer = reference.withdraw(5, 120, &HELD_ENTRIES, &mut lines, &mut rows, 6);
+    let (mut book, mut rows) = (worked(), fresh(&worked()));
+    let answer = reference.withdraw(book.lent_mut(), &mut rows, 6);
     assert_eq!(answer, done(2, 1));
     assert_eq!(rows[..16], [4, 3, 7600, -5000, 0, 3, 5, 8700, 25000, 0, 0, 0, 0, 0, 0, -7]);
     let mut out = [0; 9];
-    let listed = reference.listing(5, 120, &HELD_ENTRIES, &lines, 2, &mut out);
+    let listed = reference.listing(book.lent(), 2, &mut out);
     assert_eq!(listed, Listed { number: 0, place: 0, entries: 5 });
     assert_eq!(out[..6], [3, 2, -1, 5, -7, 0]);
-    let again = reference.withdraw(5, 120, &HELD_ENTRIES, &mut lines, &mut rows, 6);
-    assert_eq!(again.number, 8);
+    assert_eq!(reference.withdraw(book.lent_mut(), &mut rows, 6).number, 8);
 }
 
 #[test]
 fn e_not_checked() {
     let mut reference = Reference::new();
-    let (mut lines, mut rows) = (LINES, fresh(&LINES));
-    let answer = reference.withdraw(5, 120, &HELD_ENTRIES, &mut lines, &mut rows, 3);
+    let (mut book, mut rows) = (worked(), fresh(&worked()));
+    let answer = reference.withdraw(book.lent_mut(), &mut rows, 3);
     assert_eq!(answer, done(2, 1));
     let mut out = [0; 3];
-    let listed = reference.not_checked(5, 120, &HELD_ENTRIES, &lines, &mut out);
+    let listed = reference.not_checked(book.lent(), &mut out);
     assert_eq!(listed, Listed { number: 0, place: 0, entries: 1 });
     assert_eq!(out, [2, 0, 0]);
 }
@@ -105,9 +105,10 @@ fn f_edge_of_tolerance() {
     assert_eq!(verdict(40, 1000, -4000), 0);
     assert_eq!(verdict(40, 1000, 4001), 1);
     for (misclosure, want) in [(4000, 0), (-4000, 0), (4001, 1), (-4001, 1)] {
-        let lines = [1, 2, misclosure, 400, 1, 1, 2, 0, 600, 1];
+        let lines = vec![1, 2, misclosure, 400, 1, 1, 2, 0, 600, 1];
+        let book = Book { b: 2, t: 40, held: vec![], lines };
         let mut rows = [0; 5];
-        Reference::new().survey(2, 40, &[], &lines, &mut rows);
+        Reference::new().survey(book.lent(), &mut rows);
         assert_eq!(rows, [2, 2, 1000, -misclosure, want]);
     }
 }
@@ -115,22 +116,22 @@ fn f_edge_of_tolerance() {
 #[test]
 fn g_no_lines() {
     let mut rows = [9; 5];
-    let answer = Reference::new().survey(7, 1, &[], &[], &mut rows);
-    assert_eq!(answer, done(0, 7));
+    let book = Book { b: 7, t: 1, held: vec![], lines: vec![] };
+    assert_eq!(Reference::new().survey(book.lent(), &mut rows), done(0, 7));
     assert_eq!(rows, [9; 5]);
 }
 
 #[test]
 fn h_rate() {
-    let rated = Reference::new().rate(2, 1, &[], &[1, 2, 0, 2000, 1], &[0, 500], 1);
+    let book = Book { b: 2, t: 1, held: vec![], lines: vec![1, 2, 0, 2000, 1] };
     let want = Rated { line: 1, correction: 500, rate: 0.25, ..Rated::default() };
-    assert_eq!(rated, want);
+    assert_eq!(Reference::new().rate(book.lent(), &[0, 500], 1), want);
 }
 
 #[test]
 fn adjusted_heights() {
     let mut heights = [0; 5];
-    let adjusted = Reference::new().adjust(5, 120, &HELD_ENTRIES, &LINES, &mut heights);
+    let adjusted = Reference::new().adjust(worked().lent(), &mut heights);
     assert_eq!((adjusted.number, adjusted.place), (0, 0));
     // Document 002's, in metres.
     let want = [100.0, 102.1235, 106.3358, 103.9072, 99.0726];
@@ -143,14 +144,15 @@ fn adjusted_heights() {
 #[test]
 fn two_squares_and_not_the_outer_ring() {
     let links = [[1, 2], [1, 3], [2, 4], [3, 4], [3, 5], [4, 6], [5, 6]];
-    let lines: Vec<i64> = links.iter().flat_map(|&[from, to]| [from, to, 0, 1000, 1]).collect();
+    let lines = links.iter().flat_map(|&[from, to]| [from, to, 0, 1000, 1]).collect();
+    let book = Book { b: 6, t: 1, held: vec![], lines };
     let mut reference = Reference::new();
     let mut rows = [0; 10];
-    assert_eq!(reference.survey(6, 1, &[], &lines, &mut rows), done(2, 1));
+    assert_eq!(reference.survey(book.lent(), &mut rows), done(2, 1));
     assert_eq!(rows, [4, 4, 4000, 0, 0, 7, 4, 4000, 0, 0]);
     let mut loops = [[0; 4]; 2];
     for (number, out) in (1..).zip(&mut loops) {
-        assert_eq!(reference.listing(6, 1, &[], &lines, number, out).entries, 4);
+        assert_eq!(reference.listing(book.lent(), number, out).entries, 4);
     }
     assert_eq!(loops, [[4, -3, -1, 2], [7, -6, -4, 5]]);
 }

@@ -8,6 +8,7 @@
 //! its ratios and the worst.
 
 use reference::archive::{has, Archive};
+use reference::trial::call::{own_report, KINDS};
 use reference::trial::random::Random;
 use reference::trial::shapes::Shape;
 use reference::trial::Book;
@@ -22,27 +23,16 @@ const PASSES: usize = 10;
 const TURN_SECONDS: f64 = 0.0005;
 const FEWEST_TURNS: usize = 3;
 
-#[derive(Clone, Copy, Debug, PartialEq)]
-enum Kind {
-    Read,
-    Survey,
-    Listing,
-    NotChecked,
-    Rerun,
-    Withdraw,
-    Adjust,
-    Rate,
-}
-
-const KINDS: [(Kind, &str, &str); 8] = [
-    (Kind::Read, "read", "level_read"),
-    (Kind::Survey, "survey", "level_survey"),
-    (Kind::Listing, "listing", "level_listing"),
-    (Kind::NotChecked, "not-checked", "level_not_checked"),
-    (Kind::Rerun, "re-run", "level_rerun"),
-    (Kind::Withdraw, "withdrawal", "level_withdraw"),
-    (Kind::Adjust, "adjustment", "level_adjust"),
-    (Kind::Rate, "rate", "level_rate"),
+/// The calls in words.
+const CALLS: [(Kind, &str); 8] = [
+    (Kind::Read, "read"),
+    (Kind::Survey, "survey"),
+    (Kind::Listing, "listing"),
+    (Kind::NotChecked, "not-checked"),
+    (Kind::Rerun, "re-run"),
+    (Kind::Withdraw, "withdrawal"),
+    (Kind::Adjust, "adjustment"),
+    (Kind::Rate, "rate"),
 ];
 
 /// Lines between the pairs by heights of the marks, with noise by the root of the length; mark 1 held.
@@ -94,8 +84,8 @@ struct Desk {
     file: Vec<u8>,
     report: Vec<i64>,
     heights: Vec<i64>,
-    /// Lines and report that the corrections work on.
-    lines: Vec<i64>,
+    /// Book and report that the corrections work on.
+    corrected: Book,
     kept: Vec<i64>,
     held_out: Vec<i64>,
     lines_out: Vec<i64>,
@@ -106,15 +96,12 @@ struct Desk {
 impl Desk {
     fn new(book: Book) -> Self {
         let mut reference = Reference::new();
-        let Book { b, t, held, lines } = &book;
-        let mut report = vec![0; ROW * MAX_LINES];
-        let rows = reference.survey(*b, *t, held, lines, &mut report).rows;
-        report.truncate(ROW * rows as usize);
-        let mut heights = vec![0; *b as usize];
-        reference.adjust(*b, *t, held, lines, &mut heights);
+        let report = own_report(&mut reference, &book);
+        let mut heights = vec![0; book.b as usize];
+        reference.adjust(book.lent(), &mut heights);
         Desk {
             file: book.file(),
-            lines: lines.clone(),
+            corrected: book.clone(),
             kept: report.clone(),
             held_out: vec![0; HELD * MAX_HELD],
             lines_out: vec![0; LINE * MAX_LINES],
@@ -133,41 +120,35 @@ impl Desk {
     /// Makes a call once; gives the numbers of its answer.
     fn call(&mut self, level: &mut impl Level, kind: Kind) -> [i64; 3] {
         let last = self.loops();
-        let Book { b, t, ref held, ref lines } = self.book;
-        self.turn = (self.turn + 1) % (lines.len() / LINE);
+        let book = self.book.lent();
+        self.turn = (self.turn + 1) % self.book.lines_count();
         let line = self.turn as i64 + 1;
         let answer = |a: Answer| [a.number, a.rows, a.pieces];
+        let listed = |a: Listed| [a.number, a.place, a.entries];
         match kind {
             Kind::Read => {
                 let a = level.read(&self.file, &mut self.held_out, &mut self.lines_out);
                 [a.number, a.h, a.n]
             }
-            Kind::Survey => answer(level.survey(b, t, held, lines, &mut self.out)),
-            Kind::Listing => {
-                let a = level.listing(b, t, held, lines, last, &mut self.out);
-                [a.number, a.place, a.entries]
-            }
-            Kind::NotChecked => {
-                let a = level.not_checked(b, t, held, lines, &mut self.out);
-                [a.number, a.place, a.entries]
-            }
+            Kind::Survey => answer(level.survey(book, &mut self.out)),
+            Kind::Listing => listed(level.listing(book, last, &mut self.out)),
+            Kind::NotChecked => listed(level.not_checked(book, &mut self.out)),
             Kind::Rerun => {
-                let now = self.lines[LINE * self.turn + 2];
+                let now = self.corrected.lines[LINE * self.turn + 2];
                 let new = if now == MAX_DIFFERENCE { now - 1 } else { now + 1 };
-                let (lines, report) = (&mut self.lines, &mut self.kept);
-                answer(level.rerun(b, t, held, lines, report, line, new))
+                answer(level.rerun(self.corrected.lent_mut(), &mut self.kept, line, new))
             }
             Kind::Withdraw => {
-                self.lines.copy_from_slice(lines);
+                self.corrected.lines.copy_from_slice(book.lines);
                 self.kept.copy_from_slice(&self.report);
-                answer(level.withdraw(b, t, held, &mut self.lines, &mut self.kept, line))
+                answer(level.withdraw(self.corrected.lent_mut(), &mut self.kept, line))
             }
             Kind::Adjust => {
-                let a = level.adjust(b, t, held, lines, &mut self.out);
+                let a = level.adjust(book, &mut self.out);
                 [a.number, a.place, a.sweeps]
             }
             Kind::Rate => {
-                let a = level.rate(b, t, held, lines, &self.heights, line);
+                let a = level.rate(book, &self.heights, line);
                 [a.number, a.correction, a.rate.to_bits() as i64]
             }
         }
@@ -207,7 +188,8 @@ impl Race {
     fn same(&mut self, reference: &mut Reference) -> bool {
         let (ours, theirs) = (&mut self.ours, &mut self.theirs);
         ours.call(&mut Archive, self.kind) == theirs.call(reference, self.kind)
-            && (&ours.out, &ours.lines, &ours.kept) == (&theirs.out, &theirs.lines, &theirs.kept)
+            && (&ours.out, &ours.corrected, &ours.kept)
+                == (&theirs.out, &theirs.corrected, &theirs.kept)
     }
 
     /// Times both by turns.
@@ -244,7 +226,7 @@ fn print_races(races: &[Race]) {
 /// For each call the geometric mean of its ratios, and the worst with its book.
 fn print_means(books: &[(&str, Vec<Race>)]) {
     println!("{:12} mean of ratios   worst", "");
-    for (kind, name, _) in KINDS {
+    for (kind, name) in CALLS {
         let of_kind = |races: &[Race]| races.iter().find(|race| race.kind == kind).map(Race::ratio);
         let ratios: Vec<(f64, &str)> =
             books.iter().filter_map(|(book, races)| Some((of_kind(races)?, *book))).collect();
@@ -258,15 +240,16 @@ fn print_means(books: &[(&str, Vec<Race>)]) {
 
 fn main() -> ExitCode {
     let seconds = seconds();
-    for (_, _, call) in KINDS.iter().filter(|(_, _, call)| !has(call)) {
-        println!("the archive has no {call}");
+    let name = |kind: Kind| KINDS[kind as usize];
+    for (kind, _) in CALLS.into_iter().filter(|&(kind, _)| !has(name(kind))) {
+        println!("the archive has no {}", name(kind));
     }
     let mut reference = Reference::new();
     let mut races: Vec<(&str, Vec<Race>)> = vec![];
     for (book, content) in books() {
         let desk = Desk::new(content);
-        let there = KINDS.iter().filter(|(_, _, call)| has(call));
-        let of_book = there.map(|&(kind, name, _)| Race::new(&desk, kind, name)).collect();
+        let there = CALLS.into_iter().filter(|&(kind, _)| has(name(kind)));
+        let of_book = there.map(|(kind, name)| Race::new(&desk, kind, name)).collect();
         races.push((book, of_book));
     }
     for (book, of_book) in &mut races {

@@ -7,13 +7,14 @@
 //! With `--report`, the program that the command starts is given files on standard input, one for every
 //! fifty calls or as many as `--files` says, and what it writes is compared with the reference's text.
 //! With `--through`, the archive is reached through the server that the command starts. With `--only`,
-//! calls of these names alone are compared, and what the report program writes if one is named. Prints the seed and what was compared; on a difference prints
-//! the call, both answers and the smallest such call that it finds, and exits with 1.
+//! calls of these names alone are compared, and what the report program writes if one is named. Prints
+//! the seed and what was compared; on a difference prints the call, both answers and the smallest such
+//! call that it finds, and exits with 1.
 
 use reference::bridge::Bridge;
 use reference::trial::asks::{every_ask, new_difference, room};
 use reference::trial::call::{lay_out, make, own_report, KINDS};
-use reference::trial::call::{Ask, Call, Given, Inputs, Kept, Outcome};
+use reference::trial::call::{Ask, Buffer, Call, Given, Kept, Outcome};
 use reference::trial::damage::{damage_book, damage_file, long_file};
 use reference::trial::random::Random;
 use reference::trial::shapes::good_book;
@@ -116,7 +117,7 @@ fn main() -> ExitCode {
 
 /// One call made on both: what it was lent, and what came of it.
 struct Both {
-    inputs: Inputs,
+    lent: Vec<Buffer>,
     archive: Outcome,
     reference: Outcome,
 }
@@ -125,7 +126,7 @@ impl Both {
     /// Whether answer or buffers differ, or a refused call has changed a buffer.
     fn differ(&self) -> bool {
         let refused = self.archive.given.number() != 0;
-        self.archive != self.reference || refused && self.archive.buffers != self.inputs.buffers
+        self.archive != self.reference || refused && self.archive.buffers != self.lent
     }
 }
 
@@ -245,8 +246,8 @@ impl Test {
     /// Makes a call on both, compares and counts it; one that is not wanted on the reference alone.
     fn compare(&mut self, call: Call) -> Result<Outcome, Different> {
         if !self.wanted(KINDS[call.kind()]) {
-            let inputs = lay_out(&mut self.reference, &call);
-            return Ok(make(&mut self.reference, &call, &inputs));
+            let lent = lay_out(&mut self.reference, &call);
+            return Ok(make(&mut self.reference, &call, &lent));
         }
         let both = self.both(&call);
         if both.differ() {
@@ -258,18 +259,18 @@ impl Test {
     }
 
     fn both(&mut self, call: &Call) -> Both {
-        let inputs = lay_out(&mut self.reference, call);
+        let lent = lay_out(&mut self.reference, call);
         let (archive, reference) = match call {
             Call::Report { file } => {
                 let command = self.options.report.as_deref().unwrap_or_default();
                 (text(&program::run(command, file)), text(&self.reference.report(file)))
             }
             _ => {
-                let archive = make(self.archive.as_mut(), call, &inputs);
-                (archive, make(&mut self.reference, call, &inputs))
+                let archive = make(self.archive.as_mut(), call, &lent);
+                (archive, make(&mut self.reference, call, &lent))
             }
         };
-        Both { inputs, archive, reference }
+        Both { lent, archive, reference }
     }
 
     fn print_counts(&self) {
@@ -294,13 +295,13 @@ impl Test {
             Call::Read { file, .. } | Call::Report { file } => print_file(file),
             Call::Ask { book, .. } => print_book(book),
         }
-        for buffer in &both.inputs.buffers {
+        for buffer in &both.lent {
             println!("  lent {}: {} places", buffer.name, buffer.numbers().len());
         }
         println!("  archive:   {:?}", both.archive.given);
         println!("  reference: {:?}", both.reference.given);
         let after = both.archive.buffers.iter().zip(&both.reference.buffers);
-        for ((archive, reference), before) in after.zip(&both.inputs.buffers) {
+        for ((archive, reference), before) in after.zip(&both.lent) {
             for (place, ours, theirs) in archive.differences(reference).take(MOST) {
                 println!("  {}[{place}]: archive {ours}, reference {theirs}", archive.name);
             }

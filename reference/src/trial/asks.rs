@@ -69,8 +69,7 @@ fn kept(random: &mut Random, reference: &mut Reference, book: &Book) -> Kept {
 fn lent_heights(random: &mut Random, reference: &mut Reference, book: &Book) -> Vec<i64> {
     let count = book.b.clamp(0, MAX_MARKS as i64 + 1) as usize;
     let mut heights = vec![0; count];
-    let adjusted = random.once_in(2)
-        && reference.adjust(book.b, book.t, &book.held, &book.lines, &mut heights).number == 0;
+    let adjusted = random.once_in(2) && reference.adjust(book.lent(), &mut heights).number == 0;
     if !adjusted {
         let most = random.pick(&[1000, MAX_HELD_HEIGHT, MAX_HEIGHT]);
         heights.iter_mut().for_each(|height| *height = random.within(-most, most));

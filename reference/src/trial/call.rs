@@ -47,17 +47,13 @@ pub enum Call {
     },
 }
 
-pub const KINDS: [&str; 9] = [
-    "level_read",
-    "level_survey",
-    "level_listing",
-    "level_not_checked",
-    "level_rerun",
-    "level_withdraw",
-    "level_adjust",
-    "level_rate",
-    "report program",
-];
+macro_rules! names {
+    ($($name:ident $arguments:tt -> $answer:ident = $call:ident $lent:tt;)*) => {
+        [$(stringify!($name),)* "report program"]
+    };
+}
+
+pub const KINDS: [&str; 9] = header!(names);
 
 impl Call {
     /// The place of the call's name in `KINDS`.
@@ -159,16 +155,6 @@ pub struct Outcome {
     pub buffers: Vec<Buffer>,
 }
 
-/// What is lent with one call.
-#[derive(Clone, Debug)]
-pub struct Inputs {
-    file: Vec<u8>,
-    b: i64,
-    t: i64,
-    /// Held entries, lines and, for all calls but the reader, one buffer more.
-    pub buffers: Vec<Buffer>,
-}
-
 fn places(need: usize, room: Room) -> usize {
     (need as i64).saturating_add(room).max(0) as usize
 }
@@ -176,22 +162,19 @@ fn places(need: usize, room: Room) -> usize {
 /// The book's own report, as the reference has it; none of a refused book.
 pub fn own_report(reference: &mut Reference, book: &Book) -> Vec<i64> {
     let mut rows = vec![0; ROW * MAX_LINES];
-    let answer = reference.survey(book.b, book.t, &book.held, &book.lines, &mut rows);
+    let answer = reference.survey(book.lent(), &mut rows);
     rows.truncate(ROW * answer.rows as usize);
     rows
 }
 
 /// How many places the whole answer of a call needs; none if it is refused for another reason.
 fn need(reference: &mut Reference, book: &Book, ask: &Ask) -> usize {
-    let Book { b, t, held, lines } = book;
-    let mut out = vec![0; MAX_LINES];
-    let entries = match ask {
-        Ask::Listing { number, .. } => {
-            reference.listing(*b, *t, held, lines, *number, &mut out).entries
-        }
-        Ask::NotChecked { .. } => reference.not_checked(*b, *t, held, lines, &mut out).entries,
+    let mut out = [0; MAX_LINES];
+    let entries = match *ask {
+        Ask::Listing { number, .. } => reference.listing(book.lent(), number, &mut out).entries,
+        Ask::NotChecked { .. } => reference.not_checked(book.lent(), &mut out).entries,
         Ask::Survey { .. } => return own_report(reference, book).len(),
-        _ => (*b).clamp(0, 2 * MAX_MARKS as i64),
+        _ => book.b.clamp(0, 2 * MAX_MARKS as i64),
     };
     entries as usize
 }
@@ -209,77 +192,65 @@ fn kept_report(reference: &mut Reference, book: &Book, kept: &Kept) -> Buffer {
     buffer
 }
 
-/// Lays out what a call is lent; lengths and reports follow the book by the reference.
-pub fn lay_out(reference: &mut Reference, call: &Call) -> Inputs {
+/// The buffer that is lent with a book.
+fn third(reference: &mut Reference, book: &Book, ask: &Ask) -> Buffer {
+    let need = need(reference, book, ask);
+    match ask {
+        Ask::Survey { room } => Buffer::output("rows", places(need, *room)),
+        Ask::Listing { room, .. } => Buffer::output("out", places(need, *room)),
+        Ask::NotChecked { room } => Buffer::output("out", places(need, *room)),
+        Ask::Adjust { room } => Buffer::output("heights", places(need, *room)),
+        Ask::Rerun { kept, .. } | Ask::Withdraw { kept, .. } => kept_report(reference, book, kept),
+        Ask::Rate { heights, .. } => Buffer::of("heights", heights),
+    }
+}
+
+/// Lays out the buffers that a call is lent: held entries, lines and, with a book, one more. Lengths and
+/// reports follow the book by the reference.
+pub fn lay_out(reference: &mut Reference, call: &Call) -> Vec<Buffer> {
     match call {
-        Call::Report { file } => Inputs { file: file.clone(), b: 0, t: 0, buffers: vec![] },
+        Call::Report { .. } => vec![],
         Call::Read { file, held_room, lines_room } => {
             let (mut held, mut lines) = (vec![0; HELD * MAX_HELD], vec![0; LINE * MAX_LINES]);
             let answer = reference.read(file, &mut held, &mut lines);
             let held = places(HELD * answer.h as usize, *held_room);
             let lines = places(LINE * answer.n as usize, *lines_room);
-            let buffers = vec![Buffer::output("held", held), Buffer::output("lines", lines)];
-            Inputs { file: file.clone(), b: 0, t: 0, buffers }
+            vec![Buffer::output("held", held), Buffer::output("lines", lines)]
         }
         Call::Ask { book, ask } => {
-            let third = match ask {
-                Ask::Survey { room } => {
-                    Buffer::output("rows", places(need(reference, book, ask), *room))
-                }
-                Ask::Listing { room, .. } | Ask::NotChecked { room } => {
-                    Buffer::output("out", places(need(reference, book, ask), *room))
-                }
-                Ask::Adjust { room } => {
-                    Buffer::output("heights", places(need(reference, book, ask), *room))
-                }
-                Ask::Rerun { kept, .. } | Ask::Withdraw { kept, .. } => {
-                    kept_report(reference, book, kept)
-                }
-                Ask::Rate { heights, .. } => Buffer::of("heights", heights),
-            };
-            let held = Buffer::of("held", &book.held);
-            let lines = Buffer::of("lines", &book.lines);
-            Inputs { file: vec![], b: book.b, t: book.t, buffers: vec![held, lines, third] }
+            let (held, lines) = (Buffer::of("held", &book.held), Buffer::of("lines", &book.lines));
+            vec![held, lines, third(reference, book, ask)]
         }
     }
 }
 
-/// Makes a call on an implementation.
-pub fn make(level: &mut dyn Level, call: &Call, inputs: &Inputs) -> Outcome {
-    let mut inputs = inputs.clone();
-    let (b, t) = (inputs.b, inputs.t);
-    let given = match (call, &mut inputs.buffers[..]) {
-        (Call::Read { .. }, [held, lines]) => {
-            Given::Read(level.read(&inputs.file, held.lent_mut(), lines.lent_mut()))
+/// Makes a call on an implementation, with copies of the buffers that are lent.
+pub fn make(level: &mut dyn Level, call: &Call, lent: &[Buffer]) -> Outcome {
+    let mut buffers = lent.to_vec();
+    let given = match (call, &mut buffers[..]) {
+        (Call::Read { file, .. }, [held, lines]) => {
+            Given::Read(level.read(file, held.lent_mut(), lines.lent_mut()))
         }
-        (Call::Ask { ask, .. }, [held, lines, third]) => match ask {
-            Ask::Survey { .. } => {
-                Given::Answer(level.survey(b, t, held.lent(), lines.lent(), third.lent_mut()))
-            }
-            Ask::Listing { number, .. } => {
-                let out = third.lent_mut();
-                Given::Listed(level.listing(b, t, held.lent(), lines.lent(), *number, out))
-            }
-            Ask::NotChecked { .. } => {
-                Given::Listed(level.not_checked(b, t, held.lent(), lines.lent(), third.lent_mut()))
-            }
-            Ask::Rerun { line, difference, .. } => {
-                let (lines, report) = (lines.lent_mut(), third.lent_mut());
-                Given::Answer(level.rerun(b, t, held.lent(), lines, report, *line, *difference))
-            }
-            Ask::Withdraw { line, .. } => {
-                let (lines, report) = (lines.lent_mut(), third.lent_mut());
-                Given::Answer(level.withdraw(b, t, held.lent(), lines, report, *line))
-            }
-            Ask::Adjust { .. } => {
-                Given::Adjusted(level.adjust(b, t, held.lent(), lines.lent(), third.lent_mut()))
-            }
-            Ask::Rate { line, .. } => {
-                let (held, lines, heights) = (held.lent(), lines.lent(), third.lent());
-                Given::Rated(level.rate(b, t, held, lines, heights, *line))
-            }
-        },
+        (Call::Ask { book: Book { b, t, .. }, ask }, [held, lines, third]) => {
+            let book = Lent { b: *b, t: *t, held: held.lent(), lines: lines.lent_mut() };
+            make_ask(level, ask, book, third.lent_mut())
+        }
         _ => Given::Text(String::new()),
     };
-    Outcome { given, buffers: inputs.buffers }
+    Outcome { given, buffers }
+}
+
+/// Asks a book; `third` is the slice that is lent with it.
+fn make_ask(level: &mut dyn Level, ask: &Ask, book: LentMut, third: &mut [i64]) -> Given {
+    match *ask {
+        Ask::Survey { .. } => Given::Answer(level.survey(book.lent(), third)),
+        Ask::Listing { number, .. } => Given::Listed(level.listing(book.lent(), number, third)),
+        Ask::NotChecked { .. } => Given::Listed(level.not_checked(book.lent(), third)),
+        Ask::Rerun { line, difference, .. } => {
+            Given::Answer(level.rerun(book, third, line, difference))
+        }
+        Ask::Withdraw { line, .. } => Given::Answer(level.withdraw(book, third, line)),
+        Ask::Adjust { .. } => Given::Adjusted(level.adjust(book.lent(), third)),
+        Ask::Rate { line, .. } => Given::Rated(level.rate(book.lent(), third, line)),
+    }
 }

@@ -10,7 +10,7 @@ pub mod shapes;
 pub mod shrink;
 pub mod words;
 
-use crate::{HELD, LINE};
+use crate::{Lent, LentMut, HELD, LINE};
 
 /// A book in memory, good or not.
 #[derive(Clone, Debug, PartialEq, Eq)]
@@ -32,8 +32,21 @@ impl Book {
         self.held.len() / HELD
     }
 
+    /// A copy of a lent book.
+    pub fn of(Lent { b, t, held, lines }: Lent) -> Self {
+        Book { b, t, held: held.to_vec(), lines: lines.to_vec() }
+    }
+
+    pub fn lent(&self) -> Lent<'_> {
+        Lent { b: self.b, t: self.t, held: &self.held, lines: &self.lines }
+    }
+
+    pub fn lent_mut(&mut self) -> LentMut<'_> {
+        Lent { b: self.b, t: self.t, held: &self.held, lines: &mut self.lines }
+    }
+
     /// The book's file.
     pub fn file(&self) -> Vec<u8> {
-        crate::write(self.b, self.t, &self.held, &self.lines)
+        crate::write(self.lent())
     }
 }

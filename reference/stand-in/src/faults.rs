@@ -25,14 +25,14 @@ impl Faulty {
     }
 
     /// The refusal of a book that a fault gives wrongly, if it does.
-    fn wrong_refusal(b: i64, t: i64, held: &[i64], lines: &[i64]) -> Option<(i64, i64)> {
-        if Faulty::named("book-of-255-marks") && b == 256 {
+    fn wrong_refusal(book: Lent) -> Option<(i64, i64)> {
+        if Faulty::named("book-of-255-marks") && book.b == 256 {
             return Some((4, 0));
         }
         if Faulty::named("book-lines-before-held") {
-            let alone = Reference::new().survey(b, t, &[], lines, &mut [0; ROW * MAX_LINES]);
-            let whole = Reference::new().survey(b, t, held, lines, &mut [0; ROW * MAX_LINES]);
-            if whole.number == 6 && alone.number == 7 {
+            let survey = |book: Lent| Reference::new().survey(book, &mut [0; ROW * MAX_LINES]);
+            let alone = survey(Lent { held: &[], ..book });
+            if survey(book).number == 6 && alone.number == 7 {
                 return Some((7, alone.place));
             }
         }
@@ -40,29 +40,24 @@ impl Faulty {
     }
 
     /// The book as a fault reads it: without what it does not see.
-    fn seen(held: &[i64], lines: &[i64]) -> (Vec<i64>, Vec<i64>) {
-        let (mut held, mut lines) = (held.to_vec(), lines.to_vec());
+    fn seen(book: Lent) -> Book {
+        let mut seen = Book::of(book);
         if Faulty::named("book-mark-held-twice") {
-            let mut once: Vec<i64> = vec![];
-            for entry in held.chunks(HELD) {
-                if !once.chunks(HELD).any(|earlier| earlier[0] == entry[0]) {
-                    once.extend(entry);
+            seen.held.clear();
+            for entry in book.held.chunks(HELD) {
+                if !seen.held.chunks(HELD).any(|earlier| earlier[0] == entry[0]) {
+                    seen.held.extend(entry);
                 }
             }
-            held = once;
         }
         if Faulty::named("book-any-standing") {
-            lines.chunks_exact_mut(LINE).for_each(|line| line[4] = (line[4] != 0) as i64);
+            seen.lines.chunks_exact_mut(LINE).for_each(|line| line[4] = (line[4] != 0) as i64);
         }
         if Faulty::named("book-half-a-line") {
-            lines.truncate(lines.len() / LINE * LINE);
+            seen.lines.truncate(LINE * seen.lines_count());
         }
-        (held, lines)
+        seen
     }
-}
-
-fn book(b: i64, t: i64, held: &[i64], lines: &[i64]) -> Book {
-    Book { b, t, held: held.to_vec(), lines: lines.to_vec() }
 }
 
 /// A book whose lines are numbered from the last to the first.
@@ -110,26 +105,26 @@ impl Level for Faulty {
         }
     }
 
-    fn survey(&mut self, b: i64, t: i64, held: &[i64], lines: &[i64], rows: &mut [i64]) -> Answer {
-        if let Some((number, place)) = Faulty::wrong_refusal(b, t, held, lines) {
+    fn survey(&mut self, book: Lent, rows: &mut [i64]) -> Answer {
+        if let Some((number, place)) = Faulty::wrong_refusal(book) {
             return Answer { number, place, ..Answer::default() };
         }
-        let (held, lines) = Faulty::seen(held, lines);
-        let mut right = self.0.survey(b, t, &held, &lines, rows);
+        let seen = Faulty::seen(book);
+        let mut right = self.0.survey(seen.lent(), rows);
         let count = right.rows as usize;
         match fault() {
             "survey-equal-is-over" => {
                 for row in rows.chunks_exact_mut(ROW).take(count) {
                     let square = row[3] as i128 * row[3] as i128;
-                    row[4] = (square >= (10 * t * t * row[2]) as i128) as i64;
+                    row[4] = (square >= (10 * book.t * book.t * row[2]) as i128) as i64;
                 }
             }
             "survey-last-row-zeros" if count > 1 => {
                 rows[ROW * (count - 1)..ROW * count].fill(0);
             }
             "survey-ties-by-highest-number" if right.number == 0 => {
-                self.0.survey(b, t, &held, &turned(&lines), rows);
-                let last = (lines.len() / LINE) as i64 + 1;
+                self.0.survey(Lent { lines: &turned(&seen.lines), ..seen.lent() }, rows);
+                let last = seen.lines_count() as i64 + 1;
                 rows.chunks_exact_mut(ROW).take(count).for_each(|row| row[0] = last - row[0]);
             }
             "survey-one-piece" if right.number == 0 => right.pieces = 1,
@@ -140,19 +135,11 @@ impl Level for Faulty {
         right
     }
 
-    fn listing(
-        &mut self,
-        b: i64,
-        t: i64,
-        held: &[i64],
-        lines: &[i64],
-        number: i64,
-        out: &mut [i64],
-    ) -> Listed {
+    fn listing(&mut self, book: Lent, number: i64, out: &mut [i64]) -> Listed {
         if Faulty::named("listing-loop-0-is-1") && number == 0 {
-            return self.0.listing(b, t, held, lines, 1, out);
+            return self.0.listing(book, 1, out);
         }
-        let mut right = self.0.listing(b, t, held, lines, number, out);
+        let mut right = self.0.listing(book, number, out);
         match fault() {
             "listing-sense-of-last-turned" if right.entries > 4 => {
                 out[right.entries as usize - 1] *= -1;
@@ -163,47 +150,37 @@ impl Level for Faulty {
         right
     }
 
-    fn not_checked(
-        &mut self,
-        b: i64,
-        t: i64,
-        held: &[i64],
-        lines: &[i64],
-        out: &mut [i64],
-    ) -> Listed {
+    fn not_checked(&mut self, book: Lent, out: &mut [i64]) -> Listed {
         match fault() {
             "not-checked-always-empty" => {
-                let right = self.0.not_checked(b, t, held, lines, &mut [0; MAX_LINES]);
+                let right = self.0.not_checked(book, &mut [0; MAX_LINES]);
                 Listed { entries: 0, ..right }
             }
             "not-checked-with-withdrawn" => {
-                let mut standing = lines.to_vec();
+                let mut standing = book.lines.to_vec();
                 for line in standing.chunks_exact_mut(LINE) {
                     if line[4] == 0 {
                         line[4] = 1;
                     }
                 }
-                self.0.not_checked(b, t, held, &standing, out)
+                self.0.not_checked(Lent { lines: &standing, ..book }, out)
             }
-            _ => self.0.not_checked(b, t, held, lines, out),
+            _ => self.0.not_checked(book, out),
         }
     }
 
     fn rerun(
         &mut self,
-        b: i64,
-        t: i64,
-        held: &[i64],
-        lines: &mut [i64],
+        mut book: LentMut,
         report: &mut [i64],
         line: i64,
         difference: i64,
     ) -> Answer {
-        let (old_lines, old_report) = (lines.to_vec(), report.to_vec());
-        let right = self.0.rerun(b, t, held, lines, report, line, difference);
+        let (old_lines, old_report) = (book.lines.to_vec(), report.to_vec());
+        let right = self.0.rerun(book.lent_mut(), report, line, difference);
         match fault() {
             "rerun-does-nothing" => {
-                lines.copy_from_slice(&old_lines);
+                book.lines.copy_from_slice(&old_lines);
                 report.copy_from_slice(&old_report);
             }
             "rerun-keeps-old-verdict" if right.number == 0 => {
@@ -211,33 +188,26 @@ impl Level for Faulty {
                 rows.for_each(|(row, old)| row[4] = old[4]);
             }
             "rerun-takes-any-report" | "rerun-misses-last-number" if right.number == 9 => {
-                let fresh = own_report(&mut self.0, &book(b, t, held, lines));
+                let fresh = own_report(&mut self.0, &Book::of(book.lent()));
                 let (last, count) = (fresh.len() - 1, fresh.len());
                 let tested = if fault() == "rerun-takes-any-report" { 0 } else { last };
                 if report.len() >= count && report[..tested] == fresh[..tested] {
                     report[..count].copy_from_slice(&fresh);
-                    return self.0.rerun(b, t, held, lines, report, line, difference);
+                    return self.0.rerun(book, report, line, difference);
                 }
             }
             "rerun-writes-when-refused" if right.number == 9 => {
-                lines[LINE * line as usize - 3] = difference;
+                book.lines[LINE * line as usize - 3] = difference;
             }
             _ => {}
         }
         right
     }
 
-    fn withdraw(
-        &mut self,
-        b: i64,
-        t: i64,
-        held: &[i64],
-        lines: &mut [i64],
-        report: &mut [i64],
-        line: i64,
-    ) -> Answer {
+    fn withdraw(&mut self, mut book: LentMut, report: &mut [i64], line: i64) -> Answer {
         let old_report = report.to_vec();
-        let mut right = self.0.withdraw(b, t, held, lines, report, line);
+        let mut right = self.0.withdraw(book.lent_mut(), report, line);
+        let lines = book.lines;
         match fault() {
             "withdraw-keeps-vacated-row" if right.number == 0 => {
                 let rows = ROW * right.rows as usize;
@@ -258,20 +228,13 @@ impl Level for Faulty {
         right
     }
 
-    fn adjust(
-        &mut self,
-        b: i64,
-        t: i64,
-        held: &[i64],
-        lines: &[i64],
-        heights: &mut [i64],
-    ) -> Adjusted {
-        let mut right = self.0.adjust(b, t, held, lines, heights);
+    fn adjust(&mut self, book: Lent, heights: &mut [i64]) -> Adjusted {
+        let mut right = self.0.adjust(book, heights);
         match fault() {
             "adjust-one-sweep-fewer" if right.sweeps > 1 => right.sweeps -= 1,
-            "adjust-last-mark-off-by-one" if right.sweeps > 20 => heights[b as usize - 1] += 1,
+            "adjust-last-mark-off-by-one" if right.sweeps > 20 => heights[book.b as usize - 1] += 1,
             "adjust-pieces-before-room" if right.number == 10 => {
-                let roomy = self.0.adjust(b, t, held, lines, &mut [0; MAX_MARKS]);
+                let roomy = self.0.adjust(book, &mut [0; MAX_MARKS]);
                 if roomy.number == 11 {
                     right = roomy;
                 }
@@ -281,20 +244,12 @@ impl Level for Faulty {
         right
     }
 
-    fn rate(
-        &mut self,
-        b: i64,
-        t: i64,
-        held: &[i64],
-        lines: &[i64],
-        heights: &[i64],
-        line: i64,
-    ) -> Rated {
-        let mut right = self.0.rate(b, t, held, lines, heights, line);
+    fn rate(&mut self, book: Lent, heights: &[i64], line: i64) -> Rated {
+        let mut right = self.0.rate(book, heights, line);
         match fault() {
             "rate-by-32-bits" if right.number == 0 => right.rate = right.rate as f32 as f64,
             "rate-withdrawn-before-heights"
-                if right.number == 13 && lines[LINE * line as usize - 1] == 0 =>
+                if right.number == 13 && book.lines[LINE * line as usize - 1] == 0 =>
             {
                 right = Rated { line, withdrawn: 1, ..Rated::default() };
             }
