@@ -1,26 +1,13 @@
 // The adjustment of a tested book, in tables of its own on the stack.
 ghost use mathlib.Core.Path.{_≡_};
-ghost use mathlib.Core.List.{_++_};
 ghost use Prim.Native.Nat.{_≤_};
-ghost use lib.ListN.{length, drop};
+ghost use lib.ListN.{length};
 ghost use Rattle.adjust.specs.Adjusted.{adjustment};
 ghost use Rattle.adjust.specs.Answers.{Answers};
 ghost use Rattle.adjust.specs.Call.{GoodEntries, adjusted, adjustGood};
 use crate::Adjusted;
 use crate::along::adjust_along;
 use book::Book;
-
-// The heights go to the front of what is lent.
-fn put(z: &[i64], out: &mut [i64])
-    requires { ⌜ length (now z) ≤ length (now out) ⌝ }
-    ensures { λ _. ⌜ now (out .exit) ≡ now (z .entry) ++ drop (length (now (z .entry))) (now (out .entry)) ⌝ }
-{
-    let mut i = 0;
-    while i < z.len() {
-        out[i] = z[i];
-        i += 1;
-    }
-}
 
 // The adjustment, its heights left in z.
 fn adjust_into(book: Book, held: &[i64], lines: &[i64], z: &mut [i64]) -> Adjusted
@@ -69,7 +56,7 @@ fn adjust_by(
 {
     let a = adjust_into(book, held, lines, z);
     if a.number == 0 {
-        put(z, heights);
+        kept::put(z, heights);
     }
     a
 }

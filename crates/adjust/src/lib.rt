@@ -17,7 +17,7 @@ pub struct Adjusted {
     pub sweeps: usize,
 }
 
-pub fn refuse(number: usize, place: usize) -> Adjusted
+pub(crate) fn refuse(number: usize, place: usize) -> Adjusted
     ensures { λ r. ⌜ r ≡ answer number place 0 ⌝ }
 {
     Adjusted {

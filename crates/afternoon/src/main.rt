@@ -13,16 +13,16 @@ use words::Sheet;
 // The worked network's numbers: one held entry, seven lines; its report of three rows is kept in space for four.
 const HELD_WORDS: usize = 2;
 
-pub const LINES_WORDS: usize = 35;
+pub(crate) const LINES_WORDS: usize = 35;
 
-pub const REPORT_WORDS: usize = 20;
+pub(crate) const REPORT_WORDS: usize = 20;
 
 // The kinds of step: the three calls, the pen in held entries, lines or report, and the file read anew.
-pub const SURVEY: usize = 0;
+pub(crate) const SURVEY: usize = 0;
 
-pub const RERUN: usize = 1;
+pub(crate) const RERUN: usize = 1;
 
-pub const WITHDRAW: usize = 2;
+pub(crate) const WITHDRAW: usize = 2;
 
 const PEN_IN_HELD: usize = 3;
 
@@ -32,7 +32,7 @@ const PEN_IN_REPORT: usize = 5;
 
 const STEP_BYTES: usize = 18;
 
-pub struct Step {
+pub(crate) struct Step {
     kind: usize,
     lent: usize,
     which: i64,

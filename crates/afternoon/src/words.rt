@@ -6,7 +6,7 @@ use crate::REPORT_WORDS;
 use crate::Step;
 
 // The three sheets in which a number can change.
-pub enum Sheet {
+pub(crate) enum Sheet {
     Held,
     Lines,
     Report,
@@ -36,12 +36,12 @@ fn amount(word: &[u8], x: i64) {
     cases::put_signed(x);
 }
 
-pub fn put_note(note: &[u8]) {
+pub(crate) fn put_note(note: &[u8]) {
     put(note);
     put(b"\n");
 }
 
-pub fn put_read(a: file::ReadAnswer) {
+pub(crate) fn put_read(a: file::ReadAnswer) {
     count(b"  READ:", a.number);
     count(b" AT", a.place);
     count(b", MARKS", a.b);
@@ -50,7 +50,7 @@ pub fn put_read(a: file::ReadAnswer) {
 }
 
 // `RE-RUN 6 TO 2428000:`
-pub fn put_call(step: Step) {
+pub(crate) fn put_call(step: Step) {
     let kind = step.kind;
     match kind {
         crate::SURVEY => put(b"  SURVEY"),
@@ -64,7 +64,7 @@ pub fn put_call(step: Step) {
 }
 
 // `DONE, 0 AT 0, ROWS 3, PIECES 1`
-pub fn put_answer(a: survey::Answer) {
+pub(crate) fn put_answer(a: survey::Answer) {
     if a.number == 0 {
         put(b" DONE,");
     } else {
@@ -78,7 +78,7 @@ pub fn put_answer(a: survey::Answer) {
 }
 
 // `LINE 6: DIFFERENCE 2410000 BECOMES 2428000`
-pub fn put_change(sheet: Sheet, at: usize, was: i64, is: i64) {
+pub(crate) fn put_change(sheet: Sheet, at: usize, was: i64, is: i64) {
     match sheet {
         Sheet::Held => put_held_place(at),
         Sheet::Lines => put_line_place(at),
@@ -120,7 +120,7 @@ fn put_row_place(at: usize) {
 }
 
 // Each number of the book's lines that changed.
-pub fn put_book(were: &[i64; LINES_WORDS], are: &[i64; LINES_WORDS]) {
+pub(crate) fn put_book(were: &[i64; LINES_WORDS], are: &[i64; LINES_WORDS]) {
     if same(were, are) {
         put(b"    BOOK AS IT WAS\n");
     }
@@ -148,7 +148,7 @@ fn same(s: &[i64], t: &[i64]) -> bool {
 }
 
 // A refusal leaves the report; else its rows are printed, and which of them stand as they did.
-pub fn put_report(number: usize, was: &[i64; REPORT_WORDS], is: &[i64; REPORT_WORDS]) {
+pub(crate) fn put_report(number: usize, was: &[i64; REPORT_WORDS], is: &[i64; REPORT_WORDS]) {
     if number != 0 && same(was, is) {
         put(b"    REPORT AS IT WAS\n");
         return;

@@ -1,19 +1,16 @@
 -- The corrected book: a good book with one number set stays good; its standing lines and its loops. Assumes nothing.
-use mathlib.Core.List.{List, List·Memᴰ, map}
+use mathlib.Core.List.{List, map}
 use mathlib.Core.Path.{_≡_, refl, _∙_, ap}
-use Prim.Native.Nat.{ℕ, suc, _+_, _*_, _-_, _≤_, _<_}
-use native.Mathlib.Decide.{ℕ-discrete}
+use Prim.Native.Nat.{ℕ, suc, _+_, _*_, _≤_, _<_}
 use native.Mathlib.Omega.{arith}
 use lib.IntN.{ℤ, pos, natAbs}
 use lib.ListN.{length, length-map, set, length-set}
 use lib.Seq.{getD-set-same, getD-set-other}
-use Rattle.laws.proofs.Size.{Between}
 use Rattle.book.specs.Good.{GoodBook, GoodLine}
 use Rattle.book.specs.Limits.{mostDifference}
-use Rattle.book.specs.Line.{field, differenceAt, standingAt}
 use Rattle.book.specs.declared.Book.{Book}
-use Rattle.network.proofs.Corrected.{in-standing, rerun-sets-difference, withdrawal-sets-standing}
-use Rattle.network.specs.Field.{HasLine, lineAt}
+use Rattle.network.proofs.Corrected.{rerun-sets-difference, withdrawal-sets-standing}
+use Rattle.network.specs.Field.{lineAt}
 use Rattle.network.specs.Redone.{redonePass, redone}
 use Rattle.network.specs.Standing.{standing}
 use Rattle.network.specs.Without.{without}
@@ -21,22 +18,13 @@ use Rattle.loops.proofs.Rerun.{rerun-keeps-loops}
 use Rattle.loops.proofs.Row.{rows-length}
 use Rattle.loops.proofs.Withdrawal.{loops-never-grow}
 use Rattle.loops.specs.Loops.{loops}
-use Rattle.survey.proofs.Sounding.{good-sound}
-use Rattle.survey.specs.Correction.{placeOf, rerunLines, withdrawLines}
+use Rattle.survey.proofs.Sounding.{good-lines, good-sound}
+use Rattle.survey.proofs.Corrected.{place-is, has-line, rerun-good, withdrawal-good, its-line}
+use Rattle.survey.specs.Correction.{rerunLines, withdrawLines}
 use Rattle.survey.specs.Report.{loopsOf, reportOf}
 use Rattle.demands.specs.Corrections.{Stands, OnlyChange}
 
 -- ---- one number set
-
--- where the number of a standing line's field is
-pub place-is : {lines : List ℤ} {number : ℤ} {i : ℕ} → Stands lines number i → (j : ℕ) → placeOf number j ≡ i * 5 + j
-place-is {number = number} {i = i} w j =
-    let z : natAbs number ≡ suc i = ap natAbs (w .its-number) in
-    omega arith
-
--- and that the slice has it
-pub has-line : {lines : List ℤ} {number : ℤ} {i : ℕ} → Stands lines number i → HasLine lines i
-has-line w = omega (arith, w .there)
 
 -- setting one number changes nothing else
 pub set-changes : (lines : List ℤ) (p : ℕ) (v : ℤ) → p < length lines → OnlyChange lines (set lines p v) p v
@@ -60,20 +48,6 @@ module _ (lines : List ℤ) (number : ℤ) (i : ℕ) (stands : Stands lines numb
   -- ---- the book stays good
 
   module _ (k : Book) (b t : ℤ) (held : List ℤ) (good : GoodBook k b t held lines) where
-    -- the line itself, as a standing line
-    pub its-line : List·Memᴰ (lineAt (suc i) lines i) (standing lines)
-    its-line =
-        let g = good .each-line i (omega (arith, good .whole-lines, stands .there)) in
-        in-standing lines i (lineAt (suc i) lines i) (record {
-          isThere = has-line stands;
-          beyond = 0;
-          stands = g .standing .is ∙ ap pos (one (natAbs (standingAt lines i)) (g .standing .high) (λ z. stands .not-withdrawn (g .standing .is ∙ ap pos z)));
-          its = refl;
-        })
-      where
-        one : (n : ℕ) → n ≤ 1 → (n ≡ 0 → ⊥) → n ≡ 1
-        one n h d = omega arith
-
     -- only its lines are to be looked at again
     with-lines : (p : ℕ) (v : ℤ) → ((j : ℕ) → GoodLine (k .marks) lines j → GoodLine (k .marks) (set lines p v) j) → GoodBook k b t held (set lines p v)
     with-lines p v h = record {
@@ -94,44 +68,13 @@ module _ (lines : List ℤ) (number : ℤ) (i : ℕ) (stands : Stands lines numb
     -- a book with a line re-run inside the limit is good
     pub rerun-stays-good : (difference : ℤ) → natAbs difference ≤ mostDifference → GoodBook k b t held (rerunLines lines number difference)
     unfolding rerunLines
-    rerun-stays-good d small = rw (place-is stands 2) (with-lines (i * 5 + 2) d line-good)
-      where
-        line-good : (j : ℕ) → GoodLine (k .marks) lines j → GoodLine (k .marks) (set lines (i * 5 + 2) d) j
-        line-good j g =
-            let same : (n : ℕ) → (j * 5 + n ≡ i * 5 + 2 → ⊥) → field n (set lines (i * 5 + 2) d) j ≡ field n lines j = (λ n h. getD-set-other lines (i * 5 + 2) (j * 5 + n) d (pos 0) h) in
-            record {
-              from = rw (same 0 (λ z. omega arith)) (g .from);
-              to = rw (same 1 (λ z. omega arith)) (g .to);
-              apart = rw (same 0 (λ z. omega arith), same 1 (λ z. omega arith)) (g .apart);
-              difference = new (ℕ-discrete j i);
-              long = rw (same 3 (λ z. omega arith)) (g .long);
-              standing = rw (same 4 (λ z. omega arith)) (g .standing);
-            }
-          where
-            new : Dec (j ≡ i) → natAbs (differenceAt (set lines (i * 5 + 2) d) j) ≤ mostDifference
-            new (yes e) = rw (e, getD-set-same lines (i * 5 + 2) d (pos 0) (omega (arith, has-line stands))) small
-            new (no h) = rw (getD-set-other lines (i * 5 + 2) (j * 5 + 2) d (pos 0) (λ z. h (omega arith))) (g .difference)
+    rerun-stays-good d small = rw (place-is stands 2) (with-lines (i * 5 + 2) d (λ j g. rerun-good (k .marks) lines i 2 d (omega (arith, has-line stands)) j g refl small))
 
     -- a book with a line withdrawn is good
     pub withdrawal-stays-good : GoodBook k b t held (withdrawLines lines number)
     unfolding withdrawLines
-    withdrawal-stays-good = rw (place-is stands 4) (with-lines (i * 5 + 4) (pos 0) line-good)
-      where
-        line-good : (j : ℕ) → GoodLine (k .marks) lines j → GoodLine (k .marks) (set lines (i * 5 + 4) (pos 0)) j
-        line-good j g =
-            let same : (n : ℕ) → (j * 5 + n ≡ i * 5 + 4 → ⊥) → field n (set lines (i * 5 + 4) (pos 0)) j ≡ field n lines j = (λ n h. getD-set-other lines (i * 5 + 4) (j * 5 + n) (pos 0) (pos 0) h) in
-            record {
-              from = rw (same 0 (λ z. omega arith)) (g .from);
-              to = rw (same 1 (λ z. omega arith)) (g .to);
-              apart = rw (same 0 (λ z. omega arith), same 1 (λ z. omega arith)) (g .apart);
-              difference = rw (same 2 (λ z. omega arith)) (g .difference);
-              long = rw (same 3 (λ z. omega arith)) (g .long);
-              standing = new (ℕ-discrete j i);
-            }
-          where
-            new : Dec (j ≡ i) → Between 0 1 (standingAt (set lines (i * 5 + 4) (pos 0)) j)
-            new (yes e) = rw (e, getD-set-same lines (i * 5 + 4) (pos 0) (pos 0) (omega (arith, has-line stands))) (record { is = refl; low = omega arith; high = omega arith })
-            new (no h) = rw (getD-set-other lines (i * 5 + 4) (j * 5 + 4) (pos 0) (pos 0) (λ z. h (omega arith))) (g .standing)
+    withdrawal-stays-good =
+        rw (place-is stands 4) (with-lines (i * 5 + 4) (pos 0) (λ j g. withdrawal-good (k .marks) lines i 4 (pos 0) (omega (arith, has-line stands)) j g refl refl))
 
 -- ---- the loops of the corrected book
 
@@ -156,4 +99,4 @@ module _ (lines : List ℤ) (number : ℤ) (i : ℕ) (stands : Stands lines numb
   unfolding loopsOf
   withdrawal-adds-no-row k b t held good =
       rw (withdrawal-is-without lines number i stands)
-      (loops-never-grow (k .marks) (standing lines) (good-sound k b t held lines good) (lineAt (suc i) lines i) (its-line lines number i stands k b t held good))
+      (loops-never-grow (k .marks) (standing lines) (good-sound k b t held lines good) (lineAt (suc i) lines i) (its-line k lines (good-lines k b t held lines good) number i stands))

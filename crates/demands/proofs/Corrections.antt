@@ -21,7 +21,8 @@ use Rattle.demands.specs.Calls.{afresh, correctionDone}
 use Rattle.demands.specs.Corrections.{Step, rerun, withdraw, correct, Accepted, no-more, accepted, linesAfter, reportAfter, Acceptable, OnlyChange, KeptTrue}
 use Rattle.demands.proofs.Refusals.{survey-keeps-to-table, rerun-keeps-to-table, withdrawal-keeps-to-table}
 use Rattle.demands.proofs.Done.{survey-done-exactly-if, rerun-done-exactly-if, withdrawal-done-exactly-if}
-use Rattle.demands.proofs.CorrectedBook.{place-is, has-line, set-changes, rerun-stays-good, withdrawal-stays-good, report-length, rerun-keeps-rows, withdrawal-adds-no-row}
+use Rattle.survey.proofs.Corrected.{place-is, has-line}
+use Rattle.demands.proofs.CorrectedBook.{set-changes, rerun-stays-good, withdrawal-stays-good, report-length, rerun-keeps-rows, withdrawal-adds-no-row}
 
 -- ---- one correction
 

@@ -9,9 +9,8 @@ use lib.ListN.{length, take, drop, take-append-drop}
 use lib.Seq.{take-append-seam}
 use lib.IntN.{ℤ, pos, natAbs}
 use borrow.Author.Tests.{not-false}
-use Rattle.laws.specs.Tests.{outZ, eqZ}
-use Rattle.laws.proofs.Tests.{or-left, or-right, eqZ-same, eqZ-apart}
-use Rattle.laws.proofs.Size.{between}
+use Rattle.laws.specs.Tests.{eqZ}
+use Rattle.laws.proofs.Tests.{eqZ-same}
 use Rattle.laws.proofs.FirstBad.{first-is-first}
 use Rattle.laws.proofs.Inside.{eqZ-true, apart-eqZ, inside}
 use Rattle.book.specs.Held.{heldCount, heldBad, firstBadHeld}
@@ -22,6 +21,7 @@ use Rattle.book.specs.declared.Book.{Book}
 use Rattle.book.specs.declared.Tested.the-variants.{Good}
 use Rattle.book.proofs.Goods.{good-line, good-held, tested-good}
 use Rattle.book.proofs.Passing.{line-passes, held-passes, good-passes}
+use Rattle.survey.proofs.Corrected.{stands-of}
 use Rattle.survey.specs.Correction.{noLine, sameNumbers, otherReport}
 use Rattle.demands.specs.Corrections.{Stands}
 
@@ -52,23 +52,8 @@ line-place-is-first b lines i e = first-is-first (lineBad b lines) (lineCount li
 -- 8: there is such a line exactly if its number is one of the book's and it stands
 pub line-exactly-if-stands : (lines : List ℤ) (number : ℤ) → (noLine lines number ≡ false) ↔ ((i : ℕ) × Stands lines number i)
 unfolding noLine
-line-exactly-if-stands lines number = (to, λ w. back (w .0) (w .1))
+line-exactly-if-stands lines number = (λ e. (natAbs number - 1, stands-of lines number e), λ w. back (w .0) (w .1))
   where
-    to : noLine lines number ≡ false → (i : ℕ) × Stands lines number i
-    to e =
-        let out = outZ (pos 1) (pos (lineCount lines)) number in
-        let gone = eqZ (standingAt lines (natAbs number - 1)) (pos 0) in
-        let w = between 1 (lineCount lines) number (or-left out gone e) in
-        let low = w .low in
-        let high = w .high in (
-          natAbs number - 1,
-          record {
-            its-number = w .is ∙ ap pos (omega arith);
-            there = omega arith;
-            not-withdrawn = eqZ-apart (standingAt lines (natAbs number - 1)) (pos 0) (or-right out gone e);
-          },
-        )
-
     back : (i : ℕ) → Stands lines number i → noLine lines number ≡ false
     back i w = rw (w .its-number, inside 1 (lineCount lines) (suc i) (omega arith) (omega (arith, w .there))) (apart-eqZ (standingAt lines (suc i - 1)) (pos 0) (λ z. w .not-withdrawn (ap (standingAt lines) (omega arith) ∙ z)))
 

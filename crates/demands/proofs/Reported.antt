@@ -15,14 +15,14 @@ use Rattle.book.specs.declared.Book.{Book}
 use Rattle.book.specs.declared.Tested.the-variants.{Good}
 use Rattle.book.proofs.Goods.{tested-good}
 use Rattle.network.specs.Standing.{Line, standing}
-use Rattle.loops.specs.Loops.{Loop}
+use Rattle.loops.specs.Loops.{Loop, loopAt}
 use Rattle.loops.specs.Row.{listed, verdict, row}
 use Rattle.loops.specs.Checked.{runs, notChecked}
 use Rattle.loops.specs.Circuit.{Circuit}
 use Rattle.loops.proofs.Row.{within-exactly-if, over-else, rows-length}
 use Rattle.survey.specs.Report.{loopsOf, reportOf, piecesOf, counted}
 use Rattle.survey.specs.Survey.{surveyOf}
-use Rattle.lists.specs.Listing.{loopAt, listingOf}
+use Rattle.lists.specs.Listing.{listingOf}
 use Rattle.lists.specs.NotChecked.{uncheckedOf, notCheckedOf}
 use Rattle.survey.proofs.Places.{row-at}
 use Rattle.demands.specs.Calls.{listDone}

@@ -21,7 +21,7 @@ use Rattle.network.specs.Walk.{Pass}
 use Rattle.network.proofs.Count.{unique}
 use Rattle.network.proofs.ShortestPath.{pass-line}
 use Rattle.network.proofs.Withdrawn.{withdrawal-keeps-tree}
-use Rattle.loops.specs.Loops.{Loop}
+use Rattle.loops.specs.Loops.{Loop, loopAt}
 use Rattle.loops.specs.Row.{misclosure}
 use Rattle.loops.specs.Passes.{passes}
 use Rattle.loops.specs.Withdrawn as withdrawn
@@ -30,16 +30,16 @@ use Rattle.loops.proofs.Basis.{all-closed}
 use Rattle.loops.proofs.Rerun.{rerun-keeps-tree, rerun-keeps-closing-lines, rerun-keeps-pieces, rerun-keeps-listing, rerun-keeps-closing-line, rerun-keeps-count, rerun-keeps-length, rerun-keeps-other-loops, rerun-moves-misclosure}
 use Rattle.loops.proofs.Withdrawal.{withdrawal-keeps-loops, one-loop-goes, loops-never-grow, at-most-one-loop-fewer}
 use Rattle.survey.specs.Report.{loopsOf, piecesOf}
-use Rattle.lists.specs.Listing.{loopAt}
 use Rattle.survey.specs.Correction.{rerunLines, withdrawLines, rerunOf, withdrawOf}
-use Rattle.survey.proofs.Sounding.{good-sound}
+use Rattle.survey.proofs.Sounding.{good-lines, good-sound}
+use Rattle.survey.proofs.Corrected.{its-line}
 use Rattle.survey.proofs.Places.{loop-at-is}
 use Rattle.demands.specs.TheLoops.{closingLinesOf}
 use Rattle.demands.specs.Corrections.{Stands, Acceptable}
 use Rattle.demands.specs.StillStands.{SameLoop, StillStand, none-left, gone, stays, SameWay, AfterRerun, AfterClosingLine}
 use Rattle.demands.proofs.Refusals.{rerun-keeps-to-table, withdrawal-keeps-to-table}
 use Rattle.demands.proofs.Done.{rerun-done-exactly-if, withdrawal-done-exactly-if}
-use Rattle.demands.proofs.CorrectedBook.{rerun-is-redone, withdrawal-is-without, its-line, rerun-loops, rerun-keeps-rows}
+use Rattle.demands.proofs.CorrectedBook.{rerun-is-redone, withdrawal-is-without, rerun-loops, rerun-keeps-rows}
 
 -- the same loop in the same place
 same-loop : (t : ℕ) {before after : Loop} → after ≡ before → SameLoop t before after
@@ -118,7 +118,7 @@ module _ (b t : ℤ) (held lines report : List ℤ) where
       own : (a : Acceptable b t held lines report number) (p : Pass) → List·Memᴰ (p .line) (standing lines) → p .line .number ≡ suc (a .line) → p .line ≡ lineAt (suc (a .line)) lines (a .line)
       own a p m e =
           unique (standing lines) (sound-book (a .book) (a .passes) .rising) (p .line) (lineAt (suc (a .line)) lines (a .line)) m
-          (its-line lines number (a .line) (a .stands) (a .book) b t held (tested-good b t held lines (a .book) (a .passes))) e
+          (its-line (a .book) lines (good-lines (a .book) b t held lines (tested-good b t held lines (a .book) (a .passes))) number (a .line) (a .stands)) e
 
   -- a closing line is withdrawn: what still stands
   pub withdrawal-what-still-stands : (c : Line) → List·Memᴰ c (closingLinesOf (natAbs b) lines)
@@ -147,7 +147,7 @@ module _ (b t : ℤ) (held lines report : List ℤ) where
       let a = withdrawal-done-exactly-if b t held lines report number .0 z in
       let good = tested-good b t held lines (a .book) (a .passes) in
       let line = lineAt (suc (a .line)) lines (a .line) in
-      let stands = its-line lines number (a .line) (a .stands) (a .book) b t held good in
+      let stands = its-line (a .book) lines (good-lines (a .book) b t held lines good) number (a .line) (a .stands) in
       let sound = good-sound (a .book) b t held lines good in
       rw (withdrawal-keeps-to-table b t held lines report number .finished z, withdrawal-is-without lines number (a .line) (a .stands), ap natAbs (good .marks))
       (loops-never-grow (a .book .marks) (standing lines) sound line stands, at-most-one-loop-fewer (a .book .marks) (standing lines) sound line stands)

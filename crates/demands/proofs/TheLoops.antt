@@ -25,7 +25,7 @@ use Rattle.network.proofs.Entries.{each-mark-enters-once, tree-line-leads-neare
 use Rattle.network.proofs.Growth.{tree-grows, only-tree}
 use Rattle.network.proofs.Pieces.{root-exactly-if-lowest, as-many-pieces-as-roots}
 use Rattle.network.proofs.ClosingLines as closings
-use Rattle.loops.specs.Loops.{Loop}
+use Rattle.loops.specs.Loops.{Loop, loopAt}
 use Rattle.loops.specs.AllLoops.{LoopsOf, allLoops}
 use Rattle.loops.specs.EachLoop.{IsLoopOf, OneToOne}
 use Rattle.loops.specs.Row.{misclosure}
@@ -38,7 +38,6 @@ use Rattle.loops.proofs.Basis.{basis}
 use Rattle.loops.proofs.Misclosure.{misclosure-is-sum, all-close}
 use Rattle.loops.proofs.Checked as checks
 use Rattle.survey.specs.Report.{loopsOf, piecesOf}
-use Rattle.lists.specs.Listing.{loopAt}
 use Rattle.survey.proofs.Sounding.{good-sound}
 use Rattle.survey.proofs.Places.{loop-at-is, pairs-at, loop-at}
 use Rattle.demands.specs.TheLoops.{treeOf, treeLinesOf, closingLinesOf, subgraph, LoopIs}

@@ -8,11 +8,10 @@ use lib.IntN.{ℤ}
 use lib.ListN.{length}
 use Rattle.network.specs.Subgraph.{numbers}
 use Rattle.network.specs.Walk.{wayLength}
-use Rattle.loops.specs.Loops.{Loop}
+use Rattle.loops.specs.Loops.{Loop, loopAt}
 use Rattle.loops.specs.Row.{listed, closingNumber, row}
 use Rattle.loops.specs.Checked.{runs}
 use Rattle.survey.specs.Report.{loopsOf, piecesOf}
-use Rattle.lists.specs.Listing.{loopAt}
 use Rattle.demands.specs.TheLoops.{treeOf, treeLinesOf, closingLinesOf}
 
 -- the loop is as it was: its lines and their sense, and its row, with misclosure and verdict

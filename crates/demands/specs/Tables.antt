@@ -11,9 +11,9 @@ use Rattle.book.specs.Held.{heldWords, heldCount, firstBadHeld}
 use Rattle.book.specs.Line.{lineWords, lineCount, differenceOut, firstBadLine}
 use Rattle.book.specs.Test.{torn, bookOut}
 use Rattle.file.specs.Read.{statedLength, statedVersion, statedT, statedB, statedH, statedN, fileLength, heldOf, linesOf}
+use Rattle.loops.specs.Loops.{loopAt}
 use Rattle.loops.specs.Row.{listed}
 use Rattle.survey.specs.Report.{loopsOf, reportOf}
-use Rattle.lists.specs.Listing.{loopAt}
 use Rattle.lists.specs.NotChecked.{uncheckedOf}
 use Rattle.survey.specs.Correction.{noLine, otherReport}
 use Rattle.demands.specs.Rules.{Rule, rule}

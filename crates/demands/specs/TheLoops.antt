@@ -12,11 +12,11 @@ use Rattle.network.specs.Tree.{Tree, tree, treeLines}
 use Rattle.network.specs.Closing.{closing}
 use Rattle.network.specs.Subgraph.{only, numbers}
 use Rattle.network.specs.Walk.{Pass, pass, Walk, wayLength, IsShortest, marksOn, AllDifferent, OnlyOnce}
-use Rattle.loops.specs.Loops.{Loop}
+use Rattle.loops.specs.Loops.{Loop, loopAt}
 use Rattle.loops.specs.Row.{misclosure, closingNumber}
 use Rattle.loops.specs.Checked.{runs}
 use Rattle.survey.specs.Report.{loopsOf}
-use Rattle.lists.specs.Listing.{Listing, loopAt}
+use Rattle.lists.specs.Listing.{Listing}
 
 -- "A report row is five numbers: closing line, count of lines, length, misclosure, verdict": number j of row i, rows counted from 0
 abbrev pub inRow : ℕ → List ℤ → ℕ → ℤ

@@ -24,7 +24,7 @@ pub fn differs(report: &[i64], rows: &[i64]) -> bool
     false
 }
 
-// The rows go to the front of what is lent.
+// The rows, or the heights, go to the front of what is lent.
 pub fn put(rows: &[i64], out: &mut [i64])
     requires { ⌜ length (now rows) ≤ length (now out) ⌝ }
     ensures { λ _. ⌜ now (out .exit) ≡ now (rows .entry) ++ drop (length (now (rows .entry))) (now (out .entry)) ⌝ }

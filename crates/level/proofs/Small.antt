@@ -9,7 +9,7 @@ use mathlib.Core.List.{List, map}
 use lib.Dec.{ltb}
 use borrow.Author.Tests.{ltb-false}
 use lib.IntN.{ℤ, pos, natAbs}
-use lib.ListN.{length, getD, set}
+use lib.ListN.{length, getD}
 use Rattle.laws.specs.Tests.{outZ, eqZ}
 use Rattle.laws.proofs.Tests.{cond-ind}
 use Rattle.laws.proofs.Size.{between, size-within}
@@ -25,15 +25,15 @@ use Rattle.book.proofs.Goods.{Numbered, tested-good, tested-numbered}
 use Rattle.network.specs.Standing.{standing}
 use Rattle.network.proofs.Entries.{tree-lines-count}
 use Rattle.survey.specs.GoodLines.{GoodLines}
-use Rattle.survey.specs.Stands.{Sets, re-run, withdrawal}
 use Rattle.survey.specs.Report.{loopsOf, reportOf, piecesOf, refusal, counted}
 use Rattle.survey.specs.Survey.{Surveyed, surveyGood, surveyTested, surveyOf}
-use Rattle.survey.specs.Correction.{Corrected, noLine, otherReport, placeOf, correctGood, correctTested, rerunLines, withdrawLines, rerunOf, withdrawOf}
-use Rattle.lists.specs.Listing.{Listing, unlisted, listOf, loopAt, listingGood, listingTested, listingOf}
+use Rattle.survey.specs.Correction.{Corrected, noLine, otherReport, correctGood, correctTested, rerunLines, withdrawLines, rerunOf, withdrawOf}
+use Rattle.lists.specs.Listing.{Listing, unlisted, listOf, listingGood, listingTested, listingOf}
 use Rattle.lists.specs.NotChecked.{uncheckedOf, notCheckedTested, notCheckedOf}
+use Rattle.loops.specs.Loops.{loopAt}
 use Rattle.loops.specs.Row.{listed}
 use Rattle.survey.proofs.Sounding.{good-lines, lines-sound, few-loops}
-use Rattle.survey.proofs.Corrected.{stands-of, corrected-good}
+use Rattle.survey.proofs.Corrected.{stands-of, rerun-lines-good, withdrawn-lines-good}
 use Rattle.rates.specs.Rates.{refusedRate, lineRate, firstHigh, goodRate, testedRate, rateAnswer}
 use Rattle.rates.specs.declared.RateAnswer.{RateAnswer}
 use Rattle.rates.proofs.Rating.{marks-of}
@@ -112,15 +112,12 @@ module _ (b t : ℤ) (held lines : List ℤ) where
           (λ _. counted-small k lines (good-of k e))
 
   module _ (report : List ℤ) (number : ℤ) where
-    -- a correction sets one number of a line that stands
-    corrected-small : (field : ℕ) (value : ℤ) → Sets field value
-        → SmallAnswer (correctTested lines report number (set lines (placeOf number field) value) (testOf b t held lines) .answer)
+    -- a correction leaves a good book good
+    corrected-small : (new : List ℤ) → ((k : Book) → testOf b t held lines ≡ Good k → noLine lines number ≡ false → GoodLines k new)
+        → SmallAnswer (correctTested lines report number new (testOf b t held lines) .answer)
     unfolding correctTested correctGood
-    corrected-small field value sets = go (testOf b t held lines) refl
+    corrected-small new good = go (testOf b t held lines) refl
       where
-        new : List ℤ
-        new = set lines (placeOf number field) value
-
         go : (x : Tested) → testOf b t held lines ≡ x → SmallAnswer (correctTested lines report number new x .answer)
         go (Refused r) e = tested-small r e
         go (Good k) e =
@@ -129,18 +126,19 @@ module _ (b t : ℤ) (held lines : List ℤ) where
             (λ stands.
             cond-ind (λ (s : Corrected). SmallAnswer (s .answer)) (otherReport report (reportOf (k .marks) (k .tolerance) lines)) _ _
             (λ _. refusal-small 9 0 (omega arith) (omega arith))
-            (λ _. counted-small k new (corrected-good k lines (good-of k e) number (natAbs number - 1) (stands-of lines number stands) field value sets)))
+            (λ _. counted-small k new (good k e stands)))
 
     pub rerun-small : (difference : ℤ) → SmallAnswer (rerunOf b t held lines report number difference .answer)
-    unfolding rerunOf rerunLines differenceOut
+    unfolding rerunOf differenceOut
     rerun-small difference =
         cond-ind (λ (s : Corrected). SmallAnswer (s .answer)) (differenceOut difference) _ _
         (λ _. refusal-small 4 0 (omega arith) (omega arith))
-        (λ inside. corrected-small 2 difference (re-run refl (size-within 99999999 difference inside)))
+        (λ inside. corrected-small (rerunLines lines number difference)
+        (λ k e stands. rerun-lines-good k lines (good-of k e) number (natAbs number - 1) (stands-of lines number stands) difference (size-within 99999999 difference inside)))
 
     pub withdraw-small : SmallAnswer (withdrawOf b t held lines report number .answer)
-    unfolding withdrawOf withdrawLines
-    withdraw-small = corrected-small 4 (pos 0) (withdrawal refl refl)
+    unfolding withdrawOf
+    withdraw-small = corrected-small (withdrawLines lines number) (λ k e stands. withdrawn-lines-good k lines (good-of k e) number (natAbs number - 1) (stands-of lines number stands))
 
   module _ (out : List ℤ) (small : Small (length out)) where
     untested-small : (r : Refusal) → testOf b t held lines ≡ Refused r → SmallListed (unlisted (r .number) (r .place))

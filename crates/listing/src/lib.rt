@@ -8,7 +8,7 @@ ghost use Rattle.search.specs.Front.{Rooms};
 ghost use Rattle.subgraph.specs.Turn.{Going};
 ghost use Rattle.rows.specs.Turns.{Tables, NodesRoom};
 ghost use Rattle.listing.specs.Halves.{Halves, halfListed, halvesListed};
-ghost use Rattle.listing.specs.Turns.{TurnsAsked, LoopAsked, LoopFound};
+ghost use Rattle.listing.specs.Turns.{TurnsAsked, LoopFound};
 
 fn half_listed(h: u64) -> i64
     requires { ⌜ h < 2048 ⌝ }
@@ -94,7 +94,7 @@ pub fn find_loop(
     nodes: usize,
     i: usize,
 ) -> usize
-    requires { ⌜ Tables (now lines) n 0 (now tip) (now long) ⌝ ∗ ⌜ NodesRoom (now lines) (now next) (now far) (now add) ⌝ ∗ ⌜ Rooms n (now best) (now seg) (now path) ⌝ ∗ ⌜ LoopAsked (now lines) n nodes i (now tip) (now close) (now head) (now next) (now far) (now add) ⌝ }
+    requires { ⌜ Tables (now lines) n 0 (now tip) (now long) ⌝ ∗ ⌜ NodesRoom (now lines) (now next) (now far) (now add) ⌝ ∗ ⌜ Rooms n (now best) (now seg) (now path) ⌝ ∗ ⌜ TurnsAsked (now lines) n nodes (i + 1) (now tip) (now close) (now head) (now next) (now far) (now add) ⌝ }
     ensures { λ r. ⌜ LoopFound (now (lines .entry)) n i (now (close .entry)) (now (path .exit)) r ⌝ }
 {
     let cnt = pass_over(

@@ -14,19 +14,20 @@ use Rattle.laws.proofs.Size.{Between}
 use Rattle.book.specs.declared.Book.{Book}
 use Rattle.network.specs.Standing.{Line, standing}
 use Rattle.network.proofs.Corrected.{of-standing}
-use Rattle.loops.specs.Loops.{Loop, loops}
+use Rattle.loops.specs.Loops.{Loop, loops, loopAt}
 use Rattle.loops.specs.Checked.{checked, notChecked}
 use Rattle.chains.specs.Chains.{numberLimit}
 use Rattle.prepare.specs.Prepared.{Chained, Soil, Started}
 use Rattle.listing.specs.Halves.{halfListed, halvesListed}
-use Rattle.listing.specs.Turns.{loopAt, LoopFound}
+use Rattle.listing.specs.Turns.{LoopFound}
 use Rattle.unchecked.specs.Book.{Shelf, BookListed}
 use Rattle.survey.specs.GoodLines.{GoodLines}
 use Rattle.survey.specs.Report.{loopsOf}
 use Rattle.survey.proofs.Sounding.{few-standing}
 use Rattle.survey.proofs.Working.{lines-are, count-is}
 use Rattle.lists.specs.Listing.{listing, unlisted, entered, listOf, listingGood}
-use Rattle.lists.specs.NotChecked.{uncheckedOf, Numbers}
+use Rattle.lists.specs.NotChecked.{uncheckedOf}
+use Rattle.lists.specs.Numbers.{Numbers}
 
 -- ---- 10, or a whole list
 

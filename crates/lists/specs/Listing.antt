@@ -11,8 +11,8 @@ use Rattle.book.specs.Test.{testOf}
 use Rattle.book.specs.declared.Book.{Book}
 use Rattle.book.specs.declared.Tested.{Tested}
 use Rattle.book.specs.declared.Tested.the-variants.{Good, Refused}
+use Rattle.loops.specs.Loops.{loopAt}
 use Rattle.loops.specs.Row.{listed}
-unfoldable pub use Rattle.listing.specs.Turns.{loopAt}
 use Rattle.survey.specs.Report.{loopsOf}
 use Rattle.lists.specs.declared.Listed.{Listed}
 

@@ -1,15 +1,13 @@
 -- What the not-checked list answers, and what the lent output then holds: refusals 4, 6, 7 and 10.
 -- Assumes nothing.
 use mathlib.Core.List.{List, map}
-use Prim.Native.Nat.{ℕ, _<_}
+use Prim.Native.Nat.{ℕ}
 use lib.IntN.{ℤ, pos}
-use lib.ListN.{length, getD}
 use Rattle.book.specs.Test.{testOf}
 use Rattle.book.specs.declared.Tested.{Tested}
 use Rattle.book.specs.declared.Tested.the-variants.{Good, Refused}
 use Rattle.network.specs.Standing.{standing}
 use Rattle.loops.specs.Checked.{notChecked}
-use Rattle.chains.specs.Chains.{numberLimit}
 use Rattle.survey.specs.Report.{loopsOf}
 use Rattle.lists.specs.Listing.{Listing, listing, unlisted, listOf}
 
@@ -26,7 +24,3 @@ notCheckedTested lines out (Good k) = listOf (uncheckedOf (k .marks) lines) out
 unfoldable pub notCheckedOf : ℤ → ℤ → List ℤ → List ℤ → List ℤ → Listing
 unfolding notCheckedTested testOf
 notCheckedOf b t held lines out = notCheckedTested lines out (testOf b t held lines)
-
--- line numbers, as the work writes them
-abbrev pub Numbers : List ℕ → Type 0
-Numbers list = (i : ℕ) → i < length list → getD list i 0 < numberLimit

@@ -15,7 +15,7 @@ pub struct Listed {
     pub entries: usize,
 }
 
-pub fn unlisted(number: usize, place: usize) -> Listed
+pub(crate) fn unlisted(number: usize, place: usize) -> Listed
     ensures { λ r. ⌜ r ≡ unlisted number place ⌝ }
 {
     Listed {
@@ -25,7 +25,7 @@ pub fn unlisted(number: usize, place: usize) -> Listed
     }
 }
 
-pub fn entered(entries: usize) -> Listed
+pub(crate) fn entered(entries: usize) -> Listed
     ensures { λ r. ⌜ r ≡ entered entries ⌝ }
 {
     Listed {

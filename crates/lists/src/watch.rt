@@ -4,7 +4,8 @@ ghost use mathlib.Core.List.{map};
 ghost use lib.IntN.{pos};
 ghost use Rattle.survey.specs.GoodLines.{GoodLines};
 ghost use Rattle.lists.specs.Listing.{listing, listOf};
-ghost use Rattle.lists.specs.NotChecked.{Numbers, uncheckedOf};
+ghost use Rattle.lists.specs.NotChecked.{uncheckedOf};
+ghost use Rattle.lists.specs.Numbers.{Numbers};
 use crate::Listed;
 use book::Book;
 

@@ -1,6 +1,6 @@
 -- Document 01, "Loops (Memorandum, part 3)": the loops.
 -- Assumes nothing.
-use Prim.Native.Nat.{ℕ}
+use Prim.Native.Nat.{ℕ, zero, suc}
 use mathlib.Core.Bool.{true}
 use mathlib.Core.List.{List, [], _∷_}
 use Rattle.network.specs.Standing.{Line}
@@ -33,3 +33,9 @@ unfolding loopsFrom tree treeLines closing
 loops b lines =
     let t = tree b lines in
     loopsFrom b lines (closing lines t) (numbers (treeLines t))
+
+-- the loop at place i, counted from 0
+unfoldable pub loopAt : List Loop → ℕ → Loop
+loopAt [] i = []
+loopAt (l ∷ ls) zero = l
+loopAt (l ∷ ls) (suc i) = loopAt ls i

@@ -9,15 +9,16 @@ use lib.ListN.{length, getD, take, drop, length-append, length-map}
 use lib.Seq.{take-at}
 use Rattle.network.specs.Standing.{standing}
 use Rattle.network.specs.Path.{Pass, pass, wayLength}
-use Rattle.loops.specs.Loops.{Loop, loops, loopsFrom}
+use Rattle.loops.specs.Loops.{Loop, loops}
 use Rattle.loops.specs.Row.{listed, misclosure, verdict, row}
 use Rattle.subgraph.specs.Turn.{Going, Taken}
 use Rattle.rows.specs.Sums.{RowAsked, rowOf}
 use Rattle.rows.specs.Turns.{Tables, Due, TurnDone}
-use Rattle.rows.proofs.Turning.{row-asked, turn-done}
-use Rattle.listing.specs.Halves.{Halves, halvesListed}
+use Rattle.subgraph.proofs.Turns.{going-none, going-all}
+use Rattle.rows.proofs.Turning.{due, turn-done}
+use Rattle.listing.specs.Halves.{halvesListed}
 use Rattle.listing.proofs.Halves.{wanted-length}
-use Rattle.listing.proofs.Turns.{spelt-listed}
+use Rattle.listing.proofs.Turns.{listed-is}
 use Rattle.text.specs.Report.{loopText}
 use Rattle.text.specs.Put.{Put}
 use Rattle.text.proofs.Puts.{nothing-put, _then_}
@@ -30,17 +31,8 @@ list-front number a path list places e = ap (take (a + 1)) e ∙ take-at (halves
 
 module _ {ls : List ℤ} {n cnt number t : ℕ} {tip long head next fars add : List ℕ} (tb : Tables ls n t tip long) (d : Due ls n cnt number tip head next fars add)
     {path path′ head′ next′ fars′ add′ : List ℕ} {count nodes : ℕ} (room : n ≤ length path) (tk : Taken n cnt number tip long head next fars add path head′ next′ fars′ add′ path′ count nodes) where
-  z : TurnDone ls n cnt number t tip long head next fars add head′ next′ fars′ add′ path′ count nodes d
+  abbrev z : TurnDone ls n cnt number t tip long head next fars add head′ next′ fars′ add′ path′ count nodes d
   z = turn-done tb d room tk
-
-  -- the loop's lines can be listed
-  pub halves-of : Halves number count path′
-  halves-of =
-      let a = row-asked tb d room tk in
-      record { small = omega (arith, a .closing .few); places = a .coded .places; halves = λ j h. a .coded .ok j h .few }
-
-  listed-is : halvesListed number (take count path′) ≡ map listed (pass (z .c) true ∷ z .path)
-  listed-is = spelt-listed number count path′ (z .c) (z .path) (z .its) (z .spelt)
 
   pub line-put : {out out′ : List ℕ} {at after : ℕ} (numbered : ℕ) (vs list : List ℤ) → vs ≡ rowOf t ls long number (take count path′) → list ≡ halvesListed number (take count path′)
       → Put out out′ at after (loopText numbered (getD vs 2 (pos 0)) (getD vs 3 (pos 0)) (getD vs 4 (pos 0)) list)
@@ -51,7 +43,7 @@ module _ {ls : List ℤ} {n cnt number t : ℕ} {tip long head next fars add : L
     lp = pass (z .c) true ∷ z .path;
     more = z .more;
     put = subst (λ (xs : List ℤ). Put out out′ at after (loopText numbered (getD xs 2 (pos 0)) (getD xs 3 (pos 0)) (getD xs 4 (pos 0)) (map listed (pass (z .c) true ∷ z .path)))) (v ∙ z .row-is)
-        (subst (λ (xs : List ℤ). Put out out′ at after (loopText numbered (getD vs 2 (pos 0)) (getD vs 3 (pos 0)) (getD vs 4 (pos 0)) xs)) (l ∙ listed-is) put);
+        (subst (λ (xs : List ℤ). Put out out′ at after (loopText numbered (getD vs 2 (pos 0)) (getD vs 3 (pos 0)) (getD vs 4 (pos 0)) xs)) (l ∙ listed-is tb d room tk) put);
   }
 
 -- ---- line by line
@@ -64,25 +56,18 @@ lines-more t number (l ∷ done) lp =
     ap (λ (r : List ℕ). loopLine t number l ++ r) (lines-more t (suc number) done lp ∙ ap (λ (k : ℕ). loopLines t (suc number) done ++ loopLine t k lp) e)
     ∙ sym (append-assoc (loopLine t number l) (loopLines t (suc number) done) (loopLine t (number + suc (length done)) lp))
 
-nothing : (l : List Loop) → length l ≡ 0 → l ≡ []
-nothing [] q = refl
-nothing (x ∷ l) q = absurd (omega arith)
-
 module _ {ls : List ℤ} {n t : ℕ} {tip close : List ℕ} where
   pub lines-start : {cnt : ℕ} {head next fars add : List ℕ} {count : ℕ} (out : List ℕ) (at : ℕ) → LinesAsked ls n cnt count tip close head next fars add
       → LinesAt ls n 0 cnt t tip close head next fars add out out at at
   unfolding loopLines
   lines-start out at a = record {
     going = a .going;
-    put = subst (λ (l : List Loop). Put out out at at (loopLines t 1 l)) (sym (nothing (a .going .done) (a .going .count))) (nothing-put out at);
+    put = subst (λ (l : List Loop). Put out out at at (loopLines t 1 l)) (sym (going-none (a .going) refl)) (nothing-put out at);
   }
 
   module _ {i cnt : ℕ} {head next fars add out₀ out : List ℕ} {at₀ at : ℕ} (r : LinesAt ls n i cnt t tip close head next fars add out₀ out at₀ at) where
-    abbrev pub lines-due : i < length (loops (n - 1) (standing ls)) → Due ls n cnt (getD close i 0) tip head next fars add
-    lines-due lt = record { i = i; close = close; going = r .going; left = lt; number-is = refl }
-
     pub lines-next : {nodes after : ℕ} {head′ next′ fars′ add′ out′ : List ℕ} (lt : i < length (loops (n - 1) (standing ls)))
-        → LinePut ls n cnt (getD close i 0) t (i + 1) tip head next fars add head′ next′ fars′ add′ out out′ at after nodes (lines-due lt)
+        → LinePut ls n cnt (getD close i 0) t (i + 1) tip head next fars add head′ next′ fars′ add′ out out′ at after nodes (due (r .going) lt refl)
         → LinesAt ls n (i + 1) nodes t tip close head′ next′ fars′ add′ out₀ out′ at₀ after
     lines-next {after = after} {out′ = out′} lt x =
         let e : i + 1 ≡ 1 + length (r .going .done) = omega (arith, r .going .count) in
@@ -93,10 +78,4 @@ module _ {ls : List ℤ} {n t : ℕ} {tip close : List ℕ} where
         }
 
     pub lines-end : (count : ℕ) → count ≡ length (loops (n - 1) (standing ls)) → i ≡ count → Put out₀ out at₀ at (loopLines t 1 (loops (n - 1) (standing ls)))
-    lines-end count e z = subst (λ (l : List Loop). Put out₀ out at₀ at (loopLines t 1 l)) (sym all) (r .put)
-      where
-        all : loops (n - 1) (standing ls) ≡ r .going .done
-        all = r .going .reached .all
-            ∙ ap (λ (l : List Loop). r .going .done ++ l) (nothing (loopsFrom (n - 1) (standing ls) (r .going .rest) (r .going .sub))
-            (omega (arith, e, z, r .going .count, ap length (r .going .reached .all), length-append (r .going .done) (loopsFrom (n - 1) (standing ls) (r .going .rest) (r .going .sub)))))
-            ∙ append-nil (r .going .done)
+    lines-end count e z = subst (λ (l : List Loop). Put out₀ out at₀ at (loopLines t 1 l)) (sym (going-all (r .going) (z ∙ e))) (r .put)

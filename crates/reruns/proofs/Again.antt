@@ -21,11 +21,12 @@ use Rattle.laws.proofs.Lists.{pour}
 use Rattle.chains.specs.Chains.{Half, fore, aft, Sound, codeOf, codes}
 use Rattle.chains.specs.Listed.{Listed}
 use Rattle.subgraph.specs.Turn.{Taken}
+use Rattle.subgraph.proofs.Turns.{going-none, going-all}
 use Rattle.rows.specs.Sums.{rowOf, Gentle, HalfOk, RowAsked, steepest}
 use Rattle.rows.specs.Turns.{Tables, Due, RowsAsked}
 use Rattle.reruns.specs.Again.{Again, BothDone, BothTaken, BothAt}
 use Rattle.rows.proofs.Passes.{row-is}
-use Rattle.rows.proofs.Turning.{rows-more, length-rows, rows-start, rows-due, rows-next, rows-end, all-done, turn-line, lines-of, spelt, path-of, row-done}
+use Rattle.rows.proofs.Turning.{rows-more, length-rows, due, rows-start, rows-next, rows-end, turn-line, lines-of, spelt, path-of, row-done}
 
 -- ---- the tables are those of the book with lines measured again
 
@@ -142,12 +143,8 @@ module _ {ls again : List ℤ} {n t : ℕ} {tip close : List ℕ} where
   both-start {fresh = fresh} a =
       record {
         first = rows-start a;
-        places = λ r. ap (λ (l : List Loop). rows t (map (map (redonePass (suc (r .i)) (r .value))) l) ++ fresh) (sym (none-done (rows-start {t = t} a .going .done) (rows-start {t = t} a .going .count)));
+        places = λ r. ap (λ (l : List Loop). rows t (map (map (redonePass (suc (r .i)) (r .value))) l) ++ fresh) (sym (going-none (rows-start {t = t} a .going) refl));
       }
-    where
-      none-done : (l : List Loop) → length l ≡ 0 → l ≡ []
-      none-done [] e = refl
-      none-done (x ∷ l) e = absurd (omega arith)
 
   module _ {i cnt : ℕ} {head next fars add : List ℕ} {out₀ out fresh₀ fresh : List ℤ} (b : BothAt ls again n i cnt t tip close head next fars add out₀ out fresh₀ fresh) where
     pub both-next : {number nodes : ℕ} {head′ next′ fars′ add′ : List ℕ} (lt : i < length (loops (n - 1) (standing ls))) (e : number ≡ getD close i 0) (vs ws : List ℤ)
@@ -158,7 +155,7 @@ module _ {ls again : List ℤ} {n t : ℕ} {tip close : List ℕ} where
           first = rows-next (b .first) lt e vs (λ d. tk d .first);
           places = λ r.
               let f = map (redonePass (suc (r .i)) (r .value)) in
-              let x = tk (rows-due (b .first) lt number e) in
+              let x = tk (due (b .first .going) lt e) in
               let done = b .first .going .done in
               pour (rows t (map f done)) ws fresh₀ fresh i 5 (length-rows t (map f done) ∙ ap (λ (k : ℕ). k * 5) (length-map done f ∙ b .first .going .count)) (b .places r)
               ∙ ap (λ (p : List ℤ). p ++ drop ((i + 1) * 5) fresh₀)
@@ -170,4 +167,4 @@ module _ {ls again : List ℤ} {n t : ℕ} {tip close : List ℕ} where
     both-end r count e z =
         b .places r
         ∙ ap₂ (λ (l : List Loop) (k : ℕ). rows t l ++ drop (k * 5) fresh₀)
-        (ap (map (map (redonePass (suc (r .i)) (r .value)))) (sym (all-done (b .first) count e z)) ∙ sym (rerun-keeps-loops (suc (r .i)) (r .value) (n - 1) (standing ls)) ∙ ap (loops (n - 1)) (sym (lines-again r))) z
+        (ap (map (map (redonePass (suc (r .i)) (r .value)))) (sym (going-all (b .first .going) (z ∙ e))) ∙ sym (rerun-keeps-loops (suc (r .i)) (r .value) (n - 1) (standing ls)) ∙ ap (loops (n - 1)) (sym (lines-again r))) z

@@ -11,17 +11,22 @@ use borrow.Rule.Slice.PartMut.{putMid}
 use Rattle.network.specs.Standing.{standing}
 use Rattle.network.specs.Path.{Pass, pass, shortest}
 use Rattle.network.specs.Subgraph.{only}
-use Rattle.loops.specs.Loops.{Loop, loops, loopsFrom}
+use Rattle.loops.specs.Loops.{Loop, loops}
 use Rattle.loops.specs.Row.{row, rows}
 use Rattle.loops.proofs.Basis.{of-only}
 use Rattle.chains.specs.Chains.{codes}
 use Rattle.search.specs.Front.{Rooms, Written}
-use Rattle.subgraph.specs.Turn.{Taking, Takes, Took, Taken}
-use Rattle.subgraph.proofs.Turns.{Next, going-turn, going-next, going-more}
+use Rattle.subgraph.specs.Turn.{Taking, Takes, Took, Taken, Going}
+use Rattle.subgraph.proofs.Turns.{Next, going-turn, going-next, going-more, going-none, going-all}
 use Rattle.laws.proofs.Lists.{pour}
 use Rattle.rows.specs.Sums.{HalfOk, RowAsked, rowOf}
 use Rattle.rows.specs.Turns.{Tables, NodesRoom, Due, TurnDone, RowDone, RowTaken, RowsAsked, RowsAt}
 use Rattle.rows.proofs.Passes.{path-lines, path-spelt, row-is, closing-ok, codes-ok}
+
+-- the turn of the loop after those that are done
+abbrev pub due : {ls : List ℤ} {n i cnt number : ℕ} {tip close head next fars add : List ℕ} → Going n i cnt (standing ls) tip close head next fars add
+    → i < length (loops (n - 1) (standing ls)) → number ≡ getD close i 0 → Due ls n cnt number tip head next fars add
+due {i = i} {close = close} g h e = record { i = i; close = close; going = g; left = h; number-is = e }
 
 module _ {ls : List ℤ} {n cnt number t : ℕ} {tip long head next fars add : List ℕ} (tb : Tables ls n t tip long) (d : Due ls n cnt number tip head next fars add) where
   pub turn-line : Next n (standing ls) tip (d .close) (d .i) cnt head next fars add (d .going)
@@ -110,37 +115,19 @@ module _ {ls : List ℤ} {n t : ℕ} {tip close : List ℕ} where
   pub rows-start : {cnt : ℕ} {head next fars add : List ℕ} {out : List ℤ} {count : ℕ} → RowsAsked ls n cnt count tip close head next fars add out
       → RowsAt ls n 0 cnt t tip close head next fars add out out
   unfolding rows
-  rows-start {out = out} a = record { going = a .going; places = ap (λ (l : List Loop). rows t l ++ out) (sym (none-done (a .going .done) (a .going .count))) }
-    where
-      none-done : (l : List Loop) → length l ≡ 0 → l ≡ []
-      none-done [] e = refl
-      none-done (x ∷ l) e = absurd (omega arith)
+  rows-start {out = out} a = record { going = a .going; places = ap (λ (l : List Loop). rows t l ++ out) (sym (going-none (a .going) refl)) }
 
   module _ {i cnt : ℕ} {head next fars add : List ℕ} {out₀ out : List ℤ} (r : RowsAt ls n i cnt t tip close head next fars add out₀ out) where
-    abbrev pub rows-due : i < length (loops (n - 1) (standing ls)) → (number : ℕ) → number ≡ getD close i 0 → Due ls n cnt number tip head next fars add
-    rows-due lt number e = record { i = i; close = close; going = r .going; left = lt; number-is = e }
-
     abbrev pub rows-next : {number nodes : ℕ} {head′ next′ fars′ add′ : List ℕ} (lt : i < length (loops (n - 1) (standing ls))) (e : number ≡ getD close i 0) (vs : List ℤ)
         → RowTaken ls n cnt number t tip head next fars add head′ next′ fars′ add′ vs nodes
         → RowsAt ls n (i + 1) nodes t tip close head′ next′ fars′ add′ out₀ (putMid (i * 5) (i * 5 + 5 - i * 5) out vs)
-    rows-next {number = number} lt e vs tk =
-        let x = tk (rows-due lt number e) in record {
+    rows-next lt e vs tk =
+        let x = tk (due (r .going) lt e) in record {
           going = x .going;
           places = pour (rows t (r .going .done)) vs out₀ out i 5 (length-rows t (r .going .done) ∙ ap (λ (k : ℕ). k * 5) (r .going .count)) (r .places)
               ∙ ap (λ (p : List ℤ). p ++ drop ((i + 1) * 5) out₀)
               (ap (λ (v : List ℤ). rows t (r .going .done) ++ v) (x .its) ∙ sym (rows-more t (r .going .done) (x .lp)) ∙ ap (rows t) (sym (x .more)));
         }
 
-    pub all-done : (count : ℕ) → count ≡ length (loops (n - 1) (standing ls)) → i ≡ count → loops (n - 1) (standing ls) ≡ r .going .done
-    all-done count e z =
-        r .going .reached .all
-        ∙ ap (λ (l : List Loop). r .going .done ++ l) (nothing (loopsFrom (n - 1) (standing ls) (r .going .rest) (r .going .sub))
-        (omega (arith, e, z, r .going .count, ap length (r .going .reached .all), length-append (r .going .done) (loopsFrom (n - 1) (standing ls) (r .going .rest) (r .going .sub)))))
-        ∙ append-nil (r .going .done)
-      where
-        nothing : (l : List Loop) → length l ≡ 0 → l ≡ []
-        nothing [] q = refl
-        nothing (x ∷ l) q = absurd (omega arith)
-
     pub rows-end : (count : ℕ) → count ≡ length (loops (n - 1) (standing ls)) → i ≡ count → out ≡ rows t (loops (n - 1) (standing ls)) ++ drop (count * 5) out₀
-    rows-end count e z = r .places ∙ ap₂ (λ (l : List Loop) (k : ℕ). rows t l ++ drop (k * 5) out₀) (sym (all-done count e z)) z
+    rows-end count e z = r .places ∙ ap₂ (λ (l : List Loop) (k : ℕ). rows t l ++ drop (k * 5) out₀) (sym (going-all (r .going) (z ∙ e))) z

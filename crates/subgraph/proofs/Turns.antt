@@ -5,7 +5,7 @@ use native.Mathlib.Numerals.{add-one}
 use mathlib.Core.Path.{_≡_, refl, sym, _∙_, ap, subst}
 use mathlib.Core.Logic.{_⊎_, inl, inr}
 use mathlib.Core.Bool.{true}
-use mathlib.Core.List.{List, [], _∷_, _++_, List·Memᴰ, List·Memᴰ·head, List·Memᴰ·tail, append-assoc}
+use mathlib.Core.List.{List, [], _∷_, _++_, List·Memᴰ, List·Memᴰ·head, List·Memᴰ·tail, append-assoc, append-nil}
 use lib.ListN.{length, getD, set, length-set, length-append}
 use lib.Seq.{sets, getD-set-same, getD-set-other}
 use Rattle.network.specs.Standing.{Line}
@@ -215,3 +215,20 @@ module _ (n : ℕ) (lines : List Line) (tip close : List ℕ) where
         → going-next x t .done ≡ g .done ++ ((pass (x .c) true ∷ shortest (n - 1) (only (g .sub) lines) (x .c .to) (x .c .from)) ∷ [])
     unfolding going-next
     going-more x t = refl
+
+nothing : (l : List Loop) → length l ≡ 0 → l ≡ []
+nothing [] e = refl
+nothing (x ∷ l) e = absurd (omega arith)
+
+module _ {n i cnt : ℕ} {lines : List Line} {tip close head next fars add : List ℕ} (g : Going n i cnt lines tip close head next fars add) where
+  -- before the first turn no loop is done
+  pub going-none : i ≡ 0 → g .done ≡ []
+  going-none e = nothing (g .done) (g .count ∙ e)
+
+  -- after the last all are
+  pub going-all : i ≡ length (loops (n - 1) lines) → loops (n - 1) lines ≡ g .done
+  going-all e =
+      let left = loopsFrom (n - 1) lines (g .rest) (g .sub) in
+      g .reached .all
+      ∙ ap (λ (l : List Loop). g .done ++ l) (nothing left (omega (arith, e, g .count, ap length (g .reached .all), length-append (g .done) left)))
+      ∙ append-nil (g .done)

@@ -6,7 +6,7 @@ use mathlib.Core.List.{List, List·Memᴰ}
 use Prim.Native.Nat.{ℕ, suc, _+_, _*_, _-_, _/_, _≤_, _<_}
 use native.Mathlib.Decide.{ℕ-discrete}
 use native.Mathlib.Omega.{arith}
-use lib.ListN.{length, getD, set, length-set, length-map}
+use lib.ListN.{length, getD, set, length-set}
 use lib.Seq.{getD-set-same, getD-set-other}
 use lib.IntN.{ℤ, pos, natAbs}
 use Rattle.laws.specs.Tests.{outZ, eqZ}
@@ -18,16 +18,14 @@ use Rattle.book.specs.Good.{GoodLine}
 use Rattle.book.specs.declared.Book.{Book}
 use Rattle.network.specs.Standing.{Line, standing}
 use Rattle.network.specs.Field.{HasLine, lineAt}
-use Rattle.network.specs.Redone.{redone, redonePass}
 use Rattle.network.specs.Without.{without}
-use Rattle.network.proofs.Corrected.{in-standing, rerun-sets-difference, withdrawal-sets-standing}
+use Rattle.network.proofs.Corrected.{in-standing, withdrawal-sets-standing}
 use Rattle.loops.specs.Loops.{loops}
-use Rattle.loops.proofs.Rerun.{rerun-keeps-loops}
 use Rattle.loops.proofs.Withdrawal.{loops-never-grow}
 use Rattle.survey.specs.GoodLines.{GoodLines}
-use Rattle.survey.specs.Stands.{Stands, Sets, re-run, withdrawal}
+use Rattle.survey.specs.Stands.{Stands}
 use Rattle.survey.specs.Report.{loopsOf, reportOf}
-use Rattle.survey.specs.Correction.{noLine, placeOf}
+use Rattle.survey.specs.Correction.{noLine, placeOf, rerunLines, withdrawLines}
 use Rattle.survey.proofs.Sounding.{lines-sound, report-length}
 
 -- a line that is not refused stands
@@ -49,13 +47,9 @@ place-is {number = number} {i = i} w j =
     let z : natAbs number ≡ suc i = ap natAbs (w .its-number) in
     omega arith
 
-has-line : {lines : List ℤ} {number : ℤ} {i : ℕ} → Stands lines number i → HasLine lines i
+-- and that the slice has it
+pub has-line : {lines : List ℤ} {number : ℤ} {i : ℕ} → Stands lines number i → HasLine lines i
 has-line w = omega (arith, w .there)
-
--- the field is one of a line's
-pub field-few : {p : ℕ} {v : ℤ} → Sets p v → p < 5
-field-few (re-run e small) = omega (arith, e)
-field-few (withdrawal e z) = omega (arith, e)
 
 -- one number set leaves the other fields as they were
 module _ (b : ℕ) (lines : List ℤ) (i p : ℕ) (v : ℤ) (inside : i * 5 + p < length lines) (j : ℕ) (g : GoodLine b lines j) where
@@ -103,18 +97,17 @@ module _ (k : Book) (lines : List ℤ) (good : GoodLines k lines) (number : ℤ)
     each = λ j l. h j (good .each j l);
   }
 
-  inside : (p : ℕ) → p < 5 → i * 5 + p < length lines
-  inside p h = omega (arith, stands .there)
+  -- with a difference inside its limit, or withdrawn, the line leaves the book good
+  pub rerun-lines-good : (difference : ℤ) → natAbs difference ≤ mostDifference → GoodLines k (rerunLines lines number difference)
+  unfolding rerunLines
+  rerun-lines-good d small = rw (place-is stands 2) (with-lines (i * 5 + 2) d (λ j g. rerun-good (k .marks) lines i 2 d (omega (arith, has-line stands)) j g refl small))
 
-  -- the book stays good
-  pub corrected-good : (p : ℕ) (v : ℤ) → Sets p v → GoodLines k (set lines (placeOf number p) v)
-  corrected-good p v (re-run e small) =
-      rw (place-is stands p) (with-lines (i * 5 + p) v (λ j g. rerun-good (k .marks) lines i p v (inside p (omega (arith, e))) j g e small))
-  corrected-good p v (withdrawal e z) =
-      rw (place-is stands p) (with-lines (i * 5 + p) v (λ j g. withdrawal-good (k .marks) lines i p v (inside p (omega (arith, e))) j g e z))
+  pub withdrawn-lines-good : GoodLines k (withdrawLines lines number)
+  unfolding withdrawLines
+  withdrawn-lines-good = rw (place-is stands 4) (with-lines (i * 5 + 4) (pos 0) (λ j g. withdrawal-good (k .marks) lines i 4 (pos 0) (omega (arith, has-line stands)) j g refl refl))
 
   -- the line itself, as a standing line
-  its-line : List·Memᴰ (lineAt (suc i) lines i) (standing lines)
+  pub its-line : List·Memᴰ (lineAt (suc i) lines i) (standing lines)
   its-line =
       let g = good .each i (omega (arith, good .whole, stands .there)) in
       in-standing lines i (lineAt (suc i) lines i) (record {
@@ -127,10 +120,8 @@ module _ (k : Book) (lines : List ℤ) (good : GoodLines k lines) (number : ℤ)
       one : (n : ℕ) → n ≤ 1 → (n ≡ 0 → ⊥) → n ≡ 1
       one n h d = omega arith
 
-  -- and has no more loops
-  pub corrected-fewer : (p : ℕ) (v : ℤ) → Sets p v → length (loopsOf (k .marks) (set lines (placeOf number p) v)) ≤ length (loopsOf (k .marks) lines)
-  unfolding loopsOf
-  corrected-fewer p v (re-run e small) =
-      rw (place-is stands p, e, rerun-sets-difference lines i v (has-line stands), rerun-keeps-loops (suc i) v (k .marks) (standing lines), length-map) (omega arith)
-  corrected-fewer p v (withdrawal e z) =
-      rw (place-is stands p, e, z, withdrawal-sets-standing lines i (has-line stands)) (loops-never-grow (k .marks) (standing lines) (lines-sound k lines good) (lineAt (suc i) lines i) its-line)
+  -- withdrawn, it leaves no more loops than there were
+  pub withdrawal-fewer : length (loopsOf (k .marks) (withdrawLines lines number)) ≤ length (loopsOf (k .marks) lines)
+  unfolding loopsOf withdrawLines
+  withdrawal-fewer =
+      rw (place-is stands 4, withdrawal-sets-standing lines i (has-line stands)) (loops-never-grow (k .marks) (standing lines) (lines-sound k lines good) (lineAt (suc i) lines i) its-line)

@@ -12,11 +12,10 @@ use Rattle.network.specs.Standing.{Line}
 use Rattle.network.specs.Pairwise.{Pairwise, no-pair, pairs}
 use Rattle.network.specs.Subgraph.{isIn, only, numbers}
 use Rattle.network.specs.Walk.{Pass, pass, IsShortest}
-use Rattle.loops.specs.Loops.{Loop}
+use Rattle.loops.specs.Loops.{Loop, loopAt}
 use Rattle.loops.specs.AllLoops.{LoopsOf, no-loop, loop-then}
 use Rattle.loops.specs.Row.{row, rows}
 use Rattle.loops.proofs.Row.{row-is-five}
-use Rattle.listing.specs.Turns.{loopAt}
 
 -- the loop at a place below the count is one of the loops
 pub loop-at-is : (ls : List Loop) (i : ℕ) → i < length ls → List·Memᴰ (loopAt ls i) ls

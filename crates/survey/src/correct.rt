@@ -2,17 +2,15 @@
 ghost use mathlib.Core.Path.{_≡_};
 ghost use Prim.Native.Nat.{_*_, _≤_};
 ghost use mathlib.Core.List.{_++_};
-ghost use lib.ListN.{length, set};
+ghost use lib.ListN.{length};
 ghost use Rattle.survey.specs.GoodLines.{GoodLines};
-ghost use Rattle.survey.specs.Stands.{Sets};
 ghost use lib.IntN.{natAbs};
-ghost use Rattle.book.specs.Line.{differenceField};
 ghost use Rattle.book.specs.Limits.{mostDifference};
 ghost use Rattle.reruns.specs.Again.{Again};
 ghost use Rattle.survey.specs.Survey.{surveyed};
 ghost use Rattle.survey.specs.Kept.{keptOf, rerunKept, Refresh, Refreshed};
 ghost use Rattle.survey.specs.Report.{counted, reportOf};
-ghost use Rattle.survey.specs.Correction.{noLine, placeOf, corrected, correctGood};
+ghost use Rattle.survey.specs.Correction.{noLine, rerunLines, withdrawLines, corrected, correctGood};
 use crate::Answer;
 use crate::work;
 use book::Book;
@@ -64,17 +62,10 @@ fn refresh(book: Book, lines: &[i64], report: &mut [i64], before: usize) -> Answ
     a
 }
 
-// Refusals 8 and 9, or one number of the line is set and the report brought up to date.
-pub fn correct_good(
-    book: Book,
-    lines: &mut [i64],
-    report: &mut [i64],
-    number: i64,
-    field: usize,
-    value: i64,
-) -> Answer
-    requires { ⌜ GoodLines book (now lines) ⌝ ∗ ⌜ Sets field value ⌝ }
-    ensures { λ r. ⌜ corrected r (now (lines .exit)) (now (report .exit)) ≡ correctGood book (now (lines .entry)) (now (report .entry)) number (set (now (lines .entry)) (placeOf number field) value) ⌝ }
+// Refusals 8 and 9, or the line's standing becomes 0 and the report is brought up to date.
+pub fn withdraw_good(book: Book, lines: &mut [i64], report: &mut [i64], number: i64) -> Answer
+    requires { ⌜ GoodLines book (now lines) ⌝ }
+    ensures { λ r. ⌜ corrected r (now (lines .exit)) (now (report .exit)) ≡ correctGood book (now (lines .entry)) (now (report .entry)) number (withdrawLines (now (lines .entry)) number) ⌝ }
 {
     if no_line(lines, number) {
         return crate::refuse(8, 0);
@@ -83,8 +74,8 @@ pub fn correct_good(
     let Kept::Rows(before) = kept else {
         return crate::refuse(9, 0);
     };
-    let at = (signed::magnitude(number) - 1) * Line::WORDS + field;
-    lines[at] = value;
+    let at = (signed::magnitude(number) - 1) * Line::WORDS + Line::STANDING;
+    lines[at] = 0;
     refresh(book, lines, report, before)
 }
 
@@ -114,7 +105,7 @@ pub fn rerun_good(
     difference: i64,
 ) -> Answer
     requires { ⌜ GoodLines book (now lines) ⌝ ∗ ⌜ natAbs difference ≤ mostDifference ⌝ }
-    ensures { λ r. ⌜ corrected r (now (lines .exit)) (now (report .exit)) ≡ correctGood book (now (lines .entry)) (now (report .entry)) number (set (now (lines .entry)) (placeOf number differenceField) difference) ⌝ }
+    ensures { λ r. ⌜ corrected r (now (lines .exit)) (now (report .exit)) ≡ correctGood book (now (lines .entry)) (now (report .entry)) number (rerunLines (now (lines .entry)) number difference) ⌝ }
 {
     if no_line(lines, number) {
         return crate::refuse(8, 0);

@@ -18,7 +18,7 @@ pub struct Answer {
     pub pieces: usize,
 }
 
-pub fn refuse(number: usize, place: usize) -> Answer
+pub(crate) fn refuse(number: usize, place: usize) -> Answer
     ensures { λ r. ⌜ r ≡ refusal number place ⌝ }
 {
     Answer {
@@ -73,6 +73,6 @@ pub fn withdraw(
 {
     match book::test(b, t, held, lines) {
         Tested::Refused(r) => refuse(r.number, r.place),
-        Tested::Good(book) => correct::correct_good(book, lines, report, line, Line::STANDING, 0),
+        Tested::Good(book) => correct::withdraw_good(book, lines, report, line),
     }
 }

@@ -1,6 +1,7 @@
 use native.Mathlib.Omega.{arith}
-use Rattle.rows.proofs.Turning.{takes-of}
-use Rattle.listing.proofs.Turns.{due, loop-found}
+use mathlib.Core.Path.{refl}
+use Rattle.rows.proofs.Turning.{due, takes-of}
+use Rattle.listing.proofs.Turns.{loop-found}
 use borrow.Author.Needs.{needs}
 use Rattle.listing.proofs.find_loop.Statement.{statement}
 use Rattle.listing.proofs.find_loop.Tie as tie
@@ -22,7 +23,7 @@ take-loop-requires c κs =
     let p = c .before .before .before .before .before .before .before .before .before .before .before .before .before .before .before .before .before .before .before .before .before .before .before .before .before .before .before .before .before .before .before .before .before .before .before .before .before .before .before .before .pre in
     let o = c .before .before .before .before .before .before .before .before .before .before .before .before .before .before .before .before .before .before .before .before .before .before .pass-over in
     let k = o .kept in
-    takes-of (p .0) (due (o .ensures) (p .1 .1 .1 .left))
+    takes-of (p .0) (due (o .ensures) (omega (arith, p .1 .1 .1 .left)) refl)
     (record { nexts = omega (arith, k, p .1 .0 .nexts); ends = omega (arith, k, p .1 .0 .ends); adds = omega (arith, k, p .1 .0 .adds) })
     (record { room = record { few = p .1 .1 .0 .room .few; bests = omega (arith, k, p .1 .1 .0 .room .bests); segs = omega (arith, k, p .1 .1 .0 .room .segs) }; outs = omega (arith, k, p .1 .1 .0 .outs) })
 
@@ -51,7 +52,7 @@ returns : tie.Need-returns
 returns c =
     let p = c .before .before .before .before .before .before .before .before .before .before .before .before .before .before .before .before .before .before .before .before .before .before .before .before .before .before .before .before .before .before .before .before .before .before .before .before .before .before .before .before .before .before .before .before .before .before .before .before .before .before .before .before .before .before .before .pre in
     let o = c .before .before .before .before .before .before .before .before .before .before .before .before .before .before .before .before .before .before .before .before .before .before .before .before .before .before .before .before .before .before .before .before .before .before .before .before .before .pass-over in
-    loop-found (p .0) (due (o .ensures) (p .1 .1 .1 .left)) (omega (arith, o .kept, p .1 .1 .0 .outs)) (c .before .before .before .before .before .before .before .before .before .before .before .before .before .before .take-loop .ensures)
+    loop-found (p .0) (due (o .ensures) (omega (arith, p .1 .1 .1 .left)) refl) (omega (arith, o .kept, p .1 .1 .0 .outs)) (c .before .before .before .before .before .before .before .before .before .before .before .before .before .before .take-loop .ensures)
 
 pub find-loop-spec : {M : Type 1} → statement M
 find-loop-spec =

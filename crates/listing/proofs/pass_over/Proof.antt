@@ -4,8 +4,7 @@ use mathlib.Core.Path.{_≡_, refl}
 use lib.ListN.{length}
 use Rattle.network.specs.Standing.{standing}
 use Rattle.subgraph.specs.Turn.{Going}
-use Rattle.rows.proofs.Turning.{takes-of, turn-done}
-use Rattle.listing.proofs.Turns.{due}
+use Rattle.rows.proofs.Turning.{due, takes-of, turn-done}
 use Rattle.listing.proofs.pass_over.Statement.{statement}
 use Rattle.listing.proofs.pass_over.Tie as tie
 
@@ -29,7 +28,7 @@ take-loop-requires : tie.Need-take-loop-requires Inv-loop μ-loop
 take-loop-requires c κs =
     let p = c .before .before .before .before .before .before .before .before .before .before .before .before .before .before .before .before .before .before .before .before .pre in
     let v = c .before .before .before .before .before .before .before .before .before .loop .inv in
-    takes-of (p .0) (due (v .3) (omega (arith, p .1 .1 .1 .left)))
+    takes-of (p .0) (due (v .3) (omega (arith, p .1 .1 .1 .left)) refl)
     (record { nexts = omega (arith, v .1, p .1 .0 .nexts); ends = omega (arith, v .1, p .1 .0 .ends); adds = omega (arith, v .1, p .1 .0 .adds) })
     (record { room = record { few = p .1 .1 .0 .room .few; bests = omega (arith, v .2, p .1 .1 .0 .room .bests); segs = omega (arith, v .2, p .1 .1 .0 .room .segs) }; outs = omega (arith, v .2, p .1 .1 .0 .outs) })
 
@@ -47,7 +46,7 @@ loop-again c =
       omega arith,
       (omega (arith, v .1, k), omega (arith, v .1, k), omega (arith, v .1, k), omega (arith, v .1, k)),
       (omega (arith, v .2, k), omega (arith, v .2, k), omega (arith, v .2, k)),
-      turn-done (p .0) (due (v .3) (omega (arith, p .1 .1 .1 .left))) (omega (arith, v .2, p .1 .1 .0 .outs)) (c .before .before .before .before .before .before .before .before .before .before .before .before .before .before .take-loop .ensures) .going,
+      turn-done (p .0) (due (v .3) (omega (arith, p .1 .1 .1 .left)) refl) (omega (arith, v .2, p .1 .1 .0 .outs)) (c .before .before .before .before .before .before .before .before .before .before .before .before .before .before .take-loop .ensures) .going,
     )
 
 same-length : tie.Need-same-length Inv-loop μ-loop

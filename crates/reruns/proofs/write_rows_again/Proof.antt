@@ -3,7 +3,7 @@ use native.Mathlib.Omega.{arith}
 use mathlib.Core.Path.{_≡_, refl}
 use lib.ListN.{length, length-take, length-drop}
 use Rattle.reruns.specs.Again.{BothAt}
-use Rattle.rows.proofs.Turning.{rows-due, rows-end}
+use Rattle.rows.proofs.Turning.{due, rows-end}
 use Rattle.reruns.proofs.Again.{both-start, both-next, both-end}
 use Rattle.reruns.proofs.write_rows_again.Statement.{statement}
 use Rattle.reruns.proofs.write_rows_again.Tie as tie
@@ -70,7 +70,7 @@ row-turn-again-requires c κs =
           record { room = record { few = p .1 .1 .0 .room .few; bests = omega (arith, v .2, p .1 .1 .0 .room .bests); segs = omega (arith, v .2, p .1 .1 .0 .room .segs) }; outs = omega (arith, v .2, p .1 .1 .0 .outs) },
           (
             (simp (length-take, length-drop) (omega (arith, v .2, o)), simp (length-take, length-drop) (omega (arith, v .2, p .1 .1 .1 .1))),
-            rows-due (v .3 .first) (omega (arith, p .1 .1 .1 .0 .count-is)) _ refl,
+            due (v .3 .first .going) (omega (arith, p .1 .1 .1 .0 .count-is)) refl,
           ),
         ),
       ),

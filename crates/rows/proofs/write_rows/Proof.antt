@@ -3,7 +3,7 @@ use native.Mathlib.Omega.{arith}
 use mathlib.Core.Path.{_≡_, refl}
 use lib.ListN.{length, length-take, length-drop}
 use Rattle.rows.specs.Turns.{RowsAt}
-use Rattle.rows.proofs.Turning.{rows-start, rows-due, rows-next, rows-end}
+use Rattle.rows.proofs.Turning.{due, rows-start, rows-next, rows-end}
 use Rattle.rows.proofs.write_rows.Statement.{statement}
 use Rattle.rows.proofs.write_rows.Tie as tie
 
@@ -49,7 +49,7 @@ row-turn-requires c κs = let p = c .before .before .before .before .before .bef
         record { nexts = omega (arith, v .1, p .1 .0 .nexts); ends = omega (arith, v .1, p .1 .0 .ends); adds = omega (arith, v .1, p .1 .0 .adds) },
         (
           record { room = record { few = p .1 .1 .0 .room .few; bests = omega (arith, v .2, p .1 .1 .0 .room .bests); segs = omega (arith, v .2, p .1 .1 .0 .room .segs) }; outs = omega (arith, v .2, p .1 .1 .0 .outs) },
-          (simp (length-take, length-drop) (omega (arith, v .2, p .1 .1 .1 .outs)), rows-due (v .3) (omega (arith, p .1 .1 .1 .count-is)) _ refl),
+          (simp (length-take, length-drop) (omega (arith, v .2, p .1 .1 .1 .outs)), due (v .3 .going) (omega (arith, p .1 .1 .1 .count-is)) refl),
         ),
       ),
     )

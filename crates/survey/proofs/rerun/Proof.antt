@@ -3,7 +3,7 @@ use mathlib.Core.Path.{_≡_, refl, sym, _∙_}
 use native.Mathlib.Omega.{arith}
 use Rattle.book.specs.Test.{testOf}
 use Rattle.book.proofs.Goods.{tested-good}
-use Rattle.survey.specs.Correction.{correctTested, rerunLines, rerunOf}
+use Rattle.survey.specs.Correction.{correctTested, rerunOf}
 use Prim.Native.Nat.{_≤_}
 use lib.IntN.{natAbs}
 use Rattle.book.specs.Limits.{mostDifference}
@@ -75,7 +75,7 @@ same-length-3 : tie.Need-same-length-3
 same-length-3 c = search needs
 
 returns-3 : tie.Need-returns-3
-unfolding rerunOf correctTested rerunLines
+unfolding rerunOf correctTested
 returns-3 c =
     let e = c .before .before .rerun-good .ensures in
     rw (← (flag (c .before .before .before .before .before .before .before .before .before .before .before)), c .before .before .before .before .before .before .before .before .before .before .if1 .left, ← (tested (c .before .before .before .before .before .before .before .before)), c .before .before .before .before .before .before .book .given .1) (e ∙ search needs)

@@ -2,8 +2,7 @@ use mathlib.Core.Path.{_≡_, refl, sym, _∙_}
 use native.Mathlib.Omega.{arith}
 use Rattle.book.specs.Test.{testOf}
 use Rattle.book.proofs.Goods.{tested-good}
-use Rattle.survey.specs.Correction.{correctTested, withdrawLines, withdrawOf}
-use Rattle.survey.specs.Stands.{Sets, withdrawal}
+use Rattle.survey.specs.Correction.{correctTested, withdrawOf}
 use Rattle.survey.proofs.Sounding.{good-lines}
 use borrow.Author.Needs.{needs}
 use Rattle.survey.proofs.withdraw.Statement.{statement}
@@ -11,7 +10,7 @@ use Rattle.survey.proofs.withdraw.Tie as tie
 use Rattle.survey.proofs.withdraw.Reads as reads
 use Rattle.survey.proofs.withdraw.Lts as lts
 use Rattle.book.proofs.test.Reads as test-reads
-use Rattle.survey.proofs.correct.correct_good.Reads as correct-good-reads
+use Rattle.survey.proofs.correct.withdraw_good.Reads as withdraw-good-reads
 use Rattle.survey.proofs.refuse.Reads as refuse-reads
 
 test-requires : tie.Need-test-requires
@@ -30,11 +29,11 @@ enum-known-book c = search needs
 tested : (c : tie.After-test) → (let a = c .before .before .args in c .test .result ≡ testOf (a .b) (a .t) (a .held .now) (a .lines .now))
 tested c = c .test .ensures ∙ search needs
 
-correct-good-requires : tie.Need-correct-good-requires
-correct-good-requires c κs =
+withdraw-good-requires : tie.Need-withdraw-good-requires
+withdraw-good-requires c κs =
     let g = c .before .before .before in
     let a = c .before .before .before .before .before .before .before .args in
-    (good-lines _ _ _ _ _ (tested-good (a .b) (a .t) (a .held .now) (a .lines .now) (g .book .given .0 .0) (sym (tested (c .before .before .before .before .before)) ∙ g .book .given .1)), withdrawal refl refl)
+    good-lines _ _ _ _ _ (tested-good (a .b) (a .t) (a .held .now) (a .lines .now) (g .book .given .0 .0) (sym (tested (c .before .before .before .before .before)) ∙ g .book .given .1))
 
 same-length : tie.Need-same-length
 same-length c = search needs
@@ -50,9 +49,9 @@ same-length-3 : tie.Need-same-length-3
 same-length-3 c = search needs
 
 returns-2 : tie.Need-returns-2
-unfolding withdrawOf correctTested withdrawLines
+unfolding withdrawOf correctTested
 returns-2 c =
-    let e = c .before .before .correct-good .ensures in
+    let e = c .before .before .withdraw-good .ensures in
     rw (← (tested (c .before .before .before .before .before .before .before .before)), c .before .before .before .before .before .before .book .given .1) (e ∙ search needs)
 
 pub withdraw-spec : {M : Type 1} → statement M
@@ -63,7 +62,7 @@ withdraw-spec =
     enum-known-r
     refuse-requires
     enum-known-book
-    correct-good-requires
+    withdraw-good-requires
     same-length
     returns
     same-length-2

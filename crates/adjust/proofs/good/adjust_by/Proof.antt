@@ -5,7 +5,7 @@ use Rattle.adjust.proofs.good.adjust_by.Tie as tie
 use Rattle.adjust.proofs.good.adjust_by.Reads as reads
 use Rattle.adjust.proofs.good.adjust_by.Lts as lts
 use Rattle.adjust.proofs.good.adjust_into.Reads as adjust-into-reads
-use Rattle.adjust.proofs.good.put.Reads as put-reads
+use Rattle.kept.proofs.put.Reads as put-reads
 
 adjust-into-requires : tie.Need-adjust-into-requires
 adjust-into-requires c κs = search needs

@@ -3,7 +3,8 @@ use native.Mathlib.Omega.{arith}
 use lib.ListN.{length, length-take}
 use Rattle.laws.proofs.Signed.{back}
 use Rattle.rows.proofs.Turning.{takes-of, row-asked}
-use Rattle.page.proofs.Turning.{halves-of, list-front, line-put}
+use Rattle.page.proofs.Turning.{list-front, line-put}
+use Rattle.listing.proofs.Turns.{halves-of}
 use borrow.Author.Needs.{needs}
 use Rattle.page.proofs.turns.put_loop.Statement.{statement}
 use Rattle.page.proofs.turns.put_loop.Tie as tie

@@ -5,7 +5,8 @@ use lib.ListN.{length}
 use Rattle.network.specs.Standing.{standing}
 use Rattle.loops.specs.Loops.{loops}
 use Rattle.page.specs.Turns.{LinesAt}
-use Rattle.page.proofs.Turning.{lines-start, lines-due, lines-next, lines-end}
+use Rattle.page.proofs.Turning.{lines-start, lines-next, lines-end}
+use Rattle.rows.proofs.Turning.{due}
 use Rattle.page.proofs.turns.put_loops.Statement.{statement}
 use Rattle.page.proofs.turns.put_loops.Tie as tie
 
@@ -39,7 +40,7 @@ put-loop-requires c κs =
           record { room = record { few = p .1 .1 .0 .room .few; bests = omega (arith, v .2, p .1 .1 .0 .room .bests); segs = omega (arith, v .2, p .1 .1 .0 .room .segs) }; outs = omega (arith, v .2, p .1 .1 .0 .outs) },
           (
             record { rows = omega (arith, v .3, p .1 .1 .1 .0 .rows); lists = omega (arith, v .2, v .3, p .1 .1 .1 .0 .lists) },
-            lines-due (v .4) (omega (arith, p .1 .1 .1 .1 .count-is)),
+            due (v .4 .going) (omega (arith, p .1 .1 .1 .1 .count-is)) refl,
           ),
         ),
       ),
@@ -64,7 +65,7 @@ loop-again c =
       (omega (arith, v .1, k), omega (arith, v .1, k), omega (arith, v .1, k), omega (arith, v .1, k)),
       (omega (arith, v .2, k), omega (arith, v .2, k), omega (arith, v .2, k)),
       (omega (arith, v .3, k), omega (arith, v .3, k), omega (arith, v .3, k)),
-      lines-next (v .4) lt (c .before .before .before .before .before .before .before .before .before .before .before .before .before .before .before .before .before .before .put-loop .ensures (lines-due (v .4) lt)),
+      lines-next (v .4) lt (c .before .before .before .before .before .before .before .before .before .before .before .before .before .before .before .before .before .before .put-loop .ensures (due (v .4 .going) lt refl)),
     )
 
 same-length : tie.Need-same-length Inv-loop μ-loop

@@ -10,7 +10,7 @@ use mir.Val.{toZ, ofZ}
 use mir.Facts.{toZ-ofZ}
 use Rattle.reruns.specs.Again.{Again}
 use Rattle.survey.specs.Stands.{Stands}
-use Rattle.survey.specs.Correction.{noLine, placeOf, corrected, correctGood}
+use Rattle.survey.specs.Correction.{noLine, rerunLines, corrected, correctGood}
 use Rattle.survey.proofs.Corrected.{stands-of, place-is}
 use Rattle.survey.proofs.Remeasured.{copied, rerun-refused, rerun-done}
 use borrow.Author.Needs.{needs}
@@ -89,13 +89,15 @@ slice-aggregate-rerun-report c = let k = c .before .before .before .put .kept in
 
 -- the copy of the lines, with the difference set, is the book with its line run again
 again-lines : (c : tie.After-put) → (let s = c .before .before .before .before .before .before .before in let m = c .before .before .before in
-    take (length (s .args .lines .now)) (set (c .put .last .1 .0) ((m .magnitude .result - 1) * 5 + 2) (toZ w64 (ofZ w64 (s .args .difference)))) ≡ set (s .args .lines .now) (placeOf (s .args .number) 2) (s .args .difference))
+    take (length (s .args .lines .now)) (set (c .put .last .1 .0) ((m .magnitude .result - 1) * 5 + 2) (toZ w64 (ofZ w64 (s .args .difference)))) ≡ rerunLines (s .args .lines .now) (s .args .number) (s .args .difference))
+unfolding rerunLines
 again-lines c =
     let s = c .before .before .before .before .before .before .before in
     let m = c .before .before .before in
     copied (s .args .lines .now) _ _ _ _ (c .put .ensures) (inside m) ∙ rw (size m, toZ-ofZ (s .fits .difference))
 
-run-again : (c : tie.After-magnitude) → (let a = c .before .before .before .before .args in Again (a .lines .now) (set (a .lines .now) (placeOf (a .number) 2) (a .difference)))
+run-again : (c : tie.After-magnitude) → (let a = c .before .before .before .before .args in Again (a .lines .now) (rerunLines (a .lines .now) (a .number) (a .difference)))
+unfolding rerunLines
 run-again c =
     let s = c .before .before .before .before in
     let w = stands (c .before) in
@@ -136,6 +138,7 @@ same-length-5 : tie.Need-same-length-5
 same-length-5 c = search needs
 
 returns-3 : tie.Need-returns-3
+unfolding rerunLines
 returns-3 c =
     let s = c .before .before .before .before .before .before .before .before .before .before .before .before .before .before .before in
     let m = c .before .before .before .before .before .before .before .before .before .before .before in

@@ -3,22 +3,19 @@ use mathlib.Core.Bool.{false}
 use mathlib.Core.List.{List}
 use Prim.Native.Nat.{_+_, _*_, _-_}
 use native.Mathlib.Omega.{arith}
-use lib.IntN.{ℤ, natAbs}
+use lib.IntN.{pos, natAbs}
 use lib.ListN.{length, set}
-use mir.Syntax.{w64}
-use mir.Val.{toZ, ofZ}
-use mir.Facts.{toZ-ofZ}
 use Rattle.survey.specs.Stands.{Stands}
 use Rattle.survey.specs.GoodLines.{GoodLines}
 use Rattle.survey.specs.Report.{loopsOf}
-use Rattle.survey.specs.Correction.{noLine, placeOf, otherReport, corrected, correctGood}
+use Rattle.survey.specs.Correction.{noLine, otherReport, withdrawLines, corrected, correctGood}
 use Rattle.survey.proofs.Keeping.{fresh, is-other, is-kept, corrected-is, refresh-of}
-use Rattle.survey.proofs.Corrected.{stands-of, field-few, corrected-good, corrected-fewer}
+use Rattle.survey.proofs.Corrected.{stands-of, withdrawn-lines-good, withdrawal-fewer}
 use borrow.Author.Needs.{needs}
-use Rattle.survey.proofs.correct.correct_good.Statement.{statement}
-use Rattle.survey.proofs.correct.correct_good.Tie as tie
-use Rattle.survey.proofs.correct.correct_good.Reads as reads
-use Rattle.survey.proofs.correct.correct_good.Lts as lts
+use Rattle.survey.proofs.correct.withdraw_good.Statement.{statement}
+use Rattle.survey.proofs.correct.withdraw_good.Tie as tie
+use Rattle.survey.proofs.correct.withdraw_good.Reads as reads
+use Rattle.survey.proofs.correct.withdraw_good.Lts as lts
 use Rattle.signed.proofs.magnitude.Reads as magnitude-reads
 use Rattle.survey.proofs.correct.kept_rows.Reads as kept-rows-reads
 use Rattle.survey.proofs.correct.no_line.Reads as no-line-reads
@@ -74,7 +71,7 @@ returns-2 c =
     rw (
       ← (flag (c .before .before .before .before .before .before .before)),
       c .before .before .before .before .before .before .if1 .left,
-      is-other (s .args .book) (s .args .lines .now) (s .pre .0) (s .args .report .now) _ (k .kept-rows .ensures) (c .before .enum-told .given .1),
+      is-other (s .args .book) (s .args .lines .now) (s .pre) (s .args .report .now) _ (k .kept-rows .ensures) (c .before .enum-told .given .1),
       c .refuse2 .ensures,
     )
 
@@ -92,30 +89,31 @@ mul-at : tie.Need-mul-at
 mul-at c = let m = size c in let n = number-is c in let w = stands (c .before .before .before .before .before .before .before) .there in omega arith
 
 add-at : tie.Need-add-at
-add-at c = let m = size c in let n = number-is c in let w = stands (c .before .before .before .before .before .before .before) .there in let f = field-few (c .before .before .before .before .before .before .before .before .before .before .pre .1) in omega arith
+add-at c = let m = size c in let n = number-is c in let w = stands (c .before .before .before .before .before .before .before) .there in omega arith
 
-mul-value : tie.Need-mul-value
-mul-value c = let m = size c in let n = number-is c in let w = stands (c .before .before .before .before .before .before .before) .there in let f = field-few (c .before .before .before .before .before .before .before .before .before .before .pre .1) in omega arith
+mul-lines : tie.Need-mul-lines
+mul-lines c = let m = size c in let n = number-is c in let w = stands (c .before .before .before .before .before .before .before) .there in omega arith
 
-slice-set-from-value : tie.Need-slice-set-from-value
-slice-set-from-value c = let m = size c in let n = number-is c in let w = stands (c .before .before .before .before .before .before .before) .there in let f = field-few (c .before .before .before .before .before .before .before .before .before .before .pre .1) in omega arith
+slice-set-of-lines : tie.Need-slice-set-of-lines
+slice-set-of-lines c = let m = size c in let n = number-is c in let w = stands (c .before .before .before .before .before .before .before) .there in omega arith
 
 -- the lines as they now are
 new-lines : (c : tie.After-magnitude) → (let a = c .before .before .before .before .before .before .before .before .before .before .args in
-    set (a .lines .now) ((c .magnitude .result - 1) * 5 + a .field) (toZ w64 (ofZ w64 (a .value))) ≡ set (a .lines .now) (placeOf (a .number) (a .field)) (a .value))
-new-lines c = rw (size c, toZ-ofZ (c .before .before .before .before .before .before .before .before .before .before .fits .value))
+    set (a .lines .now) ((c .magnitude .result - 1) * 5 + 4) (pos 0) ≡ withdrawLines (a .lines .now) (a .number))
+unfolding withdrawLines
+new-lines c = rw (size c)
 
 -- the report that was lent is the book's own
 kept-before : (c : tie.After-kept) → (let s = c .before .before .before .before .before .before .before .before in
-    (otherReport (s .args .report .now) (fresh (s .args .book) (s .args .lines .now) (s .pre .0)) ≡ false) × (c .kept .given .0 .0 ≡ length (loopsOf (s .args .book .marks) (s .args .lines .now))))
+    (otherReport (s .args .report .now) (fresh (s .args .book) (s .args .lines .now) (s .pre)) ≡ false) × (c .kept .given .0 .0 ≡ length (loopsOf (s .args .book .marks) (s .args .lines .now))))
 kept-before c =
     let s = c .before .before .before .before .before .before .before .before in
-    is-kept (s .args .book) (s .args .lines .now) (s .pre .0) (s .args .report .now) _ (c .before .before .kept-rows .ensures) _ (c .kept .given .1)
+    is-kept (s .args .book) (s .args .lines .now) (s .pre) (s .args .report .now) _ (c .before .before .kept-rows .ensures) _ (c .kept .given .1)
 
 -- the book with its new lines is good
-new-good : (c : tie.After-magnitude) → (let a = c .before .before .before .before .before .before .before .before .before .before .args in GoodLines (a .book) (set (a .lines .now) (placeOf (a .number) (a .field)) (a .value)))
+new-good : (c : tie.After-magnitude) → (let a = c .before .before .before .before .before .before .before .before .before .before .args in GoodLines (a .book) (withdrawLines (a .lines .now) (a .number)))
 new-good c = let s = c .before .before .before .before .before .before .before .before .before .before in
-    corrected-good (s .args .book) (s .args .lines .now) (s .pre .0) (s .args .number) _ (stands (c .before .before .before .before .before .before .before)) (s .args .field) (s .args .value) (s .pre .1)
+    withdrawn-lines-good (s .args .book) (s .args .lines .now) (s .pre) (s .args .number) _ (stands (c .before .before .before .before .before .before .before))
 
 refresh-requires : tie.Need-refresh-requires
 refresh-requires c κs =
@@ -124,8 +122,8 @@ refresh-requires c κs =
     let k = kept-before (c .before .before .before .before) in
     rw (new-lines m) (
       new-good m,
-      refresh-of (s .args .book) (s .args .lines .now) _ (s .args .report .now) _ (s .pre .0) (new-good m)
-          (corrected-fewer (s .args .book) (s .args .lines .now) (s .pre .0) (s .args .number) _ (stands (c .before .before .before .before .before .before .before .before .before)) (s .args .field) (s .args .value) (s .pre .1)) (k .0) (k .1),
+      refresh-of (s .args .book) (s .args .lines .now) _ (s .args .report .now) _ (s .pre) (new-good m)
+          (withdrawal-fewer (s .args .book) (s .args .lines .now) (s .pre) (s .args .number) _ (stands (c .before .before .before .before .before .before .before .before .before))) (k .0) (k .1),
     )
 
 same-length-4 : tie.Need-same-length-4
@@ -141,11 +139,11 @@ returns-3 c =
     let k = kept-before (c .before .before .before .before .before .before) in
     let e = c .before .before .before .before .before .before .before .before .before .before .before in
     rw (new-lines m)
-    (corrected-is (s .args .book) (s .args .lines .now) _ (s .args .report .now) _ (s .args .number) _ _ (s .pre .0) (sym (flag (e .before)) ∙ e .if1 .left) (k .0) (k .1)
+    (corrected-is (s .args .book) (s .args .lines .now) _ (s .args .report .now) _ (s .args .number) _ _ (s .pre) (sym (flag (e .before)) ∙ e .if1 .left) (k .0) (k .1)
     (rw (new-lines m) at (c .before .refresh .ensures)))
 
-pub correct-good-spec : {M : Type 1} → statement M
-correct-good-spec =
+pub withdraw-good-spec : {M : Type 1} → statement M
+withdraw-good-spec =
     tie.close
     (tie.spec
     no-line-requires
@@ -163,8 +161,8 @@ correct-good-spec =
     sub-at
     mul-at
     add-at
-    mul-value
-    slice-set-from-value
+    mul-lines
+    slice-set-of-lines
     refresh-requires
     same-length-4
     same-length-5
