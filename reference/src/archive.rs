@@ -2,31 +2,10 @@
 
 use crate::*;
 
-/// Declares the calls that the archive has, which `build.rs` looks up; in the place of another stands a function
-/// that says so.
 macro_rules! declare {
     ($($name:ident($($argument:ident: $kind:ty),*) -> $answer:ident = $call:ident $lent:tt;)*) => {
         extern "C" {
-            $(
-                #[cfg($name)]
-                fn $name($($argument: $kind),*) -> $answer;
-            )*
-        }
-
-        $(
-            #[cfg(not($name))]
-            #[allow(clippy::too_many_arguments)]
-            unsafe fn $name($(_: $kind),*) -> $answer {
-                panic!("the archive has no {}", stringify!($name))
-            }
-        )*
-
-        /// Whether the archive has the call of this name.
-        pub fn has(name: &str) -> bool {
-            match name {
-                $(stringify!($name) => cfg!($name),)*
-                _ => false,
-            }
+            $(fn $name($($argument: $kind),*) -> $answer;)*
         }
     };
 }

@@ -7,8 +7,8 @@
 //! call and the ratio archive / reference for each call and book, and for each call the geometric mean of
 //! its ratios and the worst.
 
-use reference::archive::{has, Archive};
-use reference::trial::call::{own_report, KINDS};
+use reference::archive::Archive;
+use reference::trial::call::own_report;
 use reference::trial::random::Random;
 use reference::trial::shapes::Shape;
 use reference::trial::Book;
@@ -240,17 +240,11 @@ fn print_means(books: &[(&str, Vec<Race>)]) {
 
 fn main() -> ExitCode {
     let seconds = seconds();
-    let name = |kind: Kind| KINDS[kind as usize];
-    for (kind, _) in CALLS.into_iter().filter(|&(kind, _)| !has(name(kind))) {
-        println!("the archive has no {}", name(kind));
-    }
     let mut reference = Reference::new();
     let mut races: Vec<(&str, Vec<Race>)> = vec![];
     for (book, content) in books() {
         let desk = Desk::new(content);
-        let there = CALLS.into_iter().filter(|&(kind, _)| has(name(kind)));
-        let of_book = there.map(|(kind, name)| Race::new(&desk, kind, name)).collect();
-        races.push((book, of_book));
+        races.push((book, CALLS.map(|(kind, name)| Race::new(&desk, kind, name)).into()));
     }
     for (book, of_book) in &mut races {
         for race in of_book {
