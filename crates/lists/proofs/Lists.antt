@@ -93,15 +93,15 @@ low-unchecked q lps (l ∷ rest) f = go (checked (l .number) lps) (low-unchecked
 
 module _ (k : Book) (ls : List ℤ) (g : GoodLines k ls) where
   -- room for the work
-  pub rooms-for : {tip long head next far add best seg order rank sort close marked list : List ℕ} → 2048 ≤ length tip → 1024 ≤ length long → 257 ≤ length head → 1024 ≤ length next → 1024 ≤ length far
-      → 1024 ≤ length add → 257 ≤ length best → 514 ≤ length seg → 257 ≤ length order → 257 ≤ length rank → 1026 ≤ length sort → 512 ≤ length close → 1024 ≤ length marked → 512 ≤ length list
-      → Chained (k .marks + 1) ls tip long head next far add × (Soil (k .marks + 1) best seg order × Shelf (k .marks + 1) ls rank sort close marked list)
-  rooms-for tips longs heads nexts fars adds bests segs orders ranks sorts closes marks lists =
+  pub rooms-for : {tip long head next far add best seg order marked list : List ℕ} → 2048 ≤ length tip → 1024 ≤ length long → 257 ≤ length head → 1024 ≤ length next → 1024 ≤ length far
+      → 1024 ≤ length add → 257 ≤ length best → 514 ≤ length seg → 257 ≤ length order → 1024 ≤ length marked → 512 ≤ length list
+      → Chained (k .marks + 1) ls tip long head next far add × (Soil (k .marks + 1) best seg order × Shelf ls marked list)
+  rooms-for tips longs heads nexts fars adds bests segs orders marks lists =
       let n = lines-are k ls g in (
         record { tips = tips; longs = longs; heads = omega (arith, g .few-marks); nexts = omega (arith, n, g .few); ends = omega (arith, n, g .few); adds = omega (arith, n, g .few) },
         (
           record { bests = omega (arith, g .few-marks); segs = omega (arith, g .few-marks); orders = omega (arith, g .few-marks) },
-          record { ranks = omega (arith, g .few-marks); sorts = omega (arith, n, g .few); closes = omega (arith, n, g .few); marks = marks; outs = omega (arith, n, g .few) },
+          record { marks = marks; outs = omega (arith, n, g .few) },
         ),
       )
 

@@ -40,9 +40,6 @@ pub fn not_checked_good(book: Book, lines: &[i64], out: &mut [i64]) -> Listed
     let mut best = [0u64; 257];
     let mut seg = [0u64; 514];
     let mut order = [0u64; 257];
-    let mut rank = [0u64; 257];
-    let mut sort = [0u64; 1026];
-    let mut close = [0u64; 512];
     let mut marked = [0u64; 1024];
     let mut list = [0u64; 512];
     let count = unchecked::list_book(
@@ -56,9 +53,6 @@ pub fn not_checked_good(book: Book, lines: &[i64], out: &mut [i64]) -> Listed
         &mut best[..],
         &mut seg[..],
         &mut order[..],
-        &mut rank[..],
-        &mut sort[..],
-        &mut close[..],
         &mut marked[..],
         &mut list[..],
         book.marks + 1,

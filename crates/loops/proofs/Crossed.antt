@@ -73,7 +73,7 @@ module _ (es : Tree) (n : ℕ) where
 -- ---- what is crossed
 
 -- what is crossed is one of the lines or is crossed by one
-crossed-by : (es : Tree) (n : ℕ) (cs : List Line) → crossed es n cs ≡ true
+pub crossed-by : (es : Tree) (n : ℕ) (cs : List Line) → crossed es n cs ≡ true
     → (c : Line) × List·Memᴰ c cs × ((c .number ≡ n) ⊎ (crosses es n c ≡ true))
 unfolding crossed
 crossed-by es n [] h = absurd (false≢true h)
@@ -90,7 +90,7 @@ crossed-by es n (c ∷ cs) h = go (or-true (eqb (c .number) n || crosses es n c)
     go (inr x) ih = let k = ih x in (k .0, List·Memᴰ·tail (k .1), k .2)
 
 -- and the other way
-in-crossed : (es : Tree) (n : ℕ) (cs : List Line) (c : Line) → List·Memᴰ c cs → (c .number ≡ n) ⊎ (crosses es n c ≡ true) → crossed es n cs ≡ true
+pub in-crossed : (es : Tree) (n : ℕ) (cs : List Line) (c : Line) → List·Memᴰ c cs → (c .number ≡ n) ⊎ (crosses es n c ≡ true) → crossed es n cs ≡ true
 unfolding crossed
 in-crossed es n (k ∷ cs) c (List·Memᴰ·head e) h = rw (go (subst (λ (x : Line). (x .number ≡ n) ⊎ (crosses es n x ≡ true)) e h))
   where

@@ -19,7 +19,7 @@ use Rattle.nearest.specs.Heap as hp
 use Rattle.nearest.proofs.Laws.{root-least, root-leaf}
 use Rattle.chains.specs.Chains.{Half, fore, aft, Has, Chains, AllSound, halves}
 use Rattle.chains.proofs.Halves.{half-ends, ends-half, half-low, half-no, half-ok}
-use Rattle.search.specs.Front.{Moved, still, moved, Relaxed, came, By, Key, Offer, Front, Nothing, Rest, limit}
+use Rattle.search.specs.Front.{Moved, still, moved, Relaxed, came, By, Key, Keyed, Offer, Front, Nothing, Rest, limit}
 use Rattle.search.specs.Front as f
 
 -- ---- the lowest candidate, by what it is
@@ -161,13 +161,24 @@ pub by-old : (e : Entry) (es : Tree) (tip : List ℕ) (m d h : ℕ) → distance
 by-old e es tip m d h out x (f.root a b c) = f.root (came-old e es m x ∙ a) b c
 by-old e es tip m d h out x (f.line l u du a b c t i s) = f.line l u du (came-old e es m x ∙ a) b c t (keeps e es u du out i) s
 
+-- what the marks are known by stays, and the new one has its own
+pub keyed-enter : (es : Tree) (e : Entry) (best best′ tip : List ℕ) → distance es (e .mark) ≡ none → Keyed es best tip → Key (e ∷ es) best′ tip (e .mark) (e .dist)
+    → ((m : ℕ) → (m ≡ e .mark → ⊥) → getD best′ m 0 ≡ getD best m 0) → Keyed (e ∷ es) best′ tip
+keyed-enter es e best best′ tip out held mine others m d h = go (after e es m)
+  where
+    go : After e es m → Key (e ∷ es) best′ tip m d
+    go (new p q) = subst (λ (z : ℕ). Key (e ∷ es) best′ tip z d) p (subst (λ (z : ℕ). Key (e ∷ es) best′ tip (e .mark) z) (same q h) mine)
+    go (old p q) =
+        let k = held m d (sym q ∙ h) in
+        record { h = k .h; low = k .low; key = others m (λ z. p (sym z)) ∙ k .key; by = by-old e es tip m d (k .h) out p (k .by) }
+
 module _ (sub : List Line) (n : ℕ) (head next fars add tip : List ℕ) (chains : Chains sub n head next fars add tip) (es : Tree) (e : Entry)
     (best seg best′ seg′ : List ℕ) (out : distance es (e .mark) ≡ none) (small : e .mark < n) where
   pub front-enter : Front sub n es best seg tip Nothing → Key (e ∷ es) best′ tip (e .mark) (e .dist) → ((m : ℕ) → (m ≡ e .mark → ⊥) → getD best′ m 0 ≡ getD best m 0)
       → Changed seg seg′ n (e .mark) hp.far → Front sub n (e ∷ es) best′ seg′ tip (Rest next fars add (e .mark) (getD head (e .mark) 0))
   front-enter fr mine others ch = record {
     inside = λ m d h. inside m d h (after e es m);
-    keyed = λ m d h. keyed m d h (after e es m);
+    keyed = keyed-enter es e best best′ tip out (fr .keyed) mine others;
     closed = λ m d ok h. closed m d ok h (after e es m);
     opened = λ m ok h. opened m ok h (after e es m);
     offered = λ m ok h. offered m ok h (after e es m);
@@ -177,12 +188,6 @@ module _ (sub : List Line) (n : ℕ) (head next fars add tip : List ℕ) (chains
       inside : (m d : ℕ) → distance (e ∷ es) m ≡ some d → After e es m → m < n
       inside m d h (new p q) = subst (λ (z : ℕ). z < n) p small
       inside m d h (old p q) = fr .inside m d (sym q ∙ h)
-
-      keyed : (m d : ℕ) → distance (e ∷ es) m ≡ some d → After e es m → Key (e ∷ es) best′ tip m d
-      keyed m d h (new p q) = subst (λ (z : ℕ). Key (e ∷ es) best′ tip z d) p (subst (λ (z : ℕ). Key (e ∷ es) best′ tip (e .mark) z) (same q h) mine)
-      keyed m d h (old p q) =
-          let k = fr .keyed m d (sym q ∙ h) in
-          record { h = k .h; low = k .low; key = others m (λ z. p (sym z)) ∙ k .key; by = by-old e es tip m d (k .h) out p (k .by) }
 
       closed : (m d : ℕ) → m < n → distance (e ∷ es) m ≡ some d → After e es m → getD seg′ (n + m) 0 ≡ hp.far
       closed m d ok h (new p q) = ap (λ (z : ℕ). getD seg′ (n + z) 0) (sym p) ∙ ch .here

@@ -19,9 +19,8 @@ use Rattle.nearest.proofs.Laws.{cleared}
 use Rattle.chains.specs.Chains.{Half, flip, AllSound, Tips, Given, halves, longest}
 use Rattle.search.specs.Front.{Stage, Relaxed, Key, Keyed, Front, Nothing, Rest, Begun, Two, top, lead, Turned, more, found, nothing, limit, Outcome, reached, cut-off}
 use Rattle.search.specs.Front as f
-use Rattle.search.proofs.Laws.{stage-close}
 use Rattle.chains.proofs.Halves.{half-ends, half-flip, half-low-end}
-use Rattle.search.proofs.Enter.{lowest-gone, far-half, step-some, Pop, pop-none, pop-some, came-new, front-enter, front-relaxed}
+use Rattle.search.proofs.Enter.{lowest-gone, far-half, step-some, Pop, pop-none, pop-some, came-new, keyed-enter, front-enter, front-relaxed}
 
 -- ---- distances stay small
 
@@ -182,23 +181,24 @@ module _ (sub : List Line) (n : ℕ) (head next fars add tip : List ℕ) (gv : G
             (keeps (entry mk (pop .d + pop .l .length) (some (pop .l))) (at k) (pop .u) (pop .d) (pop .isOut) (pop .isIn)) refl;
       }
 
+      there : distance (entry mk (pop .d + pop .l .length) (some (pop .l)) ∷ at k) mk ≡ some (pop .d + pop .l .length)
+      there = hit (after (entry mk (pop .d + pop .l .length) (some (pop .l))) (at k) mk)
+        where
+          hit : After (entry mk (pop .d + pop .l .length) (some (pop .l))) (at k) mk
+              → distance (entry mk (pop .d + pop .l .length) (some (pop .l)) ∷ at k) mk ≡ some (pop .d + pop .l .length)
+          hit (new p q) = q
+          hit (old p q) = absurd (p refl)
+
+      pub search-found : {b : Bool} → k + 1 < n → mk ≡ to → b ≡ true → Outcome sub n best tip r to b
+      search-found few t b = reached b (suc k) (pop .d + pop .l .length) (omega arith)
+          (subst (λ (z : Tree). Keyed z best tip) (sym at-next)
+          (keyed-enter (at k) (entry mk (pop .d + pop .l .length) (some (pop .l))) best best tip (pop .isOut) (sr .front .keyed) key (λ m d. refl)))
+          (ap (λ (z : Tree). distance z to) at-next ∙ ap (distance (entry mk (pop .d + pop .l .length) (some (pop .l)) ∷ at k)) (sym t) ∙ there)
+
       module _ (seg₁ : List ℕ) (ch : Changed seg seg₁ n mk hp.far) where
         fr₁ : Front sub n (entry mk (pop .d + pop .l .length) (some (pop .l)) ∷ at k) best seg₁ tip (Rest next fars add mk (getD head mk 0))
         fr₁ = front-enter sub n head next fars add tip (gv .chains) (at k) (entry mk (pop .d + pop .l .length) (some (pop .l))) best seg best seg₁
             (pop .isOut) (pop .small) (sr .front) key (λ m d. refl) ch
-
-        there : distance (entry mk (pop .d + pop .l .length) (some (pop .l)) ∷ at k) mk ≡ some (pop .d + pop .l .length)
-        there = hit (after (entry mk (pop .d + pop .l .length) (some (pop .l))) (at k) mk)
-          where
-            hit : After (entry mk (pop .d + pop .l .length) (some (pop .l))) (at k) mk
-                → distance (entry mk (pop .d + pop .l .length) (some (pop .l)) ∷ at k) mk ≡ some (pop .d + pop .l .length)
-            hit (new p q) = q
-            hit (old p q) = absurd (p refl)
-
-        pub search-found : {b : Bool} → k + 1 < n → mk ≡ to → b ≡ true → Outcome sub n best tip r to b
-        search-found few t e = reached e (suc k) (pop .d + pop .l .length) (omega arith)
-            (subst (λ (z : Tree). Keyed z best tip) (sym at-next) (fr₁ .keyed))
-            (ap (λ (z : Tree). distance z to) at-next ∙ ap (distance (entry mk (pop .d + pop .l .length) (some (pop .l)) ∷ at k)) (sym t) ∙ there)
 
         pub search-next : (best′ seg′ : List ℕ) → (mk ≡ to → ⊥)
             → Relaxed n next fars add best seg₁ best′ seg′ (getD head mk 0) (getD seg 1 0 - getD seg 1 0 % halves) → Searching (k + 1) best′ seg′
@@ -241,26 +241,26 @@ module _ (sub : List Line) (n : ℕ) (head next fars add tip : List ℕ) (gv : G
 
     pub turned-more : Turned n head next fars add tip best seg best′ seg′ to a → (a ≡ 0 → ⊥) → (a ≡ to → ⊥) → Searching (k + 1) best′ seg′
     turned-more (more z l seg₁ ch ne rx) e t = search-next k best seg st sr lt l seg₁ ch best′ seg′ ne rx
-    turned-more (found z l ch q p) e t = absurd (t (z ∙ q))
+    turned-more (found z l q p p′) e t = absurd (t (z ∙ q))
     turned-more (nothing z l q q′) e t = absurd (e z)
 
     pub turned-none : Turned n head next fars add tip best seg best′ seg′ to a → a ≡ 0 → k + 1 < n → Outcome sub n best′ tip r to false
     turned-none (more z l seg₁ ch ne rx) e w = absurd (omega (arith, lead-low l))
-    turned-none (found z l ch q p) e w = absurd (omega (arith, lead-low l))
+    turned-none (found z l q p p′) e w = absurd (omega (arith, lead-low l))
     turned-none (nothing z l q q′) e w =
         subst (λ (x : List ℕ). Outcome sub n x tip r to false) (sym q) (search-none k best seg st sr lt l (omega arith) refl)
 
     pub turned-found : Turned n head next fars add tip best seg best′ seg′ to a → (a ≡ 0 → ⊥) → a ≡ to → k + 1 < n → Outcome sub n best′ tip r to true
     turned-found (more z l seg₁ ch ne rx) e t w = absurd (ne (sym z ∙ t))
-    turned-found (found z l ch q p) e t w =
-        subst (λ (x : List ℕ). Outcome sub n x tip r to true) (sym p) (search-found k best seg st sr lt l seg′ ch w q refl)
+    turned-found (found z l q p p′) e t w =
+        subst (λ (x : List ℕ). Outcome sub n x tip r to true) (sym p) (search-found k best seg st sr lt l w q refl)
     turned-found (nothing z l q q′) e t w = absurd (e z)
 
 -- the stage stands after any turn
-pub turned-any : (n : ℕ) (head next fars add tip best seg best′ seg′ : List ℕ) (to a : ℕ) → Stage n best seg → Tips n tip
+pub turned-any : (n : ℕ) (head next fars add tip best seg best′ seg′ : List ℕ) (to a : ℕ) → Stage n best seg
     → Turned n head next fars add tip best seg best′ seg′ to a → Stage n best′ seg′
-turned-any n head next fars add tip best seg best′ seg′ to a st tp (more z l seg₁ ch ne rx) = rx .stage
-turned-any n head next fars add tip best seg best′ seg′ to a st tp (found z l ch t q) =
-    subst (λ (x : List ℕ). Stage n x seg′) (sym q) (stage-close n (lead tip seg) best seg seg′ st (tp .tip-ok (top seg % halves) (omega arith)) ch)
-turned-any n head next fars add tip best seg best′ seg′ to a st tp (nothing z l q q′) =
+turned-any n head next fars add tip best seg best′ seg′ to a st (more z l seg₁ ch ne rx) = rx .stage
+turned-any n head next fars add tip best seg best′ seg′ to a st (found z l t q q′) =
+    subst (λ (x : List ℕ). Stage n x seg′) (sym q) (subst (λ (y : List ℕ). Stage n best y) (sym q′) st)
+turned-any n head next fars add tip best seg best′ seg′ to a st (nothing z l q q′) =
     subst (λ (x : List ℕ). Stage n x seg′) (sym q) (subst (λ (y : List ℕ). Stage n best y) (sym q′) st)

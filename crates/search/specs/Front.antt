@@ -82,7 +82,7 @@ lead tip seg = getD tip (top seg % halves) 0
 pub data Turned (n : ℕ) (head next fars add tip best seg best′ seg′ : List ℕ) (to a : ℕ) : Type 0 where
   more : a ≡ lead tip seg → top seg < limit → (seg₁ : List ℕ) → Changed seg seg₁ n (lead tip seg) far → (lead tip seg ≡ to → ⊥)
       → Relaxed n next fars add best seg₁ best′ seg′ (getD head (lead tip seg) 0) (top seg - top seg % halves) → Turned n head next fars add tip best seg best′ seg′ to a
-  found : a ≡ lead tip seg → top seg < limit → Changed seg seg′ n (lead tip seg) far → lead tip seg ≡ to → best′ ≡ best → Turned n head next fars add tip best seg best′ seg′ to a
+  found : a ≡ lead tip seg → top seg < limit → lead tip seg ≡ to → best′ ≡ best → seg′ ≡ seg → Turned n head next fars add tip best seg best′ seg′ to a
   nothing : a ≡ 0 → limit ≤ top seg → best′ ≡ best → seg′ ≡ seg → Turned n head next fars add tip best seg best′ seg′ to a
 
 -- ---- the line by which a mark came in, and the way back by such lines

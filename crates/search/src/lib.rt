@@ -65,7 +65,7 @@ pub fn begin(
     relax(next, far, add, best, seg, n, cnt, head[r] as usize, 0);
 }
 
-// The nearest open mark enters, and its nodes are offered unless it is the mark to. The answer is that mark, or 0 where none is open.
+// The nearest open mark enters. Unless it is the mark to, it is open no more and its nodes are offered. The answer is that mark, or 0 where none is open.
 pub fn turn(
     head: &[u64],
     next: &[u64],
@@ -86,10 +86,10 @@ pub fn turn(
         return 0;
     }
     let m = tip[(key % chains::HALVES) as usize] as usize;
-    nearest::close(seg, n, m);
     if m == to {
         return m;
     }
+    nearest::close(seg, n, m);
     relax(
         next,
         far,

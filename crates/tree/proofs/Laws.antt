@@ -273,17 +273,17 @@ module _ (lines : List Line) (n : ℕ) (head next fars add tip : List ℕ) (gv :
     pub sprouted-next : (best′ seg′ order′ : List ℕ) (r : ℕ) → Sprouted n head next fars add tip best seg order best′ seg′ order′ k root r → Planting (k + 1) best′ seg′ order′ r
     sprouted-next best′ seg′ order′ r (by-line a (more z lt seg₁ ch ne rx) e q o) =
         subst (λ (x : List ℕ). Planting (k + 1) best′ seg′ x r) (sym o) (subst (λ (x : ℕ). Planting (k + 1) best′ seg′ (set order k a) x) (sym q) (line-next lt seg₁ best′ seg′ a z ch rx))
-    sprouted-next best′ seg′ order′ r (by-line a (found z lt ch t q) e q′ o) = absurd (e (z ∙ t))
+    sprouted-next best′ seg′ order′ r (by-line a (found z lt t q q₂) e q′ o) = absurd (e (z ∙ t))
     sprouted-next best′ seg′ order′ r (by-line a (nothing z lt q q′) e q″ o) = absurd (e z)
     sprouted-next best′ seg′ order′ r (by-root a best₁ seg₁ (more z lt s ch ne rx) e ff l x o) = absurd (ne (sym z ∙ e))
-    sprouted-next best′ seg′ order′ r (by-root a best₁ seg₁ (found z lt ch t q) e ff l x o) = absurd (omega (arith, lead-low lt, t))
+    sprouted-next best′ seg′ order′ r (by-root a best₁ seg₁ (found z lt t q q₂) e ff l x o) = absurd (omega (arith, lead-low lt, t))
     sprouted-next best′ seg′ order′ r (by-root a best₁ seg₁ (nothing z lt q q′) e ff l x o) =
         subst (λ (y : List ℕ). Planting (k + 1) best′ seg′ y r) (sym o)
         (root-next lt r best′ seg′ (subst (λ (y : List ℕ). FirstFar y n root r) q ff) l
         (subst (λ (y : List ℕ). Relaxed n next fars add (set y r 0) seg best′ seg′ (getD head r 0) 0) q
         (subst (λ (y : List ℕ). Relaxed n next fars add (set best₁ r 0) y best′ seg′ (getD head r 0) 0) q′ x)))
     sprouted-next best′ seg′ order′ r (ended a (more z lt s ch ne rx) e ff l o) = absurd (ne (sym z ∙ e))
-    sprouted-next best′ seg′ order′ r (ended a (found z lt ch t q) e ff l o) = absurd (omega (arith, lead-low lt, t))
+    sprouted-next best′ seg′ order′ r (ended a (found z lt t q q₂) e ff l o) = absurd (omega (arith, lead-low lt, t))
     sprouted-next best′ seg′ order′ r (ended a (nothing z lt q q′) e ff l o) =
         subst (λ (y : List ℕ). Planting (k + 1) best′ seg′ y r) (sym o) (subst (λ (y : List ℕ). Planting (k + 1) y seg′ order r) (sym q) (subst (λ (y : List ℕ). Planting (k + 1) best y order r) (sym q′)
         (end-next lt r (subst (λ (y : List ℕ). FirstFar y n root r) q ff) l)))
@@ -324,12 +324,12 @@ module _ (n : ℕ) (head next fars add tip best seg order best′ seg′ order�
     where
       turned-low : Turned n head next fars add tip best seg best′ seg′ 0 a → a < n
       turned-low (more x l s ch ne rx) = rw x (tp .tip-ok (top seg % halves) (omega arith))
-      turned-low (found x l ch y p) = rw x (tp .tip-ok (top seg % halves) (omega arith))
+      turned-low (found x l y p p₂) = rw x (tp .tip-ok (top seg % halves) (omega arith))
       turned-low (nothing x l p p′) = absurd (e x)
   sprouted-below st tp o (by-root a b s t e ff l x z) m h = rw z (below-set n order k r l o m h)
   sprouted-below st tp o (ended a t e ff q z) m h = rw z (o m h)
 
   pub sprouted-stage : Stage n best seg → Tips n tip → Sprouted n head next fars add tip best seg order best′ seg′ order′ k rt r → Stage n best′ seg′
-  sprouted-stage st tp (by-line a t e q o) = turned-any n head next fars add tip best seg best′ seg′ 0 a st tp t
+  sprouted-stage st tp (by-line a t e q o) = turned-any n head next fars add tip best seg best′ seg′ 0 a st t
   sprouted-stage st tp (by-root a b s t e ff l x o) = x .stage
-  sprouted-stage st tp (ended a t e ff q o) = turned-any n head next fars add tip best seg best′ seg′ 0 a st tp t
+  sprouted-stage st tp (ended a t e ff q o) = turned-any n head next fars add tip best seg best′ seg′ 0 a st t

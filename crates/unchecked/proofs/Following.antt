@@ -23,11 +23,17 @@ use Rattle.chains.proofs.Halves.{half-ends, half-flip, half-ok, half-low-end, h
 use Rattle.search.specs.Front.{came, By, Key}
 use Rattle.search.specs.Front as f
 use Rattle.search.proofs.Enter.{came-new, came-old}
+use Rattle.chains.specs.Listed.{Listed}
+use Rattle.tree.specs.Plant.{Holding}
 use Rattle.tree.proofs.Entries.{placed}
 use Rattle.unchecked.specs.Ways.{IsMark, TreeHeld, lineIn, nearerMark}
 
+-- the tables of the lines and the tree's keys hold the tree
+pub tree-held : {n q : ℕ} {lines : List Line} {tip long best order : List ℕ} → Listed lines n q tip long → Holding (tree (n - 1) lines) best order tip → TreeHeld n lines tip best
+tree-held li ho = record { rising = li .rising; sound = li .sound; tipOf = li .tipOf; keyed = ho .keyed }
+
 -- the entry of a mark has the line by which it came in
-entry-came : (es : Tree) (m d : ℕ) → distance es m ≡ some d → (x : Entry) × List·Memᴰ x es × (x .mark ≡ m) × (x .by ≡ came es m)
+pub entry-came : (es : Tree) (m d : ℕ) → distance es m ≡ some d → (x : Entry) × List·Memᴰ x es × (x .mark ≡ m) × (x .by ≡ came es m)
 unfolding distance
 entry-came [] m d h = never h refl
 entry-came (e ∷ es) m d h = go (after e es m) (entry-came es m d)
@@ -51,11 +57,11 @@ module _ (n : ℕ) (lines : List Line) (tip best : List ℕ) (t : TreeHeld n lin
   }
 
   -- their tree has grown by the rule
-  grown-tree : Grown lines es
+  pub grown-tree : Grown lines es
   grown-tree = grows (n - 1) lines (placed n lines (t .sound))
 
   -- every mark has a distance and a key
-  key-at : (m : ℕ) → IsMark n m → (d : ℕ) × (distance es m ≡ some d) × Key es best tip m d
+  pub key-at : (m : ℕ) → IsMark n m → (d : ℕ) × (distance es m ≡ some d) × Key es best tip m d
   key-at m i = let h = has-distance (n - 1) lines book-sound m (i .0) (omega (arith, i .1)) in (h .0, h .1, t .keyed m (h .0) (h .1))
 
   -- ---- one line of a way

@@ -1,4 +1,5 @@
 pub mod Following
 pub mod Marking
 pub mod Listing
+pub mod Checking
 pub mod Planted

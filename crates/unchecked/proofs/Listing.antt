@@ -19,9 +19,9 @@ use Rattle.chains.specs.Chains.{numberLimit}
 use Rattle.chains.specs.Listed.{Listed}
 use Rattle.tree.specs.Plant.{Holding}
 use Rattle.closing.specs.Order.{Put}
-use Rattle.unchecked.specs.Ways.{isMarked, TreeHeld, ClosingHeld, LinesChecked}
+use Rattle.unchecked.specs.Ways.{isMarked, LinesChecked}
 use Rattle.unchecked.specs.List.{isOpen, openFrom}
-use Rattle.unchecked.proofs.Following.{book-sound}
+use Rattle.unchecked.proofs.Following.{tree-held, book-sound}
 
 -- ---- writing the list, number by number
 
@@ -157,23 +157,16 @@ module _ (long marked : List ℕ) (ls : List Loop) where
 
 -- ---- what the tables hold
 
--- the tables of the lines and the tree's keys hold the tree
-pub tree-held : {n q : ℕ} {lines : List Line} {tip long best order : List ℕ} → Listed lines n q tip long → Holding (tree (n - 1) lines) best order tip → TreeHeld n lines tip best
-tree-held li ho = record { rising = li .rising; sound = li .sound; tipOf = li .tipOf; keyed = ho .keyed }
-
 -- once the checked lines are marked, the open numbers that are written out are the list
-pub open-list : {n q count : ℕ} {lines : List Line} {tip long best order close out out′ : List ℕ} {a : ℕ} (marked : List ℕ) → q ≤ numberLimit → Listed lines n q tip long
-    → Holding (tree (n - 1) lines) best order tip → ClosingHeld n lines close count → LinesChecked tip best close marked count
+pub open-list : {n q : ℕ} {lines : List Line} {tip long best order out out′ : List ℕ} {a : ℕ} (marked : List ℕ) → q ≤ numberLimit → Listed lines n q tip long
+    → Holding (tree (n - 1) lines) best order tip → LinesChecked tip long best marked q
     → Put (openFrom long marked 1 (q - 1)) out out′ a → Put (notChecked (loops (n - 1) lines) lines) out out′ a
-open-list {n = n} {q = q} {lines = lines} {tip = tip} {long = long} {best = best} {out = out} {out′ = out′} {a = a} marked few li ho ch lc =
+open-list {n = n} {q = q} {lines = lines} {tip = tip} {long = long} {best = best} {order = order} {out = out} {out′ = out′} {a = a} marked few li ho lc =
     subst (λ (xs : List ℕ). Put xs out out′ a)
     (open-is-unchecked long marked (loops (n - 1) lines) (q - 1) lines 1 (record {
       rising = li .rising;
       within = λ l i. (li .sound l i .numbered, omega (arith, li .numbered l i));
       standing = λ l i z. omega (arith, li .longOf l i, li .sound l i .long);
       lineOf = λ i a b z. li .lineOf i (omega arith) (omega arith);
-      marks = λ l i. lc n lines held ch (l .number) (li .sound l i .number) ∙ sym (checked-is-crossed (n - 1) lines (book-sound n lines tip best held) l i);
+      marks = λ l i. lc n order lines li ho (l .number) (li .sound l i .number) ∙ sym (checked-is-crossed (n - 1) lines (book-sound n lines tip best (tree-held li ho)) l i);
     }))
-  where
-    held : TreeHeld n lines tip best
-    held = tree-held li ho

@@ -2,25 +2,21 @@
 use Prim.Native.Nat.{ℕ, _+_, _*_, _-_, _≤_, _<_}
 use native.Mathlib.Omega.{arith}
 use native.Mathlib.Decide.{ℕ-discrete}
-use native.Mathlib.Numerals.{add-one}
 use mathlib.Core.Path.{_≡_, refl, sym, _∙_, ap, ap₂, subst}
 use mathlib.Core.Bool.{Bool, true, false, _||_, or-false, or-assoc}
-use mathlib.Core.List.{List, [], _∷_, List·Memᴰ, List·Memᴰ·head, List·Memᴰ·tail}
+use mathlib.Core.List.{List, List·Memᴰ}
 use lib.ListN.{length, getD, set}
 use lib.Seq.{getD-set-same, getD-set-other}
 use lib.Dec.{eqb}
 use borrow.Author.Tests.{eqb-true, eq-eqb, ne-eqb}
 use Rattle.network.specs.Standing.{Line}
 use Rattle.network.specs.Tree.{Tree, tree}
-use Rattle.network.specs.Closing.{closing}
-use Rattle.network.proofs.ClosingLines.{closing-line-stands}
 use Rattle.network.proofs.Subgraph.{or-right}
-use Rattle.loops.specs.Crossed.{onWay, differ, crosses, crossed}
+use Rattle.loops.specs.Crossed.{onWay, differ, crosses}
 use Rattle.loops.proofs.Ways.{differ-turn, same-differ}
 use Rattle.chains.specs.Chains.{fore, aft, numberLimit}
-use Rattle.subgraph.specs.Turn.{Queue, next-is}
-use Rattle.unchecked.specs.Ways.{checkedMark, isMarked, IsMark, TreeHeld, ClosingHeld, Climbed, Follows, Followed}
-use Rattle.unchecked.proofs.Following.{Step, step-at, meet, book-sound}
+use Rattle.unchecked.specs.Ways.{checkedMark, isMarked, IsMark, TreeHeld, Climbed, Follows, Followed}
+use Rattle.unchecked.proofs.Following.{Step, step-at, meet}
 
 -- ---- one mark more
 
@@ -164,66 +160,3 @@ module _ {n : ℕ} {lines : List Line} {tip best : List ℕ} (t : TreeHeld n lin
       ∙ ap₂ (λ (x y : Bool). x || y) (marked-set marked number (omega (arith, small-number)) j ∙ ap (λ (k : ℕ). isMarked marked j || eqb k j) (sym its))
       (ap₂ (λ (x y : ℕ). differ (onWay (tree (n - 1) lines) j x) (onWay (tree (n - 1) lines) j y)) from-at to-at)
       ∙ or-assoc (isMarked marked j) (eqb (c .number) j) (differ (onWay (tree (n - 1) lines) j (c .from)) (onWay (tree (n - 1) lines) j (c .to)))
-
--- ---- all closing lines
-
--- the first i closing lines are done, the rest are left
-pub record Left (n : ℕ) (lines : List Line) (close : List ℕ) (count : ℕ) (marked : List ℕ) (i : ℕ) : Type 0 where
-  pub rest : List Line
-  pub queue : Queue close i rest
-  pub count-is : i + length rest ≡ count
-  pub stand : (c : Line) → List·Memᴰ c rest → List·Memᴰ c lines
-  pub same : (j : ℕ) → j < numberLimit → (isMarked marked j || crossed (tree (n - 1) lines) j rest) ≡ crossed (tree (n - 1) lines) j (closing lines (tree (n - 1) lines))
-
-module _ {n : ℕ} {lines : List Line} {tip best : List ℕ} (t : TreeHeld n lines tip best) (close : List ℕ) (count : ℕ) where
-  abbrev whole : Tree
-  whole = tree (n - 1) lines
-
-  -- at the start all are left and nothing is marked
-  pub left-start : ClosingHeld n lines close count → {marked : List ℕ} → ((j : ℕ) → j < numberLimit → getD marked j 0 ≡ 0) → Left n lines close count marked 0
-  left-start ch {marked = marked} z = record {
-    rest = closing lines whole;
-    queue = ch .queue;
-    count-is = omega (arith, ch .count-is);
-    stand = closing-line-stands (n - 1) lines (book-sound n lines tip best t);
-    same = λ j lt. ap (λ (k : ℕ). eqb k checkedMark || crossed whole j (closing lines whole)) (z j lt);
-  }
-
-  -- the closing line whose turn it is
-  pub record Turn (marked : List ℕ) (i : ℕ) : Type 0 where
-    pub c : Line
-    pub isLine : List·Memᴰ c lines
-    pub its : c .number ≡ getD close i 0
-    pub next : {marked′ : List ℕ} → ((j : ℕ) → isMarked marked′ j ≡ (isMarked marked j || (eqb (c .number) j || crosses whole j c))) → Left n lines close count marked′ (i + 1)
-
-  -- as long as some are left there is one
-  pub left-turn : {marked : List ℕ} {i : ℕ} → i < count → Left n lines close count marked i → Turn marked i
-  unfolding crossed
-  left-turn {marked = marked} {i = i} lt w = go (w .rest) (w .queue) (w .count-is) (w .stand) (w .same)
-    where
-      go : (rest : List Line) → Queue close i rest → i + length rest ≡ count → ((c : Line) → List·Memᴰ c rest → List·Memᴰ c lines)
-          → ((j : ℕ) → j < numberLimit → (isMarked marked j || crossed whole j rest) ≡ crossed whole j (closing lines whole)) → Turn marked i
-      go [] q e s f = absurd (omega arith)
-      go (c ∷ rest) (next-is x q) e s f = record {
-        c = c;
-        isLine = s c (List·Memᴰ·head refl);
-        its = sym x;
-        next = λ h. record {
-          rest = rest;
-          queue = subst (λ (k : ℕ). Queue close k rest) (sym (add-one i)) q;
-          count-is = omega arith;
-          stand = λ k j. s k (List·Memᴰ·tail j);
-          same = λ j z. ap (λ (b : Bool). b || crossed whole j rest) (h j)
-              ∙ or-assoc (isMarked marked j) (eqb (c .number) j || crosses whole j c) (crossed whole j rest) ∙ f j z;
-        };
-      }
-
-  -- once none is left, marked is what is crossed
-  pub left-end : {marked : List ℕ} {i : ℕ} → count ≤ i → Left n lines close count marked i → (j : ℕ) → j < numberLimit → isMarked marked j ≡ crossed whole j (closing lines whole)
-  unfolding crossed
-  left-end {marked = marked} {i = i} le w j lt = go (w .rest) (w .count-is) (w .same j lt)
-    where
-      go : (rest : List Line) → i + length rest ≡ count → (isMarked marked j || crossed whole j rest) ≡ crossed whole j (closing lines whole)
-          → isMarked marked j ≡ crossed whole j (closing lines whole)
-      go [] e f = sym (or-false (isMarked marked j)) ∙ f
-      go (c ∷ rest) e f = absurd (omega arith)

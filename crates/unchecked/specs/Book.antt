@@ -1,5 +1,5 @@
 -- The not-checked list of a lent book. Assumes nothing.
-use Prim.Native.Nat.{ℕ, _+_, _*_, _-_, _/_, _≤_}
+use Prim.Native.Nat.{ℕ, _-_, _/_, _≤_}
 use mathlib.Core.List.{List}
 use lib.IntN.{ℤ}
 use lib.ListN.{length}
@@ -9,11 +9,8 @@ use Rattle.loops.specs.Checked.{notChecked}
 use Rattle.chains.specs.Chains.{numberLimit}
 use Rattle.closing.specs.Order.{Put}
 
--- room for the closing lines, the marks and the list
-pub record Shelf (n : ℕ) (ls : List ℤ) (rank sort close marked out : List ℕ) : Type 0 where
-  pub ranks : n ≤ length rank
-  pub sorts : 2 * (length ls / 5 + 1) ≤ length sort
-  pub closes : length ls / 5 ≤ length close
+-- room for the marks and the list
+pub record Shelf (ls : List ℤ) (marked out : List ℕ) : Type 0 where
   pub marks : numberLimit ≤ length marked
   pub outs : length ls / 5 ≤ length out
 

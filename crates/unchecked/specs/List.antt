@@ -9,11 +9,10 @@ use Rattle.network.specs.Standing.{Line}
 use Rattle.network.specs.Tree.{tree}
 use Rattle.loops.specs.Loops.{loops}
 use Rattle.loops.specs.Checked.{notChecked}
-use Rattle.chains.specs.Chains.{numberLimit}
 use Rattle.chains.specs.Listed.{Listed}
 use Rattle.tree.specs.Plant.{Holding}
 use Rattle.closing.specs.Order.{Put}
-use Rattle.unchecked.specs.Ways.{isMarked, Tables, ClosingHeld}
+use Rattle.unchecked.specs.Ways.{isMarked, Closes}
 
 -- line j stands and is not marked
 abbrev pub isOpen : List ℕ → List ℕ → ℕ → Bool
@@ -30,23 +29,13 @@ pub record Lists (long marked out : List ℕ) (q : ℕ) : Type 0 where
   pub marks : q ≤ length marked
   pub outs : q ≤ length out + 1
 
--- what the not-checked list asks for: the tables, the tree and the closing lines of some lines, in numbers below q, and room
-pub record Ready (tip long best close marked out : List ℕ) (count q : ℕ) : Type 0 where
-  pub tables : Tables tip marked
-  pub few : q ≤ numberLimit
-  pub longs : q ≤ length long
+-- what the not-checked list asks for: the tables and the tree of some lines, and room for their numbers
+pub record Ready (tip long best marked out : List ℕ) (q : ℕ) : Type 0 where
+  pub closes : Closes tip long best marked q
   pub outs : q ≤ length out + 1
-  pub closes : count ≤ length close
-  pub n : ℕ
-  pub bests : n ≤ length best
-  pub order : List ℕ
-  pub lines : List Line
-  pub listed : Listed lines n q tip long
-  pub holding : Holding (tree (n - 1) lines) best order tip
-  pub closing-held : ClosingHeld n lines close count
 
 -- the definition's list is written out
-abbrev pub NotChecked : List ℕ → List ℕ → List ℕ → List ℕ → List ℕ → List ℕ → ℕ → ℕ → ℕ → Type 0
-NotChecked tip long best close out out′ count q a =
-    (n : ℕ) (order : List ℕ) (lines : List Line) → Listed lines n q tip long → Holding (tree (n - 1) lines) best order tip → ClosingHeld n lines close count
+abbrev pub NotChecked : List ℕ → List ℕ → List ℕ → List ℕ → List ℕ → ℕ → ℕ → Type 0
+NotChecked tip long best out out′ q a =
+    (n : ℕ) (order : List ℕ) (lines : List Line) → Listed lines n q tip long → Holding (tree (n - 1) lines) best order tip
     → Put (notChecked (loops (n - 1) lines) lines) out out′ a

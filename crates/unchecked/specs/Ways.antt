@@ -1,8 +1,8 @@
 -- Lines are marked as checked along the ways of the tree. Document 01: "A mark's way to its root is followed line by line".
 -- Assumes nothing.
-use Prim.Native.Nat.{ℕ, _-_, _/_, _%_, _≤_, _<_}
+use Prim.Native.Nat.{ℕ, _+_, _*_, _-_, _/_, _%_, _≤_, _<_}
 use mathlib.Core.Path.{_≡_}
-use mathlib.Core.Bool.{Bool, _||_}
+use mathlib.Core.Bool.{Bool, true, false, not, _||_, cond}
 use mathlib.Core.List.{List, List·Memᴰ}
 use lib.ListN.{length, getD, set}
 use lib.Dec.{eqb}
@@ -11,9 +11,10 @@ use Rattle.network.specs.Sound.{Rising}
 use Rattle.network.specs.Tree.{tree}
 use Rattle.network.specs.Closing.{closing}
 use Rattle.loops.specs.Crossed.{onWay, differ, crosses, crossed}
-use Rattle.chains.specs.Chains.{Half, flip, AllSound, halves, numberLimit}
+use Rattle.chains.specs.Chains.{Half, flip, AllSound, Tips, halves, numberLimit}
+use Rattle.chains.specs.Listed.{Listed}
 use Rattle.search.specs.Front.{Keyed}
-use Rattle.subgraph.specs.Turn.{Queue}
+use Rattle.tree.specs.Plant.{Holding}
 
 -- what stands at the number of a line that is checked
 abbrev pub checkedMark : ℕ
@@ -35,11 +36,6 @@ pub record TreeHeld (n : ℕ) (lines : List Line) (tip best : List ℕ) : Type 0
   pub sound : AllSound n lines
   pub tipOf : (l : Line) (u v h : ℕ) → List·Memᴰ l lines → Half l u v h → getD tip h 0 ≡ v
   pub keyed : Keyed (tree (n - 1) lines) best tip
-
--- close has the numbers of the closing lines in their order, so many
-pub record ClosingHeld (n : ℕ) (lines : List Line) (close : List ℕ) (count : ℕ) : Type 0 where
-  pub queue : Queue close 0 (closing lines (tree (n - 1) lines))
-  pub count-is : count ≡ length (closing lines (tree (n - 1) lines))
 
 -- a place for each half and for the mark of each line
 pub record Tables (tip marked : List ℕ) : Type 0 where
@@ -98,18 +94,33 @@ LoopChecked tip best marked marked′ number =
 
 -- ---- all closing lines
 
--- there is a tree, with its closing lines
-pub record Closes (tip best close marked : List ℕ) (count : ℕ) : Type 0 where
-  pub tables : Tables tip marked
-  pub closes : count ≤ length close
+-- line j stands, and neither of its ends came in by it
+abbrev pub closesAt : List ℕ → List ℕ → List ℕ → ℕ → Bool
+closesAt tip long best j =
+    cond (eqb (getD long j 0) 0) false
+    (cond (eqb (lineIn best (getD tip (j * 2) 0)) j) false
+    (not (eqb (lineIn best (getD tip (j * 2 + 1) 0)) j)))
+
+-- the tables of some lines with numbers below q, their tree, and room
+pub record Closes (tip long best marked : List ℕ) (q : ℕ) : Type 0 where
+  pub marks : numberLimit ≤ length marked
+  pub few : q ≤ numberLimit
+  pub longs : q ≤ length long
   pub n : ℕ
+  pub tips : Tips n tip
   pub bests : n ≤ length best
+  pub order : List ℕ
   pub lines : List Line
-  pub held : TreeHeld n lines tip best
-  pub closing-held : ClosingHeld n lines close count
+  pub listed : Listed lines n q tip long
+  pub holding : Holding (tree (n - 1) lines) best order tip
+
+-- a closing line is checked with what it crosses, and any other line is passed over
+pub data Passed (tip long best marked marked′ : List ℕ) (number : ℕ) : Type 0 where
+  closing-line : closesAt tip long best number ≡ true → LoopChecked tip best marked marked′ number → Passed tip long best marked marked′ number
+  other-line : closesAt tip long best number ≡ false → marked′ ≡ marked → Passed tip long best marked marked′ number
 
 -- marked are the closing lines and the lines that one of them crosses, and no other
 abbrev pub LinesChecked : List ℕ → List ℕ → List ℕ → List ℕ → ℕ → Type 0
-LinesChecked tip best close marked′ count =
-    (n : ℕ) (lines : List Line) → TreeHeld n lines tip best → ClosingHeld n lines close count
+LinesChecked tip long best marked′ q =
+    (n : ℕ) (order : List ℕ) (lines : List Line) → Listed lines n q tip long → Holding (tree (n - 1) lines) best order tip
     → (j : ℕ) → j < numberLimit → isMarked marked′ j ≡ crossed (tree (n - 1) lines) j (closing lines (tree (n - 1) lines))

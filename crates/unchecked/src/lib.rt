@@ -1,9 +1,9 @@
-// The lines that no loop checks, from the tree and its closing lines alone: no loop is worked out.
+// The lines that no loop checks, from the tree and its closing lines alone: no loop is worked out, and the closing lines are put in no order.
 ghost use mathlib.Core.Path.{_≡_};
-ghost use Prim.Native.Nat.{_+_, _-_, _<_, _≤_};
-ghost use lib.ListN.{length};
+ghost use Prim.Native.Nat.{_+_, _*_, _-_, _<_};
+ghost use lib.ListN.{length, getD};
 ghost use Rattle.closing.specs.Order.{Put};
-ghost use Rattle.unchecked.specs.Ways.{Tables, Climbed, Follows, Followed, Checks, LoopChecked, Closes, LinesChecked};
+ghost use Rattle.unchecked.specs.Ways.{Tables, Climbed, Follows, Followed, Checks, LoopChecked, closesAt, Closes, Passed, LinesChecked};
 ghost use Rattle.unchecked.specs.List.{isOpen, openFrom, Lists, Ready, NotChecked};
 ghost use Rattle.prepare.specs.Prepared.{Good, Chained, Soil};
 ghost use Rattle.unchecked.specs.Book.{Shelf, BookListed};
@@ -49,16 +49,42 @@ pub fn check_loop(tip: &[u64], best: &[u64], marked: &mut [u64], number: usize)
     follow(tip, best, marked, from, to);
 }
 
-// Every line that is checked is marked, and no other: the closing lines, so many, and the lines that they cross.
-pub fn check_lines(tip: &[u64], best: &[u64], close: &[u64], marked: &mut [u64], count: usize)
-    requires { ⌜ Closes (now tip) (now best) (now close) (now marked) count ⌝ }
-    ensures { λ _. ⌜ LinesChecked (now (tip .entry)) (now (best .entry)) (now (close .entry)) (now (marked .exit)) count ⌝ }
+// The line of this number stands, and neither of its ends came in by it: it closes a loop.
+fn closes(tip: &[u64], long: &[u64], best: &[u64], number: usize) -> bool
+    requires { ⌜ (number < length (now long)) × (number * 2 + 1 < length (now tip)) ⌝ ∗ ⌜ (getD (now tip) (number * 2) 0 < length (now best)) × (getD (now tip) (number * 2 + 1) 0 < length (now best)) ⌝ }
+    ensures { λ r. ⌜ r ≡ closesAt (now (tip .entry)) (now (long .entry)) (now (best .entry)) number ⌝ }
+{
+    if long[number] == 0 {
+        return false;
+    }
+    let to = tip[number * 2] as usize;
+    if (best[to] % chains::HALVES / 2) as usize == number {
+        return false;
+    }
+    let from = tip[number * 2 + 1] as usize;
+    (best[from] % chains::HALVES / 2) as usize != number
+}
+
+// If the line of this number closes a loop, it is checked with every line that it crosses.
+fn check_line(tip: &[u64], long: &[u64], best: &[u64], marked: &mut [u64], number: usize, q: usize)
+    requires { ⌜ Closes (now tip) (now long) (now best) (now marked) q ⌝ ∗ ⌜ number < q ⌝ }
+    ensures { λ _. ⌜ Passed (now (tip .entry)) (now (long .entry)) (now (best .entry)) (now (marked .entry)) (now (marked .exit)) number ⌝ }
+{
+    if closes(tip, long, best, number) {
+        check_loop(tip, best, marked, number);
+    }
+}
+
+// Every line that is checked is marked, and no other: the closing lines, in whatever order, and the lines that they cross. Line numbers are below q.
+pub fn check_lines(tip: &[u64], long: &[u64], best: &[u64], marked: &mut [u64], q: usize)
+    requires { ⌜ Closes (now tip) (now long) (now best) (now marked) q ⌝ }
+    ensures { λ _. ⌜ LinesChecked (now (tip .entry)) (now (long .entry)) (now (best .entry)) (now (marked .exit)) q ⌝ }
 {
     chains::zero(marked, chains::NUMBERS as usize);
-    let mut i = 0;
-    while i < count {
-        check_loop(tip, best, marked, close[i] as usize);
-        i += 1;
+    let mut number = 1;
+    while number < q {
+        check_line(tip, long, best, marked, number, q);
+        number += 1;
     }
 }
 
@@ -90,22 +116,19 @@ pub fn list_open(long: &[u64], marked: &[u64], out: &mut [u64], q: usize) -> usi
     c
 }
 
-// The numbers of the standing lines that no loop checks, by rising number, into out from place 0 on, and how many there are.
-// Line numbers are below q, and close has the closing lines, so many.
+// The numbers of the standing lines that no loop checks, by rising number, into out from place 0 on, and how many there are. Line numbers are below q.
 pub fn not_checked(
     tip: &[u64],
     long: &[u64],
     best: &[u64],
-    close: &[u64],
     marked: &mut [u64],
     out: &mut [u64],
-    count: usize,
     q: usize,
 ) -> usize
-    requires { ⌜ Ready (now tip) (now long) (now best) (now close) (now marked) (now out) count q ⌝ }
-    ensures { λ a. ⌜ NotChecked (now (tip .entry)) (now (long .entry)) (now (best .entry)) (now (close .entry)) (now (out .entry)) (now (out .exit)) count q a ⌝ }
+    requires { ⌜ Ready (now tip) (now long) (now best) (now marked) (now out) q ⌝ }
+    ensures { λ a. ⌜ NotChecked (now (tip .entry)) (now (long .entry)) (now (best .entry)) (now (out .entry)) (now (out .exit)) q a ⌝ }
 {
-    check_lines(tip, best, close, marked, count);
+    check_lines(tip, long, best, marked, q);
     list_open(long, marked, out, q)
 }
 
@@ -122,18 +145,13 @@ pub fn list_book(
     best: &mut [u64],
     seg: &mut [u64],
     order: &mut [u64],
-    rank: &mut [u64],
-    sort: &mut [u64],
-    close: &mut [u64],
     marked: &mut [u64],
     out: &mut [u64],
     n: usize,
 ) -> usize
-    requires { ⌜ Good n (now lines) ⌝ ∗ ⌜ Chained n (now lines) (now tip) (now long) (now head) (now next) (now far) (now add) ⌝ ∗ ⌜ Soil n (now best) (now seg) (now order) ⌝ ∗ ⌜ Shelf n (now lines) (now rank) (now sort) (now close) (now marked) (now out) ⌝ }
+    requires { ⌜ Good n (now lines) ⌝ ∗ ⌜ Chained n (now lines) (now tip) (now long) (now head) (now next) (now far) (now add) ⌝ ∗ ⌜ Soil n (now best) (now seg) (now order) ⌝ ∗ ⌜ Shelf (now lines) (now marked) (now out) ⌝ }
     ensures { λ a. ⌜ BookListed n (now (lines .entry)) (now (out .entry)) (now (out .exit)) a ⌝ }
 {
     prepare::plant_book(lines, tip, long, head, next, far, add, best, seg, order, n);
-    let q = lines.len() / Line::WORDS + 1;
-    let count = closing::closing_lines(tip, best, order, long, rank, sort, close, n, q);
-    not_checked(tip, long, best, close, marked, out, count, q)
+    not_checked(tip, long, best, marked, out, lines.len() / Line::WORDS + 1)
 }

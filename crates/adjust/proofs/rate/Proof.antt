@@ -17,8 +17,10 @@ count-read c =
     let k = c .before .signed-count in
     sym (c .same .ensures ∙ rw (stored (k .result) (k .ok) (k .ensures), toZ-ofZ (s .fits .b)))
 
-test-read : (c : tie.After-test) → (let s = c .before .before .before .before in testOf (s .args .b) (s .args .t) (s .args .held .now) (s .args .lines .now) ≡ c .test .result)
-test-read c = let s = c .before .before .before .before in sym (c .test .ensures ∙ rw (toZ-ofZ (s .fits .b), toZ-ofZ (s .fits .t)))
+test-read : (c : tie.After-test) → (let s : tie.Start = search in testOf (s .args .b) (s .args .t) (s .args .held .now) (s .args .lines .now) ≡ c .test .result)
+test-read c =
+    let s : tie.Start = search in
+    sym (c .test .ensures ∙ rw (toZ-ofZ (s .fits .b), toZ-ofZ (s .fits .t)))
 
 signed-count-requires : tie.Need-signed-count-requires
 signed-count-requires c κs = search needs
@@ -40,28 +42,38 @@ enum-known-tested-2 c = search needs
 
 good-rate-requires : tie.Need-good-rate-requires
 good-rate-requires c κs =
-    let s = c .before .before .before .before .before .before .before in
+    let then1 : tie.Then1 = search in
+    let after-same : tie.After-same = search in
+    let s : tie.Start = search in
     let k = c .before .tested2 .given in
     let e = test-read (c .before .before .before) ∙ k .1 in
-    (lines-of (s .args .b) (s .args .t) (s .args .held .now) (s .args .lines .now) (k .0 .0) e, marks-of (s .args .b) (s .args .t) (s .args .held .now) (s .args .lines .now) (k .0 .0) e (length (s .args .heights .now)) (count-read (c .before .before .before .before .before) ∙ c .before .before .before .before .if1 .taken))
+    (lines-of (s .args .b) (s .args .t) (s .args .held .now) (s .args .lines .now) (k .0 .0) e, marks-of (s .args .b) (s .args .t) (s .args .held .now) (s .args .lines .now) (k .0 .0) e (length (s .args .heights .now)) (count-read after-same ∙ then1 .if1 .taken))
 
 returns : tie.Need-returns
 returns c =
-    let s = c .before .before .before .before .before .before .before .before in
+    let after-test : tie.After-test = search in
+    let then1 : tie.Then1 = search in
+    let after-same : tie.After-same = search in
+    let s : tie.Start = search in
     let k = c .before .before .tested .given in
-    rate-refused (s .args .b) (s .args .t) (s .args .held .now) (s .args .lines .now) (s .args .heights .now) (s .args .line) (c .refuse .result) (count-read (c .before .before .before .before .before .before) ∙ c .before .before .before .before .before .if1 .taken) (k .0 .0) (test-read (c .before .before .before .before) ∙ k .1) (c .refuse .ensures)
+    rate-refused (s .args .b) (s .args .t) (s .args .held .now) (s .args .lines .now) (s .args .heights .now) (s .args .line) (c .refuse .result) (count-read after-same ∙ then1 .if1 .taken) (k .0 .0) (test-read after-test ∙ k .1) (c .refuse .ensures)
 
 returns-2 : tie.Need-returns-2
 returns-2 c =
-    let s = c .before .before .before .before .before .before .before .before in
+    let after-test : tie.After-test = search in
+    let then1 : tie.Then1 = search in
+    let after-same : tie.After-same = search in
+    let s : tie.Start = search in
     let k = c .before .before .tested2 .given in
-    rate-good (s .args .b) (s .args .t) (s .args .held .now) (s .args .lines .now) (s .args .heights .now) (s .args .line) (c .good-rate .result) (count-read (c .before .before .before .before .before .before) ∙ c .before .before .before .before .before .if1 .taken) (k .0 .0) (test-read (c .before .before .before .before) ∙ k .1) (c .good-rate .ensures ∙ rw (toZ-ofZ (s .fits .line)))
+    rate-good (s .args .b) (s .args .t) (s .args .held .now) (s .args .lines .now) (s .args .heights .now) (s .args .line) (c .good-rate .result) (count-read after-same ∙ then1 .if1 .taken) (k .0 .0) (test-read after-test ∙ k .1) (c .good-rate .ensures ∙ rw (toZ-ofZ (s .fits .line)))
 
 refuse-requires-2 : tie.Need-refuse-requires-2
 refuse-requires-2 c κs = search needs
 
 returns-3 : tie.Need-returns-3
-returns-3 c = let s = c .before .before .before .before in rate-four (s .args .b) (s .args .t) (s .args .held .now) (s .args .lines .now) (s .args .heights .now) (s .args .line) (c .refuse2 .result) (count-read (c .before .before) ∙ c .before .if1 .left) (c .refuse2 .ensures)
+returns-3 c =
+    let s : tie.Start = search in
+    rate-four (s .args .b) (s .args .t) (s .args .held .now) (s .args .lines .now) (s .args .heights .now) (s .args .line) (c .refuse2 .result) (count-read (c .before .before) ∙ c .before .if1 .left) (c .refuse2 .ensures)
 
 pub rate-spec : {M : Type 1} → statement M
 rate-spec =

@@ -22,11 +22,11 @@ made : (c : tie.After-new) → (let a = c .before .before .before .args in
     c .new .result ≡ bookOf (a .b) (a .t) (heldCount (a .held .now)) (lineCount (a .lines .now)))
 made c = c .new .ensures ∙ search needs
 
-bad-held : (c : tie.After-first-bad-held) → (let a = c .before .before .before .before .before .before .before .args in
+bad-held : (c : tie.After-first-bad-held) → (let entry : tie.Start = search in let a = entry .args in
     c .first-bad-held .result ≡ firstBadHeld (a .b) (a .held .now))
 bad-held c = c .first-bad-held .ensures ∙ search needs
 
-bad-line : (c : tie.After-first-bad-line) → (let a = c .before .before .before .before .before .before .before .before .before .args in
+bad-line : (c : tie.After-first-bad-line) → (let entry : tie.Start = search in let a = entry .args in
     c .first-bad-line .result ≡ firstBadLine (a .b) (a .lines .now))
 bad-line c = c .first-bad-line .ensures ∙ search needs
 

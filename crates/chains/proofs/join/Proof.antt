@@ -38,7 +38,11 @@ same-length-4 : tie.Need-same-length-4
 same-length-4 c = search needs
 
 returns : tie.Need-returns
-returns c = join-added _ _ _ _ _ _ _ _ _ _ _ _ _ _ _ _ _ _ (c .before .before .before .before .before .before .before .before .before .before .before .before .before .before .before .before .before .before .before .before .before .before .before .before .before .before .before .before .before .before .pre .0) (c .before .before .before .before .before .before .before .before .before .before .before .before .before .before .before .before .before .before .before .before .before .before .before .before .before .before .before .before .before .before .pre .1) (c .before .before .before .before .before .before .before .before .before .before .before .before .before .before .before .before .before .before .before .before .before .link .ensures) (c .before .before .before .before .before .before .before .before .link2 .ensures)
+returns c =
+    let after-link2 : tie.After-link2 = search in
+    let after-link : tie.After-link = search in
+    let entry : tie.Start = search in
+    join-added _ _ _ _ _ _ _ _ _ _ _ _ _ _ _ _ _ _ (entry .pre .0) (entry .pre .1) (after-link .link .ensures) (after-link2 .link2 .ensures)
 
 pub join-spec : {M : Type 1} → statement M
 join-spec =

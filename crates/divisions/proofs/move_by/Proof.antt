@@ -43,15 +43,17 @@ sub-requires c κs = let h = small (c .before .before) in rw (count (c .before))
 
 returns-2 : tie.Need-returns-2
 returns-2 c =
-    let s = c .before .before .before .before .before .before in
+    let after-magnitude : tie.After-magnitude = search in
+    let s : tie.Start = search in
     stored (c .sub .result) (c .sub .ok) (rw (count (c .before .before), +ℤ-idl) at (c .sub .ensures))
-    ∙ rw (of-negative (s .args .g) (s .args .d) (rw (toZ-ofZ (s .fits .g)) at (c .before .if2 .taken)), c .before .before .before .nearest-size .ensures, size (c .before .before .before .before .before))
+    ∙ rw (of-negative (s .args .g) (s .args .d) (rw (toZ-ofZ (s .fits .g)) at (c .before .if2 .taken)), c .before .before .before .nearest-size .ensures, size after-magnitude)
 
 returns-3 : tie.Need-returns-3
 returns-3 c =
-    let s = c .before .before .before .before .before in
+    let after-magnitude : tie.After-magnitude = search in
+    let s : tie.Start = search in
     count (c .before)
-    ∙ rw (of-positive (s .args .g) (s .args .d) (rw (toZ-ofZ (s .fits .g)) at (c .if2 .left)), c .before .before .nearest-size .ensures, size (c .before .before .before .before))
+    ∙ rw (of-positive (s .args .g) (s .args .d) (rw (toZ-ofZ (s .fits .g)) at (c .if2 .left)), c .before .before .nearest-size .ensures, size after-magnitude)
 
 pub move-by-spec : {M : Type 1} → statement M
 move-by-spec =

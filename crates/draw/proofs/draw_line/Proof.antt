@@ -22,19 +22,25 @@ shared-slice-copy-out-index : tie.Need-shared-slice-copy-out-index
 shared-slice-copy-out-index c = search needs
 
 index-requires : tie.Need-index-requires
-index-requires c κs = rw (back _ (c .index-arg .given)) (not-negative (c .before .before .before .before .before .before .before .before .before .before .pre .good .from))
+index-requires c κs =
+    let entry : tie.Start = search in
+    rw (back _ (c .index-arg .given)) (not-negative (entry .pre .good .from))
 
 shared-slice-copy-out-index-2 : tie.Need-shared-slice-copy-out-index-2
 shared-slice-copy-out-index-2 c = search needs
 
 index-requires-2 : tie.Need-index-requires-2
-index-requires-2 c κs = rw (back _ (c .index-arg2 .given)) (not-negative (c .before .before .before .before .before .before .before .before .before .before .before .before .pre .good .to))
+index-requires-2 c κs =
+    let entry : tie.Start = search in
+    rw (back _ (c .index-arg2 .given)) (not-negative (entry .pre .good .to))
 
 shared-slice-copy-out-index-3 : tie.Need-shared-slice-copy-out-index-3
 shared-slice-copy-out-index-3 c = search needs
 
 index-requires-3 : tie.Need-index-requires-3
-index-requires-3 c κs = rw (back _ (c .index-arg3 .given)) (not-negative (c .before .before .before .before .before .before .before .before .before .before .before .before .before .before .pre .good .long))
+index-requires-3 c κs =
+    let entry : tie.Start = search in
+    rw (back _ (c .index-arg3 .given)) (not-negative (entry .pre .good .long))
 
 mul-tip : tie.Need-mul-tip
 mul-tip c = search needs
@@ -55,7 +61,9 @@ mul-tip-4 : tie.Need-mul-tip-4
 mul-tip-4 c = search needs
 
 slice-write-tip-2 : tie.Need-slice-write-tip-2
-slice-write-tip-2 c = simp length-set (omega (arith, c .before .before .before .before .before .before .before .before .before .before .before .before .before .before .before .pre .tips, c .before .before .before .before .before .before .before .before .before .before .before .before .before .before .before .pre .number-ok))
+slice-write-tip-2 c =
+    let entry : tie.Start = search in
+    simp length-set (omega (arith, entry .pre .tips, entry .pre .number-ok))
 
 mul-long : tie.Need-mul-long
 mul-long c = search needs
@@ -64,11 +72,18 @@ slice-write-long : tie.Need-slice-write-long
 slice-write-long c = search needs
 
 join-requires : tie.Need-join-requires
-join-requires c κs = let p = c .before .before .before .before .before .before .before .before .before .before .before .before .before .before .before .before .before .before .before .pre in
-    (p .places, entry-fits p (c .before .before .before .before .before .before .before .before .index .result) (c .before .before .before .before .before .before .index2 .result) (c .before .before .before .before .index3 .result) (c .before .before .before .before .before .before .before .before .index .ensures ∙ search needs) (c .before .before .before .before .before .before .index2 .ensures ∙ search needs) (c .before .before .before .before .index3 .ensures ∙ search needs))
+join-requires c κs =
+    let after-index3 : tie.After-index3 = search in
+    let after-index2 : tie.After-index2 = search in
+    let after-index : tie.After-index = search in
+    let entry : tie.Start = search in
+    let p = entry .pre in
+    (p .places, entry-fits p (after-index .index .result) (after-index2 .index2 .result) (after-index3 .index3 .result) (after-index .index .ensures ∙ search needs) (after-index2 .index2 .ensures ∙ search needs) (after-index3 .index3 .ensures ∙ search needs))
 
 add-result : tie.Need-add-result
-add-result c = omega (arith, c .before .before .before .before .before .before .before .before .before .before .before .before .before .before .before .before .before .before .before .before .before .before .before .before .before .before .before .before .pre .places .nexts, c .before .before .before .before .before .before .before .before .before .before .before .before .before .before .before .before .before .before .before .before .before .before .before .before .before .before .before .before .good)
+add-result c =
+    let entry : tie.Start = search in
+    omega (arith, entry .pre .places .nexts, entry .good)
 
 same-length : tie.Need-same-length
 same-length c = search needs
@@ -89,7 +104,14 @@ same-length-6 : tie.Need-same-length-6
 same-length-6 c = search needs
 
 returns-2 : tie.Need-returns-2
-returns-2 c = drew-is (c .before .before .before .before .before .before .before .before .before .before .before .before .before .before .before .before .before .index .result) (c .before .before .before .before .before .before .before .before .before .before .before .before .before .before .before .index2 .result) (c .before .before .before .before .before .before .before .before .before .before .before .before .before .index3 .result) (c .before .before .before .before .before .before .before .before .before .before .before .before .before .before .before .before .before .index .ensures ∙ search needs) (c .before .before .before .before .before .before .before .before .before .before .before .before .before .before .before .index2 .ensures ∙ search needs) (c .before .before .before .before .before .before .before .before .before .before .before .before .before .index3 .ensures ∙ search needs) (sym (c .before .before .before .before .before .before .before .before .before .before .before .before .before .before .before .before .before .before .before .before .same .ensures ∙ search needs) ∙ c .before .before .before .before .before .before .before .before .before .before .before .before .before .before .before .before .before .before .before .if1 .left) (c .before .before .before .before .before .before .before .before .join .ensures)
+returns-2 c =
+    let after-join : tie.After-join = search in
+    let after-index3 : tie.After-index3 = search in
+    let after-index2 : tie.After-index2 = search in
+    let after-index : tie.After-index = search in
+    let else1 : tie.Else1 = search in
+    let after-same : tie.After-same = search in
+    drew-is (after-index .index .result) (after-index2 .index2 .result) (after-index3 .index3 .result) (after-index .index .ensures ∙ search needs) (after-index2 .index2 .ensures ∙ search needs) (after-index3 .index3 .ensures ∙ search needs) (sym (after-same .same .ensures ∙ search needs) ∙ else1 .if1 .left) (after-join .join .ensures)
 
 pub draw-line-spec : {M : Type 1} → statement M
 draw-line-spec =

@@ -27,7 +27,9 @@ mul-line : tie.Need-mul-line Inv-loop μ-loop
 mul-line c = omega (arith, c .before .before .before .pre .keys (c .before .before .loop .k) (c .before .loop-test .taken))
 
 shared-slice-read-line : tie.Need-shared-slice-read-line Inv-loop μ-loop
-shared-slice-read-line c = omega (arith, c .before .before .before .before .pre .keys (c .before .before .before .loop .k) (c .before .before .loop-test .taken))
+shared-slice-read-line c =
+    let entry : tie.Start Inv-loop μ-loop = search in
+    omega (arith, entry .pre .keys (c .before .before .before .loop .k) (c .before .before .loop-test .taken))
 
 mul-marks : tie.Need-mul-marks Inv-loop μ-loop
 mul-marks c = omega arith
@@ -49,7 +51,7 @@ loop-less c = omega arith
 
 loop-again : tie.Need-loop-again Inv-loop μ-loop
 loop-again c =
-    let s = c .before .before .before .before in
+    let s : tie.Start Inv-loop μ-loop = search in
     let l = c .before .before .before .loop in
     let t = c .before .before .loop-test .taken in
     listing-next _ _ _ _ _ _ (l .k) (l .inv) _ _ (omega (arith, s .pre .marked)) (omega (arith, s .pre .cames)) refl refl

@@ -35,7 +35,7 @@ slice-aggregate-plant-in-9 c = search needs
 
 plant-in-requires : tie.Need-plant-in-requires
 plant-in-requires c κs =
-    let s = c .before .before .before .before .before .before .before .before .before .before .before .before .before in
+    let s : tie.Start = search in
     let l = s .args .lines .now in
     let b = s .args .b in
     let n = s .args .n in (

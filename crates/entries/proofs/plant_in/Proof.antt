@@ -13,13 +13,14 @@ add-plant-book c = search needs
 
 plant-book-requires : tie.Need-plant-book-requires
 plant-book-requires c κs =
-    let s = c .before .before .before .before .before .before .before .before .before .before .before .before .before .before .before .before .before .before .before .before in
+    let s : tie.Start = search in
     (good-of (s .args .lines .now) (s .args .b) (s .args .n) (s .pre .0) (s .pre .1 .0), (s .pre .1 .1 .0, s .pre .1 .1 .1 .0))
 
 list-entries-requires : tie.Need-list-entries-requires
 list-entries-requires c κs =
-    let s = c .before .before .before .before .before .before .before .before .before .before .before .before .before .before .before .before .before .before .before .before .before .before .before .before .before .before .before .before .before .before .before .before .before .before .before .before .before .before .before .before .before .before .before in
-    let p = c .before .before .before .before .before .before .before .before .before .before .before .before .before .before .before .before .before .before .before .before .before .before .plant-book in
+    let after-plant-book : tie.After-plant-book = search in
+    let s : tie.Start = search in
+    let p = after-plant-book .plant-book in
     readable-of (s .args .b) _ _ _ _ _ _ _ (s .pre .1 .1 .1 .0) (p .kept .1 .1 .1 .1 .1 .1 .1 .0) (p .kept .1 .1 .1 .1 .1 .1 .1 .1 .1 .0) (s .pre .1 .1 .1 .1 .0) (s .pre .1 .1 .1 .1 .1) (p .ensures .below)
 
 same-length : tie.Need-same-length
@@ -57,9 +58,13 @@ same-length-11 c = search needs
 
 returns : tie.Need-returns
 returns c =
-    let s = c .before .before .before .before .before .before .before .before .before .before .before .before .before .before .before .before .before .before .before .before .before .before .before .before .before .before .before .before .before .before .before .before .before .before .before .before .before .before .before .before .before .before .before .before .before .before .before .before in
-    let p = c .before .before .before .before .before .before .before .before .before .before .before .before .before .before .before .before .before .before .before .before .before .before .before .before .before .before .before .plant-book in
-    let l = c .before .before .before .before .list-entries in
+    let after-list-entries : tie.After-list-entries = search in
+    let after-plant-book : tie.After-plant-book = search in
+    let after-slice-known11 : tie.After-slice-known11 = search in
+    let after-slice-known6 : tie.After-slice-known6 = search in
+    let s : tie.Start = search in
+    let p = after-plant-book .plant-book in
+    let l = after-list-entries .list-entries in
     let w = s .pre .1 .1 .1 .1 in (
       book-entered (s .args .lines .now) (s .args .b) (s .args .n) _ _ _ _ _ _ (s .pre .0) (p .ensures) (l .ensures),
       book-growth (s .args .lines .now) (s .args .b) (s .args .n) _ _ _ _ _ _ (s .pre .0) (p .ensures) (l .ensures) (omega (arith, w .0, l .kept .1 .1 .0)) (omega (arith, w .1, l .kept .1 .1 .1 .0)),

@@ -16,7 +16,7 @@ use Rattle.file.proofs.wire.be4.Reads as be4-reads
 use Rattle.file.proofs.wire.plain.Reads as plain-reads
 
 -- what the counts that the file states make
-made : (c : tie.After-new) → (let f = c .before .before .before .before .before .before .before .before .before .before .before .before .before .args .file .now in
+made : (c : tie.After-new) → (let entry : tie.Start = search in let f = entry .args .file .now in
     c .new .result ≡ bookOf (pos (statedB f)) (pos (statedT f)) (statedH f) (statedN f))
 made c =
     let n = c .before in

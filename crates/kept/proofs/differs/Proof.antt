@@ -38,7 +38,7 @@ shared-slice-copy-out-same-2 : tie.Need-shared-slice-copy-out-same-2 Inv-loop μ
 shared-slice-copy-out-same-2 c = omega arith
 
 -- the flag that the code has is the definition's test
-flag : (c : tie.After-same Inv-loop μ-loop) → (let l = c .before .before .before .before in let g = l .before .before .args in
+flag : (c : tie.After-same Inv-loop μ-loop) → (let l : tie.At-loop Inv-loop μ-loop = search in let g = l .before .before .args in
     c .same .result ≡ eqZ (getD (g .report .now) (l .loop .place) (pos 0)) (getD (g .rows .now) (l .loop .place) (pos 0)))
 flag c = c .same .ensures ∙ search needs
 
@@ -53,13 +53,13 @@ loop-less c = omega arith
 
 loop-again : tie.Need-loop-again Inv-loop μ-loop
 loop-again c =
-    let in-loop = c .before .before .before .before in
+    let in-loop : tie.In-loop Inv-loop μ-loop = search in
     let l = in-loop .before in
     compare-next _ _ (l .before .if1 .left) (l .loop .place) (in-loop .loop-test .taken) (l .loop .inv) (sym (flag (c .before)) ∙ c .if2 .taken)
 
 returns-2 : tie.Need-returns-2 Inv-loop μ-loop
 returns-2 c =
-    let in-loop = c .before .before .before .before in
+    let in-loop : tie.In-loop Inv-loop μ-loop = search in
     let l = in-loop .before in
     compare-stop _ _ (l .before .if1 .left) (l .loop .place) (in-loop .loop-test .taken) (l .loop .inv) (sym (flag (c .before)) ∙ c .if2 .left)
 

@@ -29,10 +29,10 @@ enum-told c = search needs
 returns : tie.Need-returns
 unfolding signedRate withdrawnOf rateOf
 returns c =
-    let s = c .before .before .before .before .before .before .before in
-    let c₁ = c .before .before .before .before .before .before in
-    let c₂ = c .before .before .before .before .before in
-    let c₃ = c .before .before .before .before in
+    let c₃ : tie.After-signed-count3 = search in
+    let c₂ : tie.After-signed-count2 = search in
+    let c₁ : tie.After-signed-count = search in
+    let s : tie.Start = search in
     let back : toZ w64 (ofZ w64 (s .args .a .correction)) ≡ s .args .a .correction = search needs in
     rw (
       stored _ (c₁ .signed-count .ok) (c₁ .signed-count .ensures),
@@ -45,9 +45,9 @@ returns c =
 returns-2 : tie.Need-returns-2
 unfolding signedRate withdrawnOf rateOf ofBits
 returns-2 c =
-    let s = c .before .before .before .before .before .before in
-    let c₁ = c .before .before .before .before .before in
-    let c₂ = c .before .before .before .before in
+    let c₂ : tie.After-signed-count2 = search in
+    let c₁ : tie.After-signed-count = search in
+    let s : tie.Start = search in
     let c₃ = c .before .before .before in
     let back : toZ w64 (ofZ w64 (s .args .a .correction)) ≡ s .args .a .correction = search needs in
     rw (

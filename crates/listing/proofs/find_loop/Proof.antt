@@ -8,20 +8,27 @@ use Rattle.listing.proofs.find_loop.Tie as tie
 
 pass-over-requires : tie.Need-pass-over-requires
 pass-over-requires c κs =
-    let p = c .before .before .before .before .before .before .before .before .before .before .before .before .before .before .before .before .before .pre in
+    let entry : tie.Start = search in
+    let p = entry .pre in
     let a = p .1 .1 .1 in
     (p .0, (p .1 .0, (p .1 .1 .0, record { going = a .going; left = omega (arith, a .left); closes = omega (arith, a .closes) })))
 
 mul-take-loop : tie.Need-mul-take-loop
-mul-take-loop c = omega (arith, c .before .before .before .before .before .before .before .before .before .before .before .before .before .before .before .before .before .before .before .before .before .before .before .before .before .before .before .before .before .before .before .before .before .before .before .before .before .before .before .pre .1 .1 .1 .closes, c .before .before .before .before .before .before .before .before .before .before .before .before .before .before .before .before .before .before .before .before .before .before .before .before .before .before .before .before .before .before .before .before .before .before .before .before .before .before .before .good)
+mul-take-loop c =
+    let entry : tie.Start = search in
+    omega (arith, entry .pre .1 .1 .1 .closes, entry .good)
 
 shared-slice-read-take-loop : tie.Need-shared-slice-read-take-loop
-shared-slice-read-take-loop c = omega (arith, c .before .before .before .before .before .before .before .before .before .before .before .before .before .before .before .before .before .before .before .before .before .before .before .before .before .before .before .before .before .before .before .before .before .before .before .before .before .before .before .before .pre .1 .1 .1 .closes)
+shared-slice-read-take-loop c =
+    let entry : tie.Start = search in
+    omega (arith, entry .pre .1 .1 .1 .closes)
 
 take-loop-requires : tie.Need-take-loop-requires
 take-loop-requires c κs =
-    let p = c .before .before .before .before .before .before .before .before .before .before .before .before .before .before .before .before .before .before .before .before .before .before .before .before .before .before .before .before .before .before .before .before .before .before .before .before .before .before .before .before .pre in
-    let o = c .before .before .before .before .before .before .before .before .before .before .before .before .before .before .before .before .before .before .before .before .before .before .pass-over in
+    let after-pass-over : tie.After-pass-over = search in
+    let entry : tie.Start = search in
+    let p = entry .pre in
+    let o = after-pass-over .pass-over in
     let k = o .kept in
     takes-of (p .0) (due (o .ensures) (omega (arith, p .1 .1 .1 .left)) refl)
     (record { nexts = omega (arith, k, p .1 .0 .nexts); ends = omega (arith, k, p .1 .0 .ends); adds = omega (arith, k, p .1 .0 .adds) })
@@ -50,9 +57,14 @@ same-length-7 c = search needs
 
 returns : tie.Need-returns
 returns c =
-    let p = c .before .before .before .before .before .before .before .before .before .before .before .before .before .before .before .before .before .before .before .before .before .before .before .before .before .before .before .before .before .before .before .before .before .before .before .before .before .before .before .before .before .before .before .before .before .before .before .before .before .before .before .before .before .before .before .pre in
-    let o = c .before .before .before .before .before .before .before .before .before .before .before .before .before .before .before .before .before .before .before .before .before .before .before .before .before .before .before .before .before .before .before .before .before .before .before .before .before .pass-over in
-    loop-found (p .0) (due (o .ensures) (omega (arith, p .1 .1 .1 .left)) refl) (omega (arith, o .kept, p .1 .1 .0 .outs)) (c .before .before .before .before .before .before .before .before .before .before .before .before .before .before .take-loop .ensures)
+    let after-take-loop : tie.After-take-loop = search in
+    let after-path : tie.After-path = search in
+    let after-pass-over : tie.After-pass-over = search in
+    let after-slice-known6 : tie.After-slice-known6 = search in
+    let entry : tie.Start = search in
+    let p = entry .pre in
+    let o = after-pass-over .pass-over in
+    loop-found (p .0) (due (o .ensures) (omega (arith, p .1 .1 .1 .left)) refl) (omega (arith, o .kept, p .1 .1 .0 .outs)) (after-take-loop .take-loop .ensures)
 
 pub find-loop-spec : {M : Type 1} → statement M
 find-loop-spec =

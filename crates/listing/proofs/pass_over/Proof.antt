@@ -16,37 +16,51 @@ abbrev μ-loop : tie.MeasureT-loop
 μ-loop lines tip long close head₀ next₀ far₀ add₀ best₀ seg₀ path₀ n nodes i cnt₀ k₀ head next far add best seg path cnt k = i - k
 
 loop-holds : tie.Need-loop-holds Inv-loop μ-loop
-loop-holds c = (omega arith, (refl, refl, refl, refl), (refl, refl, refl), c .before .before .before .before .before .before .before .before .before .before .pre .1 .1 .1 .going)
+loop-holds c =
+    let entry : tie.Start Inv-loop μ-loop = search in
+    (omega arith, (refl, refl, refl, refl), (refl, refl, refl), entry .pre .1 .1 .1 .going)
 
 mul-take-loop : tie.Need-mul-take-loop Inv-loop μ-loop
-mul-take-loop c = omega (arith, c .before .before .before .before .before .before .before .before .before .before .before .before .before .before .before .before .before .before .before .pre .1 .1 .1 .closes, c .before .before .before .before .before .before .before .before .before .before .before .before .before .before .before .before .before .before .before .good)
+mul-take-loop c =
+    let entry : tie.Start Inv-loop μ-loop = search in
+    omega (arith, entry .pre .1 .1 .1 .closes, entry .good)
 
 shared-slice-read-take-loop : tie.Need-shared-slice-read-take-loop Inv-loop μ-loop
-shared-slice-read-take-loop c = omega (arith, c .before .before .before .before .before .before .before .before .before .before .before .before .before .before .before .before .before .before .before .before .pre .1 .1 .1 .closes)
+shared-slice-read-take-loop c =
+    let entry : tie.Start Inv-loop μ-loop = search in
+    omega (arith, entry .pre .1 .1 .1 .closes)
 
 take-loop-requires : tie.Need-take-loop-requires Inv-loop μ-loop
 take-loop-requires c κs =
-    let p = c .before .before .before .before .before .before .before .before .before .before .before .before .before .before .before .before .before .before .before .before .pre in
-    let v = c .before .before .before .before .before .before .before .before .before .loop .inv in
-    takes-of (p .0) (due (v .3) (omega (arith, p .1 .1 .1 .left)) refl)
+    let at-loop : tie.At-loop Inv-loop μ-loop = search in
+    let entry : tie.Start Inv-loop μ-loop = search in
+    let p = entry .pre in
+    let v = at-loop .loop .inv in
+    takes-of (p .0) (due (v .3) (omega (arith, c, p .1 .1 .1 .left)) refl)
     (record { nexts = omega (arith, v .1, p .1 .0 .nexts); ends = omega (arith, v .1, p .1 .0 .ends); adds = omega (arith, v .1, p .1 .0 .adds) })
     (record { room = record { few = p .1 .1 .0 .room .few; bests = omega (arith, v .2, p .1 .1 .0 .room .bests); segs = omega (arith, v .2, p .1 .1 .0 .room .segs) }; outs = omega (arith, v .2, p .1 .1 .0 .outs) })
 
 add-k : tie.Need-add-k Inv-loop μ-loop
-add-k c = omega (arith, c .before .before .before .before .before .before .before .before .before .before .before .before .before .before .before .before .before .before .before .before .before .before .before .before .loop .inv, c .before .before .before .before .before .before .before .before .before .before .before .before .before .before .before .before .before .before .before .before .before .before .before .before .before .before .before .before .before .before .before .before .before .before .before .fits .i)
+add-k c =
+    let at-loop : tie.At-loop Inv-loop μ-loop = search in
+    let entry : tie.Start Inv-loop μ-loop = search in
+    omega (arith, at-loop .loop .inv, entry .fits .i)
 
 loop-less : tie.Need-loop-less Inv-loop μ-loop
 loop-less c = omega arith
 
 loop-again : tie.Need-loop-again Inv-loop μ-loop
 loop-again c =
-    let p = c .before .before .before .before .before .before .before .before .before .before .before .before .before .before .before .before .before .before .before .before .before .before .before .before .before .before .before .before .before .before .before .before .before .before .before .pre in
-    let v = c .before .before .before .before .before .before .before .before .before .before .before .before .before .before .before .before .before .before .before .before .before .before .before .before .loop .inv in
-    let k = c .before .before .before .before .before .before .before .before .before .before .before .before .before .before .take-loop .kept in (
-      omega arith,
+    let after-take-loop : tie.After-take-loop Inv-loop μ-loop = search in
+    let at-loop : tie.At-loop Inv-loop μ-loop = search in
+    let entry : tie.Start Inv-loop μ-loop = search in
+    let p = entry .pre in
+    let v = at-loop .loop .inv in
+    let k = after-take-loop .take-loop .kept in (
+      omega (arith, c),
       (omega (arith, v .1, k), omega (arith, v .1, k), omega (arith, v .1, k), omega (arith, v .1, k)),
       (omega (arith, v .2, k), omega (arith, v .2, k), omega (arith, v .2, k)),
-      turn-done (p .0) (due (v .3) (omega (arith, p .1 .1 .1 .left)) refl) (omega (arith, v .2, p .1 .1 .0 .outs)) (c .before .before .before .before .before .before .before .before .before .before .before .before .before .before .take-loop .ensures) .going,
+      turn-done (p .0) (due (v .3) (omega (arith, c, p .1 .1 .1 .left)) refl) (omega (arith, v .2, p .1 .1 .0 .outs)) (after-take-loop .take-loop .ensures) .going,
     )
 
 same-length : tie.Need-same-length Inv-loop μ-loop
@@ -72,7 +86,8 @@ same-length-7 c = omega arith
 
 returns : tie.Need-returns Inv-loop μ-loop
 returns c =
-    let e : c .before .loop .k ≡ c .before .before .before .before .before .before .before .before .before .before .before .before .args .i = omega (arith, c .before .loop .inv .0) in
+    let entry : tie.Start Inv-loop μ-loop = search in
+    let e : c .before .loop .k ≡ entry .args .i = omega (arith, c .before .loop .inv .0) in
     rw (← e) (c .before .loop .inv .3)
 
 pub pass-over-spec : {M : Type 1} → statement M

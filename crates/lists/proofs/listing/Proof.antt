@@ -26,20 +26,28 @@ tested c = c .test .ensures ∙ search needs
 
 listing-good-requires : tie.Need-listing-good-requires
 listing-good-requires c κs =
+    let after-test : tie.After-test = search in
+    let entry : tie.Start = search in
     let g = c .before .before in
-    let a = c .before .before .before .before .before .args in
-    good-lines _ _ _ _ _ (tested-good (a .b) (a .t) (a .held .now) (a .lines .now) (g .book .given .0 .0) (sym (tested (c .before .before .before .before)) ∙ g .book .given .1))
+    let a = entry .args in
+    good-lines _ _ _ _ _ (tested-good (a .b) (a .t) (a .held .now) (a .lines .now) (g .book .given .0 .0) (sym (tested after-test) ∙ g .book .given .1))
 
 returns : tie.Need-returns
 unfolding listingOf listingTested
-returns c = rw (← (tested (c .before .before .before .before)), c .before .before .r .given .1, c .unlisted .ensures)
+returns c =
+    let after-test : tie.After-test = search in
+    rw (← (tested after-test), c .before .before .r .given .1, c .unlisted .ensures)
 
 same-length : tie.Need-same-length
 same-length c = search needs
 
 returns-2 : tie.Need-returns-2
 unfolding listingOf listingTested
-returns-2 c = rw (← (tested (c .before .before .before .before .before .before)), c .before .before .before .before .book .given .1) (simp (toZ-ofZ (c .before .before .before .before .before .before .before .fits .number)) at (c .before .listing-good .ensures))
+returns-2 c =
+    let after-book : tie.After-book = search in
+    let after-test : tie.After-test = search in
+    let entry : tie.Start = search in
+    rw (← (tested after-test), after-book .book .given .1) (simp (toZ-ofZ (entry .fits .number)) at (c .before .listing-good .ensures))
 
 pub listing-spec : {M : Type 1} → statement M
 listing-spec =

@@ -22,28 +22,34 @@ same-length c = search needs
 
 returns : tie.Need-returns
 returns c =
-    let w = c .before .before .before .before .before .before .before .before .read in
-    rw (refused-page _ _ _ (search needs) (search needs) _ (w .ensures) (c .before .before .before .before .if1 .taken)) at (c .before .before .refused-text .ensures)
+    let then1 : tie.Then1 = search in
+    let after-read : tie.After-read = search in
+    let w = after-read .read in
+    rw (refused-page _ _ _ (search needs) (search needs) _ (w .ensures) (then1 .if1 .taken)) at (c .before .before .refused-text .ensures)
 
 mul-words : tie.Need-mul-words
 mul-words c =
-    let w = c .before .before .before .before .before .read in
+    let after-read : tie.After-read = search in
+    let w = after-read .read in
     omega (arith, few-read _ _ _ (search needs) (search needs) _ (w .ensures) (c .before .if1 .left))
 
 array-share-prefix-lines : tie.Need-array-share-prefix-lines
 array-share-prefix-lines c =
-    let w = c .before .before .before .before .before .read in
+    let after-read : tie.After-read = search in
+    let w = after-read .read in
     omega (arith, few-read _ _ _ (search needs) (search needs) _ (w .ensures) (c .before .if1 .left), w .kept .1 .1 .0)
 
 slice-aggregate-put-book : tie.Need-slice-aggregate-put-book
 slice-aggregate-put-book c =
-    let w = c .before .before .before .before .before .before .read in
+    let after-read : tie.After-read = search in
+    let w = after-read .read in
     let f = few-read _ _ _ (search needs) (search needs) _ (w .ensures) (c .before .before .if1 .left) in
     simp length-take (omega (arith, f, w .kept .1 .1 .0))
 
 put-book-requires : tie.Need-put-book-requires
 put-book-requires c κs =
-    let w = c .before .before .before .before .before .before .before .read in
+    let after-read : tie.After-read = search in
+    let w = after-read .read in
     good-read _ _ _ (search needs) (search needs) _ (w .ensures) (c .before .before .before .if1 .left)
 
 same-length-2 : tie.Need-same-length-2
@@ -51,8 +57,10 @@ same-length-2 c = search needs
 
 returns-2 : tie.Need-returns-2
 returns-2 c =
-    let w = c .before .before .before .before .before .before .before .before .before .before .read in
-    rw (book-page _ _ _ (search needs) (search needs) _ (w .ensures) (c .before .before .before .before .before .before .if1 .left)) at (c .before .before .put-book .ensures)
+    let else1 : tie.Else1 = search in
+    let after-read : tie.After-read = search in
+    let w = after-read .read in
+    rw (book-page _ _ _ (search needs) (search needs) _ (w .ensures) (else1 .if1 .left)) at (c .before .before .put-book .ensures)
 
 pub write-page-spec : {M : Type 1} → statement M
 write-page-spec =

@@ -4,11 +4,16 @@ use Rattle.prepare.proofs.plant_book.Statement.{statement}
 use Rattle.prepare.proofs.plant_book.Tie as tie
 
 draw-book-requires : tie.Need-draw-book-requires
-draw-book-requires c κs = sheet-of (c .before .before .before .before .before .before .before .before .before .before .before .before .before .before .before .pre .0) (c .before .before .before .before .before .before .before .before .before .before .before .before .before .before .before .pre .1 .0)
+draw-book-requires c κs =
+    let entry : tie.Start = search in
+    sheet-of (entry .pre .0) (entry .pre .1 .0)
 
 plant-requires : tie.Need-plant-requires
-plant-requires c κs = let p = c .before .before .before .before .before .before .before .before .before .before .before .before .before .before .before .before .before .before .before .before .before .before .before .before .before .before .before .before .before .before .before .before .before .before .before .before .pre in
-    let d = c .before .before .before .before .before .before .before .before .before .before .before .before .before .before .before .before .before .before .before .before .draw-book .ensures in
+plant-requires c κs =
+    let after-draw-book : tie.After-draw-book = search in
+    let entry : tie.Start = search in
+    let p = entry .pre in
+    let d = after-draw-book .draw-book .ensures in
     (d .nodes, (d .heads, (d .tips, record { room = record { few = p .0 .few-marks; bests = p .1 .1 .bests; segs = p .1 .1 .segs }; some-mark = p .0 .some-mark; orders = p .1 .1 .orders })))
 
 same-length : tie.Need-same-length
@@ -39,8 +44,12 @@ same-length-9 : tie.Need-same-length-9
 same-length-9 c = search needs
 
 returns : tie.Need-returns
-returns c = let d = c .before .before .before .before .before .before .before .before .before .before .before .before .before .before .before .before .before .before .before .before .before .before .before .before .before .before .before .draw-book .ensures in
-    let t = c .before .before .before .before .before .before .plant .ensures in
+returns c =
+    let after-plant : tie.After-plant = search in
+    let after-add : tie.After-add = search in
+    let after-draw-book : tie.After-draw-book = search in
+    let d = after-draw-book .draw-book .ensures in
+    let t = after-plant .plant .ensures in
     record { tips = d .tips; longs = d .longs; listed = d .listed; holding = t .0 _ (d .given); below = t .1 }
 
 pub plant-book-spec : {M : Type 1} → statement M

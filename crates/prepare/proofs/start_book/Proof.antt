@@ -6,15 +6,22 @@ use Rattle.prepare.proofs.start_book.Statement.{statement}
 use Rattle.prepare.proofs.start_book.Tie as tie
 
 plant-book-requires : tie.Need-plant-book-requires
-plant-book-requires c κs = let p = c .before .before .before .before .before .before .before .before .before .before .before .before .before .before .before .before .before .before .before .before .before .pre in (p .0, (p .1 .0, p .1 .1 .0))
+plant-book-requires c κs =
+    let entry : tie.Start = search in
+    let p = entry .pre in (p .0, (p .1 .0, p .1 .1 .0))
 
 add-q : tie.Need-add-q
-add-q c = omega (arith, c .before .before .before .before .before .before .before .before .before .before .before .before .before .before .before .before .before .before .before .before .before .before .before .before .before .before .before .before .before .before .before .before .before .before .before .before .before .before .before .before .pre .0 .few-lines)
+add-q c =
+    let entry : tie.Start = search in
+    omega (arith, entry .pre .0 .few-lines)
 
 order-loops-requires : tie.Need-order-loops-requires
 order-loops-requires c κs =
-    let p = c .before .before .before .before .before .before .before .before .before .before .before .before .before .before .before .before .before .before .before .before .before .before .before .before .before .before .before .before .before .before .before .before .before .before .before .before .before .before .before .before .before .before .before .before .before .before .before .before .before .before .before .pre in
-    let planted = c .before .before .before .before .before .before .before .before .before .before .before .before .before .before .before .before .before .before .before .before .before .before .before .before .before .before .before .before .before .plant-book in
+    let after-plant-book : tie.After-plant-book = search in
+    let after-slice-known11 : tie.After-slice-known11 = search in
+    let entry : tie.Start = search in
+    let p = entry .pre in
+    let planted = after-plant-book .plant-book in
     let k = planted .kept in
     orders-of (p .0) (planted .ensures) (omega (arith, p .1 .0 .heads, k .1 .1 .1 .0)) (omega (arith, p .1 .1 .0 .bests, k .1 .1 .1 .1 .1 .1 .1 .0)) (omega (arith, p .1 .1 .0 .orders, k .1 .1 .1 .1 .1 .1 .1 .1 .1 .0))
     (record {
@@ -27,13 +34,24 @@ order-loops-requires c κs =
     })
 
 same-length : tie.Need-same-length
-same-length c = c .before .before .before .before .before .before .before .before .before .before .before .before .before .before .before .before .before .before .before .before .before .before .before .before .before .before .before .before .before .before .before .before .before .before .before .before .before .before .before .before .before .before .before .before .plant-book .kept .1 .0
+same-length c =
+    let after-order : tie.After-order = search in
+    let after-plant-book : tie.After-plant-book = search in
+    after-plant-book .plant-book .kept .1 .0
 
 same-length-2 : tie.Need-same-length-2
-same-length-2 c = c .before .before .before .before .before .before .before .before .before .before .before .before .before .before .before .before .before .before .before .before .before .before .before .before .before .before .before .before .before .before .before .before .before .before .before .before .before .before .before .before .before .before .before .before .plant-book .kept .1 .1 .0
+same-length-2 c =
+    let after-order : tie.After-order = search in
+    let after-plant-book : tie.After-plant-book = search in
+    after-plant-book .plant-book .kept .1 .1 .0
 
 same-length-3 : tie.Need-same-length-3
-same-length-3 c = c .before .before .before .before .before .before .before .before .before .before .before .before .before .before .order-loops .kept .1 .1 .0 ∙ c .before .before .before .before .before .before .before .before .before .before .before .before .before .before .before .before .before .before .before .before .before .before .before .before .before .before .before .before .before .before .before .before .before .before .before .before .before .before .before .before .before .before .before .before .plant-book .kept .1 .1 .1 .0
+same-length-3 c =
+    let after-order-loops : tie.After-order-loops = search in
+    let after-seg : tie.After-seg = search in
+    let after-far : tie.After-far = search in
+    let after-plant-book : tie.After-plant-book = search in
+    after-order-loops .order-loops .kept .1 .1 .0 ∙ after-plant-book .plant-book .kept .1 .1 .1 .0
 
 same-length-4 : tie.Need-same-length-4
 same-length-4 c = search needs
@@ -64,8 +82,12 @@ same-length-12 c = search needs
 
 returns : tie.Need-returns
 returns c =
-    let w = c .before .before .before .before .before .before .before .before .before .before .before .before .before .before .before .before .before .before .before .before .before .before .before .before .before .before .before .before .before .before .before .before .before .before .before .before .before .before .before .before .before .before .before .before .plant-book .ensures in
-    record { planted = w; started = c .before .before .before .before .before .before .before .before .before .before .before .before .before .before .order-loops .ensures _ (w .listed) (w .holding) }
+    let after-order-loops : tie.After-order-loops = search in
+    let after-seg : tie.After-seg = search in
+    let after-far : tie.After-far = search in
+    let after-plant-book : tie.After-plant-book = search in
+    let w = after-plant-book .plant-book .ensures in
+    record { planted = w; started = after-order-loops .order-loops .ensures _ (w .listed) (w .holding) }
 
 pub start-book-spec : {M : Type 1} → statement M
 start-book-spec =

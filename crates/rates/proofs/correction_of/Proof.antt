@@ -24,13 +24,15 @@ adjusted-of c =
 
 adjusted-read : (c : tie.After-sub) → toZ w64 (ofZ w64 (c .sub .result)) ≡ adjusted-of c
 adjusted-read c =
-    let s = c .before .before .before .before .before in
-    stored (c .sub .result) (c .sub .ok) (c .sub .ensures ∙ rw (height-read s (c .before .before .before .before .to-mark .result - 1), height-read s (c .before .before .before .from-mark .result - 1)))
+    let after-to-mark : tie.After-to-mark = search in
+    let s : tie.Start = search in
+    stored (c .sub .result) (c .sub .ok) (c .sub .ensures ∙ rw (height-read s (after-to-mark .to-mark .result - 1), height-read s (c .before .before .before .from-mark .result - 1)))
 
 adjusted-size : (c : tie.After-sub) → natAbs (adjusted-of c) ≤ 100000000000
 adjusted-size c =
-    let s = c .before .before .before .before .before in
-    let t = c .before .before .before .before .to-mark .result - 1 in
+    let after-to-mark : tie.After-to-mark = search in
+    let s : tie.Start = search in
+    let t = after-to-mark .to-mark .result - 1 in
     let f = c .before .before .before .from-mark .result - 1 in
     omega (arith, size-sub (getD (s .args .heights .now) t (pos 0)) (getD (s .args .heights .now) f (pos 0)), s .pre .1 .inside t, s .pre .1 .inside f)
 
@@ -59,7 +61,9 @@ shared-slice-copy-out-sub-2 : tie.Need-shared-slice-copy-out-sub-2
 shared-slice-copy-out-sub-2 c = search needs
 
 sub-requires : tie.Need-sub-requires
-sub-requires c κs = let s = c .before .before .before .before in let t = c .before .before .before .to-mark .result - 1 in let f = c .before .before .from-mark .result - 1 in rw (height-read s t, height-read s f) (omega (arith, s .pre .1 .inside t, s .pre .1 .inside f))
+sub-requires c κs =
+    let s : tie.Start = search in
+    let t = c .before .before .before .to-mark .result - 1 in let f = c .before .before .from-mark .result - 1 in rw (height-read s t, height-read s f) (omega (arith, s .pre .1 .inside t, s .pre .1 .inside f))
 
 difference-of-requires : tie.Need-difference-of-requires
 difference-of-requires c κs = search needs
@@ -70,11 +74,13 @@ sub-requires-2 c κs = rw (adjusted-read (c .before), back (c .difference-of .re
 returns : tie.Need-returns
 unfolding correctionAt
 returns c =
-    let s = c .before .before .before .before .before .before .before in
+    let after-from-mark : tie.After-from-mark = search in
+    let after-to-mark : tie.After-to-mark = search in
+    let s : tie.Start = search in
     let a = c .before .before in
     let d = c .before .difference-of in
     let e : toZ w64 (ofZ w64 (c .sub2 .result)) ≡ adjusted-of a -ℤ d .result = stored (c .sub2 .result) (c .sub2 .ok) (c .sub2 .ensures ∙ rw (adjusted-read a, back (d .result) (d .ok))) in (
-      e ∙ rw (c .before .before .before .before .before .before .to-mark .ensures .0, c .before .before .before .before .before .from-mark .ensures .0, d .ensures .0),
+      e ∙ rw (after-to-mark .to-mark .ensures .0, after-from-mark .from-mark .ensures .0, d .ensures .0),
       rw e (omega (arith, size-sub (adjusted-of a) (d .result), adjusted-size a, d .ensures .1)),
     )
 

@@ -21,8 +21,10 @@ Inv-loop heights n i₀ i = (i ≤ length heights) × Scanned (highAt heights) (
 abbrev μ-loop : tie.MeasureT-loop
 μ-loop heights n i₀ i = length heights - i
 
-high-read : (c : tie.After-outside-work Inv-loop μ-loop) → highAt (c .before .before .before .before .args .heights .now) (c .before .before .before .loop .i) ≡ c .outside-work .result
-high-read c = sym (c .outside-work .ensures ∙ rw (back (getD (c .before .before .before .before .args .heights .now) (c .before .before .before .loop .i) (pos 0)) (c .before .outside-work-arg .given)))
+high-read : (c : tie.After-outside-work Inv-loop μ-loop) → (let entry : tie.Start Inv-loop μ-loop = search in highAt (entry .args .heights .now) (c .before .before .before .loop .i) ≡ c .outside-work .result)
+high-read c =
+    let entry : tie.Start Inv-loop μ-loop = search in
+    sym (c .outside-work .ensures ∙ rw (back (getD (entry .args .heights .now) (c .before .before .before .loop .i) (pos 0)) (c .before .outside-work-arg .given)))
 
 loop-holds : tie.Need-loop-holds Inv-loop μ-loop
 loop-holds c = (search needs, scan-start (highAt (c .args .heights .now)) (length (c .args .heights .now)))
@@ -41,7 +43,10 @@ add-result c = search needs
 
 returns : tie.Need-returns Inv-loop μ-loop
 unfolding firstHigh
-returns c = let s = c .before .before .before .before .before in scan-stop (highAt (s .args .heights .now)) (length (s .args .heights .now)) (c .before .before .before .before .loop .i) (c .before .before .before .loop-test .taken) (high-read (c .before) ∙ c .if1 .taken) (c .before .before .before .before .loop .inv .1)
+returns c =
+    let at-loop : tie.At-loop Inv-loop μ-loop = search in
+    let s : tie.Start Inv-loop μ-loop = search in
+    scan-stop (highAt (s .args .heights .now)) (length (s .args .heights .now)) (at-loop .loop .i) (c .before .before .before .loop-test .taken) (high-read (c .before) ∙ c .if1 .taken) (at-loop .loop .inv .1)
 
 add-i : tie.Need-add-i Inv-loop μ-loop
 add-i c = search needs
@@ -50,7 +55,10 @@ loop-less : tie.Need-loop-less Inv-loop μ-loop
 loop-less c = search needs
 
 loop-again : tie.Need-loop-again Inv-loop μ-loop
-loop-again c = let s = c .before .before .before .before .before in (search needs, scan-next (highAt (s .args .heights .now)) (length (s .args .heights .now)) (c .before .before .before .before .loop .i) (c .before .before .before .loop-test .taken) (high-read (c .before) ∙ c .if1 .left) (c .before .before .before .before .loop .inv .1))
+loop-again c =
+    let at-loop : tie.At-loop Inv-loop μ-loop = search in
+    let s : tie.Start Inv-loop μ-loop = search in
+    (search needs, scan-next (highAt (s .args .heights .now)) (length (s .args .heights .now)) (at-loop .loop .i) (c .before .before .before .loop-test .taken) (high-read (c .before) ∙ c .if1 .left) (at-loop .loop .inv .1))
 
 returns-2 : tie.Need-returns-2 Inv-loop μ-loop
 unfolding firstHigh

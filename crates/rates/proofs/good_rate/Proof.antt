@@ -45,15 +45,18 @@ refuse-requires-2 c κs = search needs
 returns-2 : tie.Need-returns-2
 unfolding goodRate
 returns-2 c =
+    let after-outside : tie.After-outside = search in
     let f = c .before .before .first-high in
-    rw (out-read (c .before .before .before .before) ∙ c .before .before .before .if1 .left, ← f .ensures, lt-ltb 0 (f .result) (c .before .if2 .taken)) (c .refuse2 .ensures)
+    rw (out-read after-outside ∙ c .before .before .before .if1 .left, ← f .ensures, lt-ltb 0 (f .result) (c .before .if2 .taken)) (c .refuse2 .ensures)
 
 index-requires : tie.Need-index-requires
-index-requires c κs = let s = c .before .before .before .before .before in rw (toZ-ofZ (s .fits .line)) (not-negative (line-in (c .before .before)))
+index-requires c κs =
+    let s : tie.Start = search in
+    rw (toZ-ofZ (s .fits .line)) (not-negative (line-in (c .before .before)))
 
 line-rate-requires : tie.Need-line-rate-requires
 line-rate-requires c κs =
-    let s = c .before .before .before .before .before .before in
+    let s : tie.Start = search in
     let k = line-in (c .before .before .before) in
     let e : c .index .result ≡ natAbs (s .args .line) = c .index .ensures ∙ rw (toZ-ofZ (s .fits .line)) in
     let z : c .before .before .first-high .result ≡ 0 = omega (arith, c .before .if2 .left) in (
@@ -64,10 +67,12 @@ line-rate-requires c κs =
 returns-3 : tie.Need-returns-3
 unfolding goodRate
 returns-3 c =
-    let s = c .before .before .before .before .before .before .before in
+    let else1 : tie.Else1 = search in
+    let after-outside : tie.After-outside = search in
+    let s : tie.Start = search in
     let f = c .before .before .before .first-high in
     let e : c .before .index .result ≡ natAbs (s .args .line) = c .before .index .ensures ∙ rw (toZ-ofZ (s .fits .line)) in
-    rw (out-read (c .before .before .before .before .before) ∙ c .before .before .before .before .if1 .left, ← f .ensures, le-ltb 0 (f .result) (c .before .before .if2 .left), ← e) (c .line-rate .ensures)
+    rw (out-read after-outside ∙ else1 .if1 .left, ← f .ensures, le-ltb 0 (f .result) (c .before .before .if2 .left), ← e) (c .line-rate .ensures)
 
 pub good-rate-spec : {M : Type 1} → statement M
 good-rate-spec =

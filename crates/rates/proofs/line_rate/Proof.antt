@@ -54,14 +54,17 @@ shared-slice-copy-out-per-km : tie.Need-shared-slice-copy-out-per-km
 shared-slice-copy-out-per-km c = search needs
 
 per-km-requires : tie.Need-per-km-requires
-per-km-requires c κs = let s = c .before .before .before .before .before in let k = c .before .correction-of in (rw (back (k .result) (k .ok)) (k .ensures .1), rw (length-read s) (omega (arith, s .pre .0 .good .long .high)))
+per-km-requires c κs =
+    let s : tie.Start = search in
+    let k = c .before .correction-of in (rw (back (k .result) (k .ok)) (k .ensures .1), rw (length-read s) (omega (arith, s .pre .0 .good .long .high)))
 
 returns-2 : tie.Need-returns-2
 unfolding lineRate
 returns-2 c =
-    let s = c .before .before .before .before .before .before in
+    let after-same : tie.After-same = search in
+    let s : tie.Start = search in
     let k = c .before .before .correction-of in
-    let e = withdrawn-read (c .before .before .before .before) ∙ c .before .before .before .if1 .left in
+    let e = withdrawn-read after-same ∙ c .before .before .before .if1 .left in
     let x : toZ w64 (ofZ w64 (k .result)) ≡ correctionAt (s .args .heights .now) (s .args .lines .now) (s .args .line - 1) = back (k .result) (k .ok) ∙ k .ensures .0 in
     rw (e, c .per-km .ensures, length-read s, x)
 

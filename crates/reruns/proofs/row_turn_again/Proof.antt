@@ -9,17 +9,23 @@ use Rattle.rows.proofs.row_of.Reads as row-of-reads
 use Rattle.subgraph.proofs.take_loop.Reads as take-loop-reads
 
 take-loop-requires : tie.Need-take-loop-requires
-take-loop-requires c κs = let p = c .before .before .before .before .before .before .before .before .before .before .before .before .before .before .before .before .pre in takes-of (p .0 .0) (p .1 .1 .1 .1) (p .1 .0) (p .1 .1 .0)
+take-loop-requires c κs =
+    let entry : tie.Start = search in
+    let p = entry .pre in takes-of (p .0 .0) (p .1 .1 .1 .1) (p .1 .0) (p .1 .1 .0)
 
 row-of-requires : tie.Need-row-of-requires
 row-of-requires c κs =
-    let p = c .before .before .before .before .before .before .before .before .before .before .before .before .before .before .before .before .before .before .before .before .before .before .before .before .before .before .before .before .before .before .before .before .before .pre in
-    (row-asked (p .0 .0) (p .1 .1 .1 .1) (p .1 .1 .0 .outs) (c .before .before .before .before .before .before .before .before .before .before .before .before .before .before .before .before .take-loop .ensures), p .1 .1 .1 .0 .0)
+    let after-take-loop : tie.After-take-loop = search in
+    let entry : tie.Start = search in
+    let p = entry .pre in
+    (row-asked (p .0 .0) (p .1 .1 .1 .1) (p .1 .1 .0 .outs) (after-take-loop .take-loop .ensures), p .1 .1 .1 .0 .0)
 
 row-of-requires-2 : tie.Need-row-of-requires-2
 row-of-requires-2 c κs =
-    let p = c .before .before .before .before .before .before .before .before .before .before .before .before .before .before .before .before .before .before .before .before .before .before .before .before .before .before .before .before .before .before .before .before .before .before .before .before .before .pre in
-    (asked-again (p .0 .1) (row-asked (p .0 .0) (p .1 .1 .1 .1) (p .1 .1 .0 .outs) (c .before .before .before .before .before .before .before .before .before .before .before .before .before .before .before .before .before .before .before .before .take-loop .ensures)), p .1 .1 .1 .0 .1)
+    let after-take-loop : tie.After-take-loop = search in
+    let entry : tie.Start = search in
+    let p = entry .pre in
+    (asked-again (p .0 .1) (row-asked (p .0 .0) (p .1 .1 .1 .1) (p .1 .1 .0 .outs) (after-take-loop .take-loop .ensures)), p .1 .1 .1 .0 .1)
 
 same-length : tie.Need-same-length
 same-length c = search needs
@@ -50,8 +56,12 @@ same-length-9 c = search needs
 
 returns : tie.Need-returns
 returns c =
-    let p = c .before .before .before .before .before .before .before .before .before .before .before .before .before .before .before .before .before .before .before .before .before .before .before .before .before .before .before .before .before .before .before .before .before .before .before .before .before .before .before .pre in
-    λ d. both-done (p .0 .0) d (p .1 .1 .0 .outs) (c .before .before .before .before .before .before .before .before .before .before .before .before .before .before .before .before .before .before .before .before .before .before .take-loop .ensures) _ _ (c .before .before .before .before .before .row-of .ensures) (c .before .row-of2 .ensures)
+    let after-row-of : tie.After-row-of = search in
+    let after-take-loop : tie.After-take-loop = search in
+    let after-slice-known7 : tie.After-slice-known7 = search in
+    let entry : tie.Start = search in
+    let p = entry .pre in
+    λ d. both-done (p .0 .0) d (p .1 .1 .0 .outs) (after-take-loop .take-loop .ensures) _ _ (after-row-of .row-of .ensures) (c .before .row-of2 .ensures)
 
 pub row-turn-again-spec : {M : Type 1} → statement M
 row-turn-again-spec =

@@ -17,16 +17,24 @@ abbrev μ-loop : tie.MeasureT-loop
     count - i
 
 loop-holds : tie.Need-loop-holds Inv-loop μ-loop
-loop-holds c = (omega arith, (refl, refl, refl, refl), (refl, refl, refl, refl, refl), both-start (c .before .before .before .before .before .before .before .before .before .before .pre .1 .1 .1 .0))
+loop-holds c =
+    let entry : tie.Start Inv-loop μ-loop = search in
+    (omega arith, (refl, refl, refl, refl), (refl, refl, refl, refl, refl), both-start (entry .pre .1 .1 .1 .0))
 
 mul-at : tie.Need-mul-at Inv-loop μ-loop
-mul-at c = omega (arith, c .before .before .before .before .before .before .before .before .before .before .before .before .pre .1 .1 .1, c .before .before .before .before .before .before .before .before .before .before .before .before .good)
+mul-at c =
+    let entry : tie.Start Inv-loop μ-loop = search in
+    omega (arith, entry .pre .1 .1 .1, entry .good)
 
 add-row-turn-again : tie.Need-add-row-turn-again Inv-loop μ-loop
-add-row-turn-again c = omega (arith, c .before .before .before .before .before .before .before .before .before .before .before .before .before .before .before .before .before .before .before .pre .1 .1 .1, c .before .before .before .before .before .before .before .before .before .before .before .before .before .before .before .before .before .before .before .good)
+add-row-turn-again c =
+    let entry : tie.Start Inv-loop μ-loop = search in
+    omega (arith, entry .pre .1 .1 .1, entry .good)
 
 mul-row-turn-again : tie.Need-mul-row-turn-again Inv-loop μ-loop
-mul-row-turn-again c = omega (arith, c .before .before .before .before .before .before .before .before .before .before .before .before .before .before .before .before .before .before .before .pre .1 .1 .1, c .before .before .before .before .before .before .before .before .before .before .before .before .before .before .before .before .before .before .before .good)
+mul-row-turn-again c =
+    let entry : tie.Start Inv-loop μ-loop = search in
+    omega (arith, entry .pre .1 .1 .1, entry .good)
 
 sub-row-turn-again : tie.Need-sub-row-turn-again Inv-loop μ-loop
 sub-row-turn-again c = omega arith
@@ -35,13 +43,20 @@ part-row-turn-again-start : tie.Need-part-row-turn-again-start Inv-loop μ-loop
 part-row-turn-again-start c = omega arith
 
 part-row-turn-again-end : tie.Need-part-row-turn-again-end Inv-loop μ-loop
-part-row-turn-again-end c = omega (arith, c .before .before .before .before .before .before .before .before .before .before .before .before .before .before .before .before .before .before .before .pre .1 .1 .1 .0 .outs, c .before .before .before .before .before .before .before .before .loop .inv)
+part-row-turn-again-end c =
+    let at-loop : tie.At-loop Inv-loop μ-loop = search in
+    let entry : tie.Start Inv-loop μ-loop = search in
+    omega (arith, entry .pre .1 .1 .1 .0 .outs, at-loop .loop .inv)
 
 add-row-turn-again-2 : tie.Need-add-row-turn-again-2 Inv-loop μ-loop
-add-row-turn-again-2 c = omega (arith, c .before .before .before .before .before .before .before .before .before .before .before .before .before .before .before .before .before .before .before .before .pre .1 .1 .1, c .before .before .before .before .before .before .before .before .before .before .before .before .before .before .before .before .before .before .before .before .good)
+add-row-turn-again-2 c =
+    let entry : tie.Start Inv-loop μ-loop = search in
+    omega (arith, entry .pre .1 .1 .1, entry .good)
 
 mul-row-turn-again-2 : tie.Need-mul-row-turn-again-2 Inv-loop μ-loop
-mul-row-turn-again-2 c = omega (arith, c .before .before .before .before .before .before .before .before .before .before .before .before .before .before .before .before .before .before .before .before .pre .1 .1 .1, c .before .before .before .before .before .before .before .before .before .before .before .before .before .before .before .before .before .before .before .before .good)
+mul-row-turn-again-2 c =
+    let entry : tie.Start Inv-loop μ-loop = search in
+    omega (arith, entry .pre .1 .1 .1, entry .good)
 
 sub-row-turn-again-2 : tie.Need-sub-row-turn-again-2 Inv-loop μ-loop
 sub-row-turn-again-2 c = omega arith
@@ -50,18 +65,27 @@ part-row-turn-again-start-2 : tie.Need-part-row-turn-again-start-2 Inv-loop μ-l
 part-row-turn-again-start-2 c = omega arith
 
 part-row-turn-again-end-2 : tie.Need-part-row-turn-again-end-2 Inv-loop μ-loop
-part-row-turn-again-end-2 c = omega (arith, c .before .before .before .before .before .before .before .before .before .before .before .before .before .before .before .before .before .before .before .before .pre .1 .1 .1 .1, c .before .before .before .before .before .before .before .before .before .loop .inv)
+part-row-turn-again-end-2 c =
+    let at-loop : tie.At-loop Inv-loop μ-loop = search in
+    let entry : tie.Start Inv-loop μ-loop = search in
+    omega (arith, c, entry .pre .1 .1 .1 .1, at-loop .loop .inv)
 
 mul-row-turn-again-3 : tie.Need-mul-row-turn-again-3 Inv-loop μ-loop
-mul-row-turn-again-3 c = omega (arith, c .before .before .before .before .before .before .before .before .before .before .before .before .before .before .before .before .before .before .before .before .before .pre .1 .1 .1 .0 .closes, c .before .before .before .before .before .before .before .before .before .before .before .before .before .before .before .before .before .before .before .before .before .good)
+mul-row-turn-again-3 c =
+    let entry : tie.Start Inv-loop μ-loop = search in
+    omega (arith, entry .pre .1 .1 .1 .0 .closes, entry .good)
 
 shared-slice-read-row-turn-again : tie.Need-shared-slice-read-row-turn-again Inv-loop μ-loop
-shared-slice-read-row-turn-again c = omega (arith, c .before .before .before .before .before .before .before .before .before .before .before .before .before .before .before .before .before .before .before .before .before .before .pre .1 .1 .1 .0 .closes)
+shared-slice-read-row-turn-again c =
+    let entry : tie.Start Inv-loop μ-loop = search in
+    omega (arith, entry .pre .1 .1 .1 .0 .closes)
 
 row-turn-again-requires : tie.Need-row-turn-again-requires Inv-loop μ-loop
 row-turn-again-requires c κs =
-    let p = c .before .before .before .before .before .before .before .before .before .before .before .before .before .before .before .before .before .before .before .before .before .before .pre in
-    let v = c .before .before .before .before .before .before .before .before .before .before .before .loop .inv in
+    let at-loop : tie.At-loop Inv-loop μ-loop = search in
+    let entry : tie.Start Inv-loop μ-loop = search in
+    let p = entry .pre in
+    let v = at-loop .loop .inv in
     let o = p .1 .1 .1 .0 .outs in (
       p .0,
       (
@@ -69,28 +93,33 @@ row-turn-again-requires c κs =
         (
           record { room = record { few = p .1 .1 .0 .room .few; bests = omega (arith, v .2, p .1 .1 .0 .room .bests); segs = omega (arith, v .2, p .1 .1 .0 .room .segs) }; outs = omega (arith, v .2, p .1 .1 .0 .outs) },
           (
-            (simp (length-take, length-drop) (omega (arith, v .2, o)), simp (length-take, length-drop) (omega (arith, v .2, p .1 .1 .1 .1))),
-            due (v .3 .first .going) (omega (arith, p .1 .1 .1 .0 .count-is)) refl,
+            (simp (length-take, length-drop) (omega (arith, c, v .2, o)), simp (length-take, length-drop) (omega (arith, c, v .2, p .1 .1 .1 .1))),
+            due (v .3 .first .going) (omega (arith, c, p .1 .1 .1 .0 .count-is)) refl,
           ),
         ),
       ),
     )
 
 add-i : tie.Need-add-i Inv-loop μ-loop
-add-i c = omega (arith, c .before .before .before .before .before .before .before .before .before .before .before .before .before .before .before .before .before .before .before .before .before .before .before .before .before .before .before .before .loop .inv, c .before .before .before .before .before .before .before .before .before .before .before .before .before .before .before .before .before .before .before .before .before .before .before .before .before .before .before .before .before .before .before .before .before .before .before .before .before .before .before .fits .count)
+add-i c =
+    let at-loop : tie.At-loop Inv-loop μ-loop = search in
+    let entry : tie.Start Inv-loop μ-loop = search in
+    omega (arith, at-loop .loop .inv, entry .fits .count)
 
 loop-less : tie.Need-loop-less Inv-loop μ-loop
 loop-less c = omega arith
 
 loop-again : tie.Need-loop-again Inv-loop μ-loop
 loop-again c =
-    let v = c .before .before .before .before .before .before .before .before .before .before .before .before .before .before .before .before .before .before .before .before .before .before .before .before .before .before .before .before .loop .inv in
-    let w = c .before .before .before .before .before .before .before .before .before .before .before .before .before .before .before .before in
+    let w : tie.After-row-turn-again Inv-loop μ-loop = search in
+    let at-loop : tie.At-loop Inv-loop μ-loop = search in
+    let entry : tie.Start Inv-loop μ-loop = search in
+    let v = at-loop .loop .inv in
     let k = w .row-turn-again .kept in (
-      omega arith,
+      omega (arith, c),
       (omega (arith, v .1, k), omega (arith, v .1, k), omega (arith, v .1, k), omega (arith, v .1, k)),
       (omega (arith, v .2, k), omega (arith, v .2, k), omega (arith, v .2, k), omega (arith, v .2, c .before .out .given .1), omega (arith, v .2, c .fresh .given .1)),
-      both-next (v .3) (omega (arith, c .before .before .before .before .before .before .before .before .before .before .before .before .before .before .before .before .before .before .before .before .before .before .before .before .before .before .before .before .before .before .before .before .before .before .before .before .before .before .before .pre .1 .1 .1 .0 .count-is)) refl _ _ (w .row-turn-again .ensures),
+      both-next (v .3) (omega (arith, c, entry .pre .1 .1 .1 .0 .count-is)) refl _ _ (w .row-turn-again .ensures),
     )
 
 same-length : tie.Need-same-length Inv-loop μ-loop
@@ -122,7 +151,8 @@ same-length-9 c = omega arith
 
 returns : tie.Need-returns Inv-loop μ-loop
 returns c =
-    let p = c .before .before .before .before .before .before .before .before .before .before .before .before .pre in
+    let entry : tie.Start Inv-loop μ-loop = search in
+    let p = entry .pre in
     let v = c .before .loop .inv .3 in
     (rows-end (v .first) _ (p .1 .1 .1 .0 .count-is) (omega arith), both-end v (p .0 .1) _ (p .1 .1 .1 .0 .count-is) (omega arith))
 

@@ -4,10 +4,15 @@ use Rattle.rows.proofs.row_turn.Statement.{statement}
 use Rattle.rows.proofs.row_turn.Tie as tie
 
 take-loop-requires : tie.Need-take-loop-requires
-take-loop-requires c κs = let p = c .before .before .before .before .before .before .before .before .before .before .before .before .before .before .before .before .pre in takes-of (p .0) (p .1 .1 .1 .1) (p .1 .0) (p .1 .1 .0)
+take-loop-requires c κs =
+    let entry : tie.Start = search in
+    let p = entry .pre in takes-of (p .0) (p .1 .1 .1 .1) (p .1 .0) (p .1 .1 .0)
 
 row-of-requires : tie.Need-row-of-requires
-row-of-requires c κs = let p = c .before .before .before .before .before .before .before .before .before .before .before .before .before .before .before .before .before .before .before .before .before .before .before .before .before .before .before .before .before .before .before .before .before .pre in (row-asked (p .0) (p .1 .1 .1 .1) (p .1 .1 .0 .outs) (c .before .before .before .before .before .before .before .before .before .before .before .before .before .before .before .before .take-loop .ensures), p .1 .1 .1 .0)
+row-of-requires c κs =
+    let after-take-loop : tie.After-take-loop = search in
+    let entry : tie.Start = search in
+    let p = entry .pre in (row-asked (p .0) (p .1 .1 .1 .1) (p .1 .1 .0 .outs) (after-take-loop .take-loop .ensures), p .1 .1 .1 .0)
 
 same-length : tie.Need-same-length
 same-length c = search needs
@@ -34,7 +39,10 @@ same-length-8 : tie.Need-same-length-8
 same-length-8 c = search needs
 
 returns : tie.Need-returns
-returns c = let p = c .before .before .before .before .before .before .before .before .before .before .before .before .before .before .before .before .before .before .before .before .before .before .before .before .before .before .before .before .before .before .before .before .before .before .before .pre in λ d. row-done (p .0) d (p .1 .1 .0 .outs) (c .before .before .before .before .before .before .before .before .before .before .before .before .before .before .before .before .before .before .take-loop .ensures) _ (c .before .row-of .ensures)
+returns c =
+    let after-take-loop : tie.After-take-loop = search in
+    let entry : tie.Start = search in
+    let p = entry .pre in λ d. row-done (p .0) d (p .1 .1 .0 .outs) (after-take-loop .take-loop .ensures) _ (c .before .row-of .ensures)
 
 pub row-turn-spec : {M : Type 1} → statement M
 row-turn-spec =

@@ -27,20 +27,28 @@ mul-sum-2 : tie.Need-mul-sum-2 Inv-loop μ-loop
 mul-sum-2 c = omega (arith, c .before .before .before .pre .1 .ok (c .before .before .loop .j) (omega arith) .few)
 
 shared-slice-read-sum-2 : tie.Need-shared-slice-read-sum-2 Inv-loop μ-loop
-shared-slice-read-sum-2 c = omega (arith, c .before .before .before .before .pre .1 .ok (c .before .before .before .loop .j) (omega arith) .few, c .before .before .before .before .pre .0 .longs)
+shared-slice-read-sum-2 c =
+    let entry : tie.Start Inv-loop μ-loop = search in
+    omega (arith, entry .pre .1 .ok (c .before .before .before .loop .j) (omega arith) .few, entry .pre .0 .longs)
 
 add-sum : tie.Need-add-sum Inv-loop μ-loop
-add-sum c = let p = c .before .before .before .before .pre in omega (arith, p .0 .long-ok (getD (c .before .before .before .before .args .out .now) (c .before .before .before .loop .j) 0 / 2) (omega (arith, p .1 .ok (c .before .before .before .loop .j) (omega arith) .few)), p .1 .few, c .before .before .before .loop .inv)
+add-sum c =
+    let entry : tie.Start Inv-loop μ-loop = search in
+    let p = entry .pre in omega (arith, p .0 .long-ok (getD (entry .args .out .now) (c .before .before .before .loop .j) 0 / 2) (omega (arith, p .1 .ok (c .before .before .before .loop .j) (omega arith) .few)), p .1 .few, c .before .before .before .loop .inv)
 
 add-j : tie.Need-add-j Inv-loop μ-loop
-add-j c = omega (arith, c .before .before .before .before .pre .1 .few)
+add-j c =
+    let entry : tie.Start Inv-loop μ-loop = search in
+    omega (arith, entry .pre .1 .few)
 
 loop-less : tie.Need-loop-less Inv-loop μ-loop
 loop-less c = omega arith
 
 loop-again : tie.Need-loop-again Inv-loop μ-loop
-loop-again c = let p = c .before .before .before .before .pre in
-    (omega arith, length-next _ _ _ (p .1 .places) _ _ (omega arith) (c .before .before .before .loop .inv .1), omega (arith, p .0 .long-ok (getD (c .before .before .before .before .args .out .now) (c .before .before .before .loop .j) 0 / 2) (omega (arith, p .1 .ok (c .before .before .before .loop .j) (omega arith) .few)), c .before .before .before .loop .inv))
+loop-again c =
+    let entry : tie.Start Inv-loop μ-loop = search in
+    let p = entry .pre in
+    (omega arith, length-next _ _ _ (p .1 .places) _ _ (omega arith) (c .before .before .before .loop .inv .1), omega (arith, p .0 .long-ok (getD (entry .args .out .now) (c .before .before .before .loop .j) 0 / 2) (omega (arith, p .1 .ok (c .before .before .before .loop .j) (omega arith) .few)), c .before .before .before .loop .inv))
 
 returns : tie.Need-returns Inv-loop μ-loop
 returns c = (length-end _ _ _ (c .before .before .pre .1 .places) (c .before .loop .j) _ (omega arith) (c .before .loop .inv .1), omega arith)

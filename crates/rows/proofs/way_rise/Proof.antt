@@ -27,29 +27,40 @@ mul-half-rise : tie.Need-mul-half-rise Inv-loop μ-loop
 mul-half-rise c = omega (arith, c .before .before .before .pre .1 .few)
 
 shared-slice-read-half-rise : tie.Need-shared-slice-read-half-rise Inv-loop μ-loop
-shared-slice-read-half-rise c = omega (arith, c .before .before .before .before .pre .1 .places)
+shared-slice-read-half-rise c =
+    let entry : tie.Start Inv-loop μ-loop = search in
+    omega (arith, entry .pre .1 .places)
 
 half-rise-requires : tie.Need-half-rise-requires Inv-loop μ-loop
-half-rise-requires c κs = let p = c .before .before .before .before .pre in (p .0, p .1 .ok (c .before .before .loop .j) (omega arith))
+half-rise-requires c κs =
+    let entry : tie.Start Inv-loop μ-loop = search in
+    let p = entry .pre in (p .0, p .1 .ok (c .before .before .loop .j) (omega arith))
 
 add-requires : tie.Need-add-requires Inv-loop μ-loop
-add-requires c κs = let p = c .before .before .before .before .before .pre in
+add-requires c κs =
+    let entry : tie.Start Inv-loop μ-loop = search in
+    let p = entry .pre in
     let s : natAbs (c .half-rise .result) ≤ steepest = rw (c .half-rise .ensures) (rise-size _ _ (p .0) (p .1 .ok (c .before .before .before .loop .j) (omega arith))) in
     rw (back _ (c .half-rise .ok)) (omega (arith, p .1 .few, c .before .before .before .loop .inv))
 
 add-j : tie.Need-add-j Inv-loop μ-loop
-add-j c = omega (arith, c .before .before .before .before .before .before .pre .1 .few)
+add-j c =
+    let entry : tie.Start Inv-loop μ-loop = search in
+    omega (arith, entry .pre .1 .few)
 
 loop-less : tie.Need-loop-less Inv-loop μ-loop
 loop-less c = omega arith
 
 loop-again : tie.Need-loop-again Inv-loop μ-loop
-loop-again c = let p = c .before .before .before .before .before .before .pre in
-    let v = c .before .before .before .before .loop .inv in
+loop-again c =
+    let at-loop : tie.At-loop Inv-loop μ-loop = search in
+    let entry : tie.Start Inv-loop μ-loop = search in
+    let p = entry .pre in
+    let v = at-loop .loop .inv in
     let r = c .before .half-rise .result in
-    let s : natAbs r ≤ steepest = rw (c .before .half-rise .ensures) (rise-size _ _ (p .0) (p .1 .ok (c .before .before .before .before .loop .j) (omega arith))) in
+    let s : natAbs r ≤ steepest = rw (c .before .half-rise .ensures) (rise-size _ _ (p .0) (p .1 .ok (at-loop .loop .j) (omega arith))) in
     let e = stored (c .add .result) (c .add .ok) (rw (back _ (c .before .half-rise .ok)) at (c .add .ensures)) in
-    (omega arith, rw (e, c .before .half-rise .ensures) (rise-next _ _ _ (p .1 .places) (c .before .before .before .before .loop .j) (toZ w64 (c .before .before .before .before .loop .sum)) (omega arith) (v .1)), rw e (omega (arith, size-add (toZ w64 (c .before .before .before .before .loop .sum)) r, v)))
+    (omega arith, rw (e, c .before .half-rise .ensures) (rise-next _ _ _ (p .1 .places) (at-loop .loop .j) (toZ w64 (at-loop .loop .sum)) (omega arith) (v .1)), rw e (omega (arith, size-add (toZ w64 (at-loop .loop .sum)) r, v)))
 
 returns : tie.Need-returns Inv-loop μ-loop
 returns c = (rise-end _ _ _ (c .before .before .before .pre .1 .places) (c .before .loop .j) _ (omega arith) (c .before .loop .inv .1), omega arith)

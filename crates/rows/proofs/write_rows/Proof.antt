@@ -15,16 +15,24 @@ abbrev μ-loop : tie.MeasureT-loop
 μ-loop lines tip long close head₀ next₀ far₀ add₀ best₀ seg₀ path₀ out₀ n nodes count t cnt₀ i₀ head next far add best seg path out cnt i = count - i
 
 loop-holds : tie.Need-loop-holds Inv-loop μ-loop
-loop-holds c = (omega arith, (refl, refl, refl, refl), (refl, refl, refl, refl), rows-start (c .before .before .before .before .before .before .before .before .before .before .pre .1 .1 .1))
+loop-holds c =
+    let entry : tie.Start Inv-loop μ-loop = search in
+    (omega arith, (refl, refl, refl, refl), (refl, refl, refl, refl), rows-start (entry .pre .1 .1 .1))
 
 mul-at : tie.Need-mul-at Inv-loop μ-loop
-mul-at c = omega (arith, c .before .before .before .before .before .before .before .before .before .before .before .before .pre .1 .1 .1 .outs, c .before .before .before .before .before .before .before .before .before .before .before .before .good)
+mul-at c =
+    let entry : tie.Start Inv-loop μ-loop = search in
+    omega (arith, entry .pre .1 .1 .1 .outs, entry .good)
 
 add-row-turn : tie.Need-add-row-turn Inv-loop μ-loop
-add-row-turn c = omega (arith, c .before .before .before .before .before .before .before .before .before .before .before .before .before .before .before .before .before .before .before .pre .1 .1 .1 .outs, c .before .before .before .before .before .before .before .before .before .before .before .before .before .before .before .before .before .before .before .good)
+add-row-turn c =
+    let entry : tie.Start Inv-loop μ-loop = search in
+    omega (arith, entry .pre .1 .1 .1 .outs, entry .good)
 
 mul-row-turn : tie.Need-mul-row-turn Inv-loop μ-loop
-mul-row-turn c = omega (arith, c .before .before .before .before .before .before .before .before .before .before .before .before .before .before .before .before .before .before .before .pre .1 .1 .1 .outs, c .before .before .before .before .before .before .before .before .before .before .before .before .before .before .before .before .before .before .before .good)
+mul-row-turn c =
+    let entry : tie.Start Inv-loop μ-loop = search in
+    omega (arith, entry .pre .1 .1 .1 .outs, entry .good)
 
 sub-row-turn : tie.Need-sub-row-turn Inv-loop μ-loop
 sub-row-turn c = omega arith
@@ -33,40 +41,57 @@ part-row-turn-start : tie.Need-part-row-turn-start Inv-loop μ-loop
 part-row-turn-start c = omega arith
 
 part-row-turn-end : tie.Need-part-row-turn-end Inv-loop μ-loop
-part-row-turn-end c = omega (arith, c .before .before .before .before .before .before .before .before .before .before .before .before .before .before .before .before .before .before .before .pre .1 .1 .1 .outs, c .before .before .before .before .before .before .before .before .loop .inv)
+part-row-turn-end c =
+    let at-loop : tie.At-loop Inv-loop μ-loop = search in
+    let entry : tie.Start Inv-loop μ-loop = search in
+    omega (arith, entry .pre .1 .1 .1 .outs, at-loop .loop .inv)
 
 mul-row-turn-2 : tie.Need-mul-row-turn-2 Inv-loop μ-loop
-mul-row-turn-2 c = omega (arith, c .before .before .before .before .before .before .before .before .before .before .before .before .before .before .before .before .before .before .before .before .pre .1 .1 .1 .closes, c .before .before .before .before .before .before .before .before .before .before .before .before .before .before .before .before .before .before .before .before .good)
+mul-row-turn-2 c =
+    let entry : tie.Start Inv-loop μ-loop = search in
+    omega (arith, entry .pre .1 .1 .1 .closes, entry .good)
 
 shared-slice-read-row-turn : tie.Need-shared-slice-read-row-turn Inv-loop μ-loop
-shared-slice-read-row-turn c = omega (arith, c .before .before .before .before .before .before .before .before .before .before .before .before .before .before .before .before .before .before .before .before .before .pre .1 .1 .1 .closes)
+shared-slice-read-row-turn c =
+    let entry : tie.Start Inv-loop μ-loop = search in
+    omega (arith, entry .pre .1 .1 .1 .closes)
 
 row-turn-requires : tie.Need-row-turn-requires Inv-loop μ-loop
-row-turn-requires c κs = let p = c .before .before .before .before .before .before .before .before .before .before .before .before .before .before .before .before .before .before .before .before .before .pre in
-    let v = c .before .before .before .before .before .before .before .before .before .before .loop .inv in (
+row-turn-requires c κs =
+    let at-loop : tie.At-loop Inv-loop μ-loop = search in
+    let entry : tie.Start Inv-loop μ-loop = search in
+    let p = entry .pre in
+    let v = at-loop .loop .inv in (
       p .0,
       (
         record { nexts = omega (arith, v .1, p .1 .0 .nexts); ends = omega (arith, v .1, p .1 .0 .ends); adds = omega (arith, v .1, p .1 .0 .adds) },
         (
           record { room = record { few = p .1 .1 .0 .room .few; bests = omega (arith, v .2, p .1 .1 .0 .room .bests); segs = omega (arith, v .2, p .1 .1 .0 .room .segs) }; outs = omega (arith, v .2, p .1 .1 .0 .outs) },
-          (simp (length-take, length-drop) (omega (arith, v .2, p .1 .1 .1 .outs)), due (v .3 .going) (omega (arith, p .1 .1 .1 .count-is)) refl),
+          (simp (length-take, length-drop) (omega (arith, c, v .2, p .1 .1 .1 .outs)), due (v .3 .going) (omega (arith, c, p .1 .1 .1 .count-is)) refl),
         ),
       ),
     )
 
 add-i : tie.Need-add-i Inv-loop μ-loop
-add-i c = omega (arith, c .before .before .before .before .before .before .before .before .before .before .before .before .before .before .before .before .before .before .before .before .before .before .before .before .before .before .loop .inv, c .before .before .before .before .before .before .before .before .before .before .before .before .before .before .before .before .before .before .before .before .before .before .before .before .before .before .before .before .before .before .before .before .before .before .before .before .before .fits .count)
+add-i c =
+    let at-loop : tie.At-loop Inv-loop μ-loop = search in
+    let entry : tie.Start Inv-loop μ-loop = search in
+    omega (arith, at-loop .loop .inv, entry .fits .count)
 
 loop-less : tie.Need-loop-less Inv-loop μ-loop
 loop-less c = omega arith
 
 loop-again : tie.Need-loop-again Inv-loop μ-loop
-loop-again c = let v = c .before .before .before .before .before .before .before .before .before .before .before .before .before .before .before .before .before .before .before .before .before .before .before .before .before .before .loop .inv in
-    let k = c .before .before .before .before .before .before .before .before .before .before .before .before .before .before .before .row-turn .kept in (
-      omega arith,
+loop-again c =
+    let after-row-turn : tie.After-row-turn Inv-loop μ-loop = search in
+    let at-loop : tie.At-loop Inv-loop μ-loop = search in
+    let entry : tie.Start Inv-loop μ-loop = search in
+    let v = at-loop .loop .inv in
+    let k = after-row-turn .row-turn .kept in (
+      omega (arith, c),
       (omega (arith, v .1, k), omega (arith, v .1, k), omega (arith, v .1, k), omega (arith, v .1, k)),
       (omega (arith, v .2, k), omega (arith, v .2, k), omega (arith, v .2, k), omega (arith, v .2, c .out .given .1)),
-      rows-next (v .3) (omega (arith, c .before .before .before .before .before .before .before .before .before .before .before .before .before .before .before .before .before .before .before .before .before .before .before .before .before .before .before .before .before .before .before .before .before .before .before .before .before .pre .1 .1 .1 .count-is)) refl _ (c .before .before .before .before .before .before .before .before .before .before .before .before .before .before .before .row-turn .ensures),
+      rows-next (v .3) (omega (arith, c, entry .pre .1 .1 .1 .count-is)) refl _ (after-row-turn .row-turn .ensures),
     )
 
 same-length : tie.Need-same-length Inv-loop μ-loop
@@ -94,7 +119,9 @@ same-length-8 : tie.Need-same-length-8 Inv-loop μ-loop
 same-length-8 c = omega arith
 
 returns : tie.Need-returns Inv-loop μ-loop
-returns c = rows-end (c .before .loop .inv .3) _ (c .before .before .before .before .before .before .before .before .before .before .before .before .pre .1 .1 .1 .count-is) (omega arith)
+returns c =
+    let entry : tie.Start Inv-loop μ-loop = search in
+    rows-end (c .before .loop .inv .3) _ (entry .pre .1 .1 .1 .count-is) (omega arith)
 
 pub write-rows-spec : {M : Type 1} → statement M
 write-rows-spec =

@@ -28,28 +28,40 @@ shared-slice-read-relax : tie.Need-shared-slice-read-relax
 shared-slice-read-relax c = search needs
 
 relax-requires : tie.Need-relax-requires
-relax-requires c κs = let p = c .before .before .before .before .before .before .before .before .before .before .before .before .before .before .before .before .before .pre in
-    let a = c .before .before .before .before .before .before .before .before .before .clear .ensures in
-    let b = c .before .before .before .before .before .clear2 .ensures in
-    (p .0, (stage-start _ _ (c .before .before .before .before .before .before .before .before .before .clear .last .0) (c .before .before .before .before .before .clear2 .last .0) (p .1 .1 .0 .few) (p .1 .1 .1) (omega (arith, a .0, p .1 .1 .0 .bests)) (omega (arith, b .0, p .1 .1 .0 .segs)) (a .1) (λ i h. b .1 i (omega arith)), (p .1 .0 .head-ok _ (p .1 .1 .1), omega arith)))
+relax-requires c κs =
+    let after-clear2 : tie.After-clear2 = search in
+    let after-clear : tie.After-clear = search in
+    let entry : tie.Start = search in
+    let p = entry .pre in
+    let a = after-clear .clear .ensures in
+    let b = after-clear2 .clear2 .ensures in
+    (p .0, (stage-start _ _ (after-clear .clear .last .0) (after-clear2 .clear2 .last .0) (p .1 .1 .0 .few) (p .1 .1 .1) (omega (arith, a .0, p .1 .1 .0 .bests)) (omega (arith, b .0, p .1 .1 .0 .segs)) (a .1) (λ i h. b .1 i (omega arith)), (p .1 .0 .head-ok _ (p .1 .1 .1), omega arith)))
 
 same-length : tie.Need-same-length
-same-length c = omega (arith, length-set (c .before .before .before .before .before .before .before .before .before .before .before .before .before .before .clear .last .0) (c .before .before .before .before .before .before .before .before .before .before .before .before .before .before .before .before .before .before .before .before .before .before .args .r) 0)
+same-length c =
+    let after-clear : tie.After-clear = search in
+    let entry : tie.Start = search in
+    omega (arith, length-set (after-clear .clear .last .0) (entry .args .r) 0)
 
 same-length-2 : tie.Need-same-length-2
 same-length-2 c = search needs
 
 returns : tie.Need-returns
-returns c = let p = c .before .before .before .before .before .before .before .before .before .before .before .before .before .before .before .before .before .before .before .before .before .before .pre in
-    let a = c .before .before .before .before .before .before .before .before .before .before .before .before .before .before .clear .ensures in
-    let b = c .before .before .before .before .before .before .before .before .before .before .clear2 .ensures in
+returns c =
+    let after-relax : tie.After-relax = search in
+    let after-clear2 : tie.After-clear2 = search in
+    let after-clear : tie.After-clear = search in
+    let entry : tie.Start = search in
+    let p = entry .pre in
+    let a = after-clear .clear .ensures in
+    let b = after-clear2 .clear2 .ensures in
     record {
-      best = c .before .before .before .before .before .before .before .before .before .before .before .before .before .before .clear .last .0;
-      seg = c .before .before .before .before .before .before .before .before .before .before .clear2 .last .0;
+      best = after-clear .clear .last .0;
+      seg = after-clear2 .clear2 .last .0;
       room = record { few = p .1 .1 .0 .few; bests = omega (arith, a .0, p .1 .1 .0 .bests); segs = omega (arith, b .0, p .1 .1 .0 .segs) };
       bests = a .1;
       segs = λ i h. b .1 i (omega arith);
-      offered = c .before .before .before .before .relax .ensures;
+      offered = after-relax .relax .ensures;
     }
 
 pub begin-spec : {M : Type 1} → statement M

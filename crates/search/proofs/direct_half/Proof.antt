@@ -14,7 +14,9 @@ shared-slice-read-least-sum : tie.Need-shared-slice-read-least-sum
 shared-slice-read-least-sum c = search needs
 
 least-sum-requires : tie.Need-least-sum-requires
-least-sum-requires c κs = let s = c .before .before .before .before .before .before in (s .pre .0, s .pre .1 .0 .head-ok (s .args .r) (s .pre .1 .1 .1 .r-ok))
+least-sum-requires c κs =
+    let s : tie.Start = search in
+    (s .pre .0, s .pre .1 .0 .head-ok (s .args .r) (s .pre .1 .1 .1 .r-ok))
 
 returns : tie.Need-returns
 returns c = direct-none _ _ _ _ _ _ _ _
@@ -27,7 +29,8 @@ shared-slice-read-if2 c = search needs
 
 returns-2 : tie.Need-returns-2
 returns-2 c =
-    let p = c .before .before .before .before .before .before .before .before .before .before .pre in
+    let entry : tie.Start = search in
+    let p = entry .pre in
     direct-of _ _ _ _ _ _ _ _ _ (p .1 .1 .1) (c .before .before .before .least-sum .ensures) (omega arith) (c .if2 .taken)
 
 returns-3 : tie.Need-returns-3

@@ -36,10 +36,16 @@ shared-slice-read-i : tie.Need-shared-slice-read-i Inv-loop μ-loop
 shared-slice-read-i c = omega arith
 
 loop-less : tie.Need-loop-less Inv-loop μ-loop
-loop-less c = omega (arith, c .before .before .before .before .before .before .before .before .pre .0 .falls (c .before .before .before .before .loop .i - 1) (omega arith))
+loop-less c =
+    let at-loop : tie.At-loop Inv-loop μ-loop = search in
+    let entry : tie.Start Inv-loop μ-loop = search in
+    omega (arith, entry .pre .0 .falls (at-loop .loop .i - 1) (omega arith))
 
 loop-again : tie.Need-loop-again Inv-loop μ-loop
-loop-again c = (omega (arith, c .before .before .before .before .before .before .before .before .pre .0 .falls (c .before .before .before .before .loop .i - 1) (omega arith)), least-turn _ _ _ _ _ _ (c .before .before .before .before .loop .inv .1) (omega arith) (c .before .lesser .ensures))
+loop-again c =
+    let at-loop : tie.At-loop Inv-loop μ-loop = search in
+    let entry : tie.Start Inv-loop μ-loop = search in
+    (omega (arith, entry .pre .0 .falls (at-loop .loop .i - 1) (omega arith)), least-turn _ _ _ _ _ _ (at-loop .loop .inv .1) (omega arith) (c .before .lesser .ensures))
 
 returns : tie.Need-returns Inv-loop μ-loop
 returns c = least-end _ _ _ _ _ (c .before .loop .inv .1) (omega arith)

@@ -20,7 +20,9 @@ slice-write-best : tie.Need-slice-write-best
 slice-write-best c = search needs
 
 lower-requires : tie.Need-lower-requires
-lower-requires c κs = let s = c .before .before .before .before .before .pre .0 in (s .heap, (c .before .before .before .before .before .pre .1, omega (arith, s .over _ (c .before .before .before .before .before .pre .1))))
+lower-requires c κs =
+    let entry : tie.Start = search in
+    let s = entry .pre .0 in (s .heap, (entry .pre .1, omega (arith, s .over _ (entry .pre .1))))
 
 same-length : tie.Need-same-length
 same-length c = search needs

@@ -29,16 +29,22 @@ same-length : tie.Need-same-length
 same-length c = search needs
 
 returns : tie.Need-returns
-returns c = let p = c .before .before .before .before .before .before .before .before .before .before .pre in λ sub g. direct-written _ _ _ _ _ _ (p .1 .1) (c .before .direct-half .ensures .whole (omega arith) sub g)
+returns c =
+    let entry : tie.Start = search in
+    let p = entry .pre in λ sub g. direct-written _ _ _ _ _ _ (p .1 .1) (c .before .direct-half .ensures .whole (omega arith) sub g)
 
 search-requires : tie.Need-search-requires
-search-requires c κs = let p = c .before .before .before .before .before .before .before .before .before .before .before .before .pre in (p .0 .nodes, (p .0 .heads, (p .0 .tips, (p .1 .0 .room, p .1 .1))))
+search-requires c κs =
+    let entry : tie.Start = search in
+    let p = entry .pre in (p .0 .nodes, (p .0 .heads, (p .0 .tips, (p .1 .0 .room, p .1 .1))))
 
 way-requires : tie.Need-way-requires
 way-requires c κs =
-    let p = c .before .before .before .before .before .before .before .before .before .before .before .before .before .before .before .before .before .before .before .before .pre in
+    let after-search : tie.After-search = search in
+    let entry : tie.Start = search in
+    let p = entry .pre in
     let g = p .0 .given in
-    path-leads _ _ _ _ _ _ _ g _ _ _ (p .1 .1 .r-ok) (omega (arith, p .1 .0 .room .bests)) (c .before .before .before .before .before .before .before .search .ensures (p .0 .sub) g) (c .before .before .if2 .taken) _ (p .0 .tips .tips) (p .1 .0 .outs)
+    path-leads _ _ _ _ _ _ _ g _ _ _ (p .1 .1 .r-ok) (omega (arith, p .1 .0 .room .bests)) (after-search .search .ensures (p .0 .sub) g) (c .before .before .if2 .taken) _ (p .0 .tips .tips) (p .1 .0 .outs)
 
 same-length-2 : tie.Need-same-length-2
 same-length-2 c = search needs
@@ -51,8 +57,12 @@ same-length-4 c = search needs
 
 returns-2 : tie.Need-returns-2
 returns-2 c =
-    let p = c .before .before .before .before .before .before .before .before .before .before .before .before .before .before .before .before .before .before .before .before .before .before .before .pre in
-    λ sub g. path-walked sub _ _ _ _ _ _ g _ _ _ (p .1 .1 .r-ok) (omega (arith, p .1 .0 .room .bests)) (c .before .before .before .before .before .before .before .before .before .before .search .ensures sub g) (c .before .before .before .before .before .if2 .taken) _ _ _ (c .before .before .way .ensures)
+    let then2 : tie.Then2 = search in
+    let after-search : tie.After-search = search in
+    let after-direct-half : tie.After-direct-half = search in
+    let entry : tie.Start = search in
+    let p = entry .pre in
+    λ sub g. path-walked sub _ _ _ _ _ _ g _ _ _ (p .1 .1 .r-ok) (omega (arith, c, p .1 .0 .room .bests)) (after-search .search .ensures sub g) (then2 .if2 .taken) _ _ _ (c .before .before .way .ensures)
 
 same-length-5 : tie.Need-same-length-5
 same-length-5 c = search needs
@@ -62,8 +72,10 @@ same-length-6 c = search needs
 
 returns-3 : tie.Need-returns-3
 returns-3 c =
-    let p = c .before .before .before .before .before .before .before .before .before .before .before .before .before .before .before .before .before .before .pre in
-    λ sub g. path-cut sub _ _ _ _ _ _ g _ _ _ (p .1 .1 .r-ok) (omega (arith, p .1 .0 .room .bests)) (c .before .before .before .before .before .search .ensures sub g) (c .if2 .left) _
+    let after-search : tie.After-search = search in
+    let entry : tie.Start = search in
+    let p = entry .pre in
+    λ sub g. path-cut sub _ _ _ _ _ _ g _ _ _ (p .1 .1 .r-ok) (omega (arith, p .1 .0 .room .bests)) (after-search .search .ensures sub g) (c .if2 .left) _
 
 pub path-spec : {M : Type 1} → statement M
 path-spec =

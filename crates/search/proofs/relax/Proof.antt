@@ -15,7 +15,9 @@ abbrev μ-loop : tie.MeasureT-loop
 μ-loop next far add best₀ seg₀ n cnt first base i₀ best seg i = i
 
 loop-holds : tie.Need-loop-holds Inv-loop μ-loop
-loop-holds c = (omega arith, relax-start _ _ _ _ _ _ _ _ (c .before .before .before .before .before .pre .1 .0), refl, refl)
+loop-holds c =
+    let entry : tie.Start Inv-loop μ-loop = search in
+    (omega arith, relax-start _ _ _ _ _ _ _ _ (entry .pre .1 .0), refl, refl)
 
 sub-j : tie.Need-sub-j Inv-loop μ-loop
 sub-j c = search needs
@@ -33,10 +35,16 @@ shared-slice-read-offer-2 : tie.Need-shared-slice-read-offer-2 Inv-loop μ-loop
 shared-slice-read-offer-2 c = search needs
 
 add-offer : tie.Need-add-offer Inv-loop μ-loop
-add-offer c = omega (arith, c .before .before .before .before .before .before .before .before .before .before .before .pre .0 .add-ok (c .before .before .before .before .before .loop .i - 1) (omega arith))
+add-offer c =
+    let at-loop : tie.At-loop Inv-loop μ-loop = search in
+    let entry : tie.Start Inv-loop μ-loop = search in
+    omega (arith, entry .pre .0 .add-ok (at-loop .loop .i - 1) (omega arith))
 
 offer-requires : tie.Need-offer-requires Inv-loop μ-loop
-offer-requires c κs = (c .before .before .before .before .before .loop .inv .1 .stage, c .before .before .before .before .before .before .before .before .before .before .before .pre .0 .far-ok (c .before .before .before .before .before .loop .i - 1) (omega arith))
+offer-requires c κs =
+    let at-loop : tie.At-loop Inv-loop μ-loop = search in
+    let entry : tie.Start Inv-loop μ-loop = search in
+    (at-loop .loop .inv .1 .stage, entry .pre .0 .far-ok (at-loop .loop .i - 1) (omega arith))
 
 mul-i : tie.Need-mul-i Inv-loop μ-loop
 mul-i c = search needs
@@ -45,10 +53,17 @@ shared-slice-read-i : tie.Need-shared-slice-read-i Inv-loop μ-loop
 shared-slice-read-i c = search needs
 
 loop-less : tie.Need-loop-less Inv-loop μ-loop
-loop-less c = omega (arith, c .before .before .before .before .before .before .before .before .before .before .before .before .before .before .before .before .before .pre .0 .falls (c .before .before .before .before .before .before .before .before .before .before .before .loop .i - 1) (omega arith))
+loop-less c =
+    let at-loop : tie.At-loop Inv-loop μ-loop = search in
+    let entry : tie.Start Inv-loop μ-loop = search in
+    omega (arith, c, entry .pre .0 .falls (at-loop .loop .i - 1) (omega (arith, c)))
 
 loop-again : tie.Need-loop-again Inv-loop μ-loop
-loop-again c = (omega (arith, c .before .before .before .before .before .before .before .before .before .before .before .before .before .before .before .before .before .pre .0 .falls (c .before .before .before .before .before .before .before .before .before .before .before .loop .i - 1) (omega arith)), relax-turn _ _ _ _ _ _ _ _ _ _ _ _ _ _ (c .before .before .before .before .before .before .before .before .before .before .before .before .before .before .before .before .before .pre .0) (c .before .before .before .before .before .before .before .before .before .before .before .loop .inv .1) (omega arith) (omega arith) (c .before .before .before .before .before .offer .ensures), omega arith, omega arith)
+loop-again c =
+    let after-offer : tie.After-offer Inv-loop μ-loop = search in
+    let at-loop : tie.At-loop Inv-loop μ-loop = search in
+    let entry : tie.Start Inv-loop μ-loop = search in
+    (omega (arith, entry .pre .0 .falls (at-loop .loop .i - 1) (omega arith)), relax-turn _ _ _ _ _ _ _ _ _ _ _ _ _ _ (entry .pre .0) (at-loop .loop .inv .1) (omega arith) (omega arith) (after-offer .offer .ensures), omega arith, omega arith)
 
 same-length : tie.Need-same-length Inv-loop μ-loop
 same-length c = omega arith

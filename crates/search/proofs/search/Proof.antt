@@ -17,18 +17,25 @@ abbrev μ-loop : tie.MeasureT-loop
 μ-loop head next far add tip best₀ seg₀ n cnt r to k₀ best seg k = n - k
 
 begin-requires : tie.Need-begin-requires Inv-loop μ-loop
-begin-requires c κs = let p = c .before .before .before .before .before .before .before .before .before .pre in (p .0, (p .1 .0, (p .1 .1 .1 .0, p .1 .1 .1 .1 .r-ok)))
+begin-requires c κs =
+    let entry : tie.Start Inv-loop μ-loop = search in
+    let p = entry .pre in (p .0, (p .1 .0, (p .1 .1 .1 .0, p .1 .1 .1 .1 .r-ok)))
 
 loop-holds : tie.Need-loop-holds Inv-loop μ-loop
-loop-holds c = let p = c .before .before .before .before .before .before .before .before .before .before .before .before .before .before .pre in
-    let b = c .before .before .before .before .begin .ensures in
+loop-holds c =
+    let after-begin : tie.After-begin Inv-loop μ-loop = search in
+    let entry : tie.Start Inv-loop μ-loop = search in
+    let p = entry .pre in
+    let b = after-begin .begin .ensures in
     (omega arith, omega (arith, p .1 .1 .1 .1 .r-ok, p .1 .1 .1 .1 .to-ok, p .1 .1 .1 .1 .apart), b .offered .stage, refl, refl, λ sub g. begun-searching sub _ _ _ _ _ _ g _ _ _ _ (p .1 .1 .1 .1) b)
 
 add-loop : tie.Need-add-loop Inv-loop μ-loop
 add-loop c = omega arith
 
 turn-requires : tie.Need-turn-requires Inv-loop μ-loop
-turn-requires c κs = let p = c .before .before .before .before .before .before .before .before .before .before .before .before .before .before .before .before .before .before .pre in (p .0, (p .1 .0, (p .1 .1 .0, c .before .before .before .loop .inv .2)))
+turn-requires c κs =
+    let entry : tie.Start Inv-loop μ-loop = search in
+    let p = entry .pre in (p .0, (p .1 .0, (p .1 .1 .0, c .before .before .before .loop .inv .2)))
 
 same-length : tie.Need-same-length Inv-loop μ-loop
 same-length c = omega arith
@@ -37,7 +44,13 @@ same-length-2 : tie.Need-same-length-2 Inv-loop μ-loop
 same-length-2 c = omega arith
 
 returns : tie.Need-returns Inv-loop μ-loop
-returns c = λ sub g. turned-none sub _ _ _ _ _ _ g _ _ _ _ _ _ _ _ (c .before .before .before .before .before .before .before .before .before .loop .inv .2) (omega (arith, c .before .before .before .before .before .before .before .before .before .before .before .before .before .before .before .before .before .before .before .before .before .before .before .before .pre .1 .1 .1 .0 .few)) (c .before .before .before .before .before .before .before .before .before .loop .inv .5 sub g) (c .before .before .before .before .before .turn .ensures) (omega arith) (omega arith)
+returns c =
+    let after-turn : tie.After-turn Inv-loop μ-loop = search in
+    let at-loop : tie.At-loop Inv-loop μ-loop = search in
+    let after-begin : tie.After-begin Inv-loop μ-loop = search in
+    let after-shared-slice-known5 : tie.After-shared-slice-known5 Inv-loop μ-loop = search in
+    let entry : tie.Start Inv-loop μ-loop = search in
+    λ sub g. turned-none sub _ _ _ _ _ _ g _ _ _ _ _ _ _ _ (at-loop .loop .inv .2) (omega (arith, entry .pre .1 .1 .1 .0 .few)) (at-loop .loop .inv .5 sub g) (after-turn .turn .ensures) (omega arith) (omega arith)
 
 same-length-3 : tie.Need-same-length-3 Inv-loop μ-loop
 same-length-3 c = omega arith
@@ -46,7 +59,13 @@ same-length-4 : tie.Need-same-length-4 Inv-loop μ-loop
 same-length-4 c = omega arith
 
 returns-2 : tie.Need-returns-2 Inv-loop μ-loop
-returns-2 c = λ sub g. turned-found sub _ _ _ _ _ _ g _ _ _ _ _ _ _ _ (c .before .before .before .before .before .before .before .before .before .before .loop .inv .2) (omega (arith, c .before .before .before .before .before .before .before .before .before .before .before .before .before .before .before .before .before .before .before .before .before .before .before .before .before .pre .1 .1 .1 .0 .few)) (c .before .before .before .before .before .before .before .before .before .before .loop .inv .5 sub g) (c .before .before .before .before .before .before .turn .ensures) (λ e. omega arith) (omega arith) (omega arith)
+returns-2 c =
+    let after-turn : tie.After-turn Inv-loop μ-loop = search in
+    let at-loop : tie.At-loop Inv-loop μ-loop = search in
+    let after-begin : tie.After-begin Inv-loop μ-loop = search in
+    let after-shared-slice-known5 : tie.After-shared-slice-known5 Inv-loop μ-loop = search in
+    let entry : tie.Start Inv-loop μ-loop = search in
+    λ sub g. turned-found sub _ _ _ _ _ _ g _ _ _ _ _ _ _ _ (at-loop .loop .inv .2) (omega (arith, entry .pre .1 .1 .1 .0 .few)) (at-loop .loop .inv .5 sub g) (after-turn .turn .ensures) (λ e. omega arith) (omega arith) (omega arith)
 
 add-k : tie.Need-add-k Inv-loop μ-loop
 add-k c = omega arith
@@ -55,14 +74,19 @@ loop-less : tie.Need-loop-less Inv-loop μ-loop
 loop-less c = omega arith
 
 loop-again : tie.Need-loop-again Inv-loop μ-loop
-loop-again c = (
-  omega arith,
-  omega arith,
-  turned-any _ _ _ _ _ _ _ _ _ _ _ _ (c .before .before .before .before .before .before .before .before .before .before .loop .inv .2) (c .before .before .before .before .before .before .before .before .before .before .before .before .before .before .before .before .before .before .before .before .before .before .before .before .before .pre .1 .1 .0) (c .before .before .before .before .before .before .turn .ensures),
-  omega arith,
-  omega arith,
-  λ sub g. turned-more sub _ _ _ _ _ _ g _ _ _ _ _ _ _ _ (c .before .before .before .before .before .before .before .before .before .before .loop .inv .2) (omega (arith, c .before .before .before .before .before .before .before .before .before .before .before .before .before .before .before .before .before .before .before .before .before .before .before .before .before .pre .1 .1 .1 .0 .few)) (c .before .before .before .before .before .before .before .before .before .before .loop .inv .5 sub g) (c .before .before .before .before .before .before .turn .ensures) (λ e. omega arith) (λ e. omega arith),
-)
+loop-again c =
+    let after-turn : tie.After-turn Inv-loop μ-loop = search in
+    let at-loop : tie.At-loop Inv-loop μ-loop = search in
+    let after-begin : tie.After-begin Inv-loop μ-loop = search in
+    let after-shared-slice-known5 : tie.After-shared-slice-known5 Inv-loop μ-loop = search in
+    let entry : tie.Start Inv-loop μ-loop = search in (
+      omega arith,
+      omega arith,
+      turned-any _ _ _ _ _ _ _ _ _ _ _ _ (at-loop .loop .inv .2) (after-turn .turn .ensures),
+      omega (arith, c),
+      omega arith,
+      λ sub g. turned-more sub _ _ _ _ _ _ g _ _ _ _ _ _ _ _ (at-loop .loop .inv .2) (omega (arith, entry .pre .1 .1 .1 .0 .few)) (at-loop .loop .inv .5 sub g) (after-turn .turn .ensures) (λ e. omega arith) (λ e. omega arith),
+    )
 
 same-length-5 : tie.Need-same-length-5 Inv-loop μ-loop
 same-length-5 c = omega arith

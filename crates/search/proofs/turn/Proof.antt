@@ -21,37 +21,46 @@ mul-m c = search needs
 shared-slice-read-m : tie.Need-shared-slice-read-m
 shared-slice-read-m c = search needs
 
-close-requires : tie.Need-close-requires
-close-requires c κs = (c .before .before .before .before .before .before .before .before .before .before .before .pre .1 .1 .1 .heap, c .before .before .before .before .before .before .before .before .before .before .before .pre .1 .1 .0 .tip-ok (getD (c .before .before .before .before .before .before .before .before .before .before .before .args .seg .now) 1 0 % halves) (omega arith))
-
-same-length : tie.Need-same-length
-same-length c = search needs
-
 returns-2 : tie.Need-returns-2
-returns-2 c = found refl (omega arith) (c .before .before .before .close .ensures) (omega arith) refl
+returns-2 c = found refl (omega arith) (omega arith) refl refl
+
+close-requires : tie.Need-close-requires
+close-requires c κs =
+    let entry : tie.Start = search in
+    (entry .pre .1 .1 .1 .heap, entry .pre .1 .1 .0 .tip-ok (getD (entry .args .seg .now) 1 0 % halves) (omega arith))
 
 mul-relax : tie.Need-mul-relax
-mul-relax c = omega (arith, c .before .before .before .before .before .before .before .before .before .before .before .before .before .before .before .before .before .pre .1 .1 .0 .tip-ok (getD (c .before .before .before .before .before .before .before .before .before .before .before .before .before .before .before .before .before .args .seg .now) 1 0 % halves) (omega arith), c .before .before .before .before .before .before .before .before .before .before .before .before .before .before .before .before .before .pre .1 .1 .1 .heap .few)
+mul-relax c =
+    let entry : tie.Start = search in
+    omega (arith, entry .pre .1 .1 .0 .tip-ok (getD (entry .args .seg .now) 1 0 % halves) (omega arith), entry .pre .1 .1 .1 .heap .few)
 
 shared-slice-read-relax : tie.Need-shared-slice-read-relax
-shared-slice-read-relax c = omega (arith, c .before .before .before .before .before .before .before .before .before .before .before .before .before .before .before .before .before .before .pre .1 .1 .0 .tip-ok (getD (c .before .before .before .before .before .before .before .before .before .before .before .before .before .before .before .before .before .before .args .seg .now) 1 0 % halves) (omega arith), c .before .before .before .before .before .before .before .before .before .before .before .before .before .before .before .before .before .before .pre .1 .0 .heads)
+shared-slice-read-relax c =
+    let entry : tie.Start = search in
+    omega (arith, entry .pre .1 .1 .0 .tip-ok (getD (entry .args .seg .now) 1 0 % halves) (omega arith), entry .pre .1 .0 .heads)
 
 sub-relax : tie.Need-sub-relax
 sub-relax c = search needs
 
 relax-requires : tie.Need-relax-requires
-relax-requires c κs = let p = c .before .before .before .before .before .before .before .before .before .before .before .before .before .before .before .before .before .before .pre in
-    let ok = p .1 .1 .0 .tip-ok (getD (c .before .before .before .before .before .before .before .before .before .before .before .before .before .before .before .before .before .before .args .seg .now) 1 0 % halves) (omega arith) in
-    (p .0, (stage-close _ _ _ _ _ (p .1 .1 .1) ok (c .before .before .before .before .before .before .close .ensures), (p .1 .0 .head-ok _ ok, omega arith)))
+relax-requires c κs =
+    let after-close : tie.After-close = search in
+    let entry : tie.Start = search in
+    let p = entry .pre in
+    let ok = p .1 .1 .0 .tip-ok (getD (entry .args .seg .now) 1 0 % halves) (omega arith) in
+    (p .0, (stage-close _ _ _ _ _ (p .1 .1 .1) ok (after-close .close .ensures), (p .1 .0 .head-ok _ ok, omega arith)))
+
+same-length : tie.Need-same-length
+same-length c = search needs
 
 same-length-2 : tie.Need-same-length-2
 same-length-2 c = search needs
 
-same-length-3 : tie.Need-same-length-3
-same-length-3 c = search needs
-
 returns-3 : tie.Need-returns-3
-returns-3 c = more refl (omega arith) (c .before .before .before .before .before .before .before .before .before .before .before .close .last .0) (c .before .before .before .before .before .before .before .before .before .before .before .close .ensures) (λ e. omega arith) (c .before .before .before .before .relax .ensures)
+returns-3 c =
+    let after-relax : tie.After-relax = search in
+    let after-close : tie.After-close = search in
+    more refl (omega arith) (after-close .close .last .0) (after-close .close .ensures) (λ e. omega arith) (after-relax .relax .ensures)
 
 pub turn-spec : {M : Type 1} → statement M
 turn-spec =
@@ -61,13 +70,12 @@ turn-spec =
     returns
     mul-m
     shared-slice-read-m
-    close-requires
-    same-length
     returns-2
+    close-requires
     mul-relax
     shared-slice-read-relax
     sub-relax
     relax-requires
+    same-length
     same-length-2
-    same-length-3
     returns-3)

@@ -15,7 +15,7 @@ slice-aggregate-link-lines-3 c = search needs
 
 link-lines-requires : tie.Need-link-lines-requires
 link-lines-requires c κs =
-    let s = c .before .before .before .before .before .before .before in
+    let s : tie.Start = search in
     (s .pre .0, (empty-chains 256 (s .args .b) (s .pre .1 .0), space-zeros 1024 (s .args .n) (omega (arith, s .pre .0 .few))))
 
 slice-aggregate-write-rows : tie.Need-slice-aggregate-write-rows
@@ -28,7 +28,10 @@ slice-aggregate-write-rows-3 : tie.Need-slice-aggregate-write-rows-3
 slice-aggregate-write-rows-3 c = search needs
 
 write-rows-requires : tie.Need-write-rows-requires
-write-rows-requires c κs = let s = c .before .before .before .before .before .before .before .before .before .before .before .before .before .before .before .before .before .before .before in (s .pre .0, (c .before .before .before .before .before .before .before .before .before .before .before .link-lines .ensures .1, (s .pre .1 .1 .0, s .pre .1 .1 .1)))
+write-rows-requires c κs =
+    let after-link-lines : tie.After-link-lines = search in
+    let s : tie.Start = search in
+    (s .pre .0, (after-link-lines .link-lines .ensures .1, (s .pre .1 .1 .0, s .pre .1 .1 .1)))
 
 same-length : tie.Need-same-length
 same-length c = search needs

@@ -26,8 +26,9 @@ sub-i c = search needs
 
 link-line-requires : tie.Need-link-line-requires Inv-loop μ-loop
 link-line-requires c κs =
-    let s = c .before .before .before .before .before .before .before .before in
-    let l = c .before .before .before .before .loop in
+    let at-loop : tie.At-loop Inv-loop μ-loop = search in
+    let s : tie.Start Inv-loop μ-loop = search in
+    let l = at-loop .loop in
     let t = c .before .before .before .loop-test .taken in
     let e : l .i - 1 + 1 ≡ l .i = omega arith in
     let r = s .pre .1 .1 in
@@ -38,9 +39,12 @@ loop-less c = search needs
 
 loop-again : tie.Need-loop-again Inv-loop μ-loop
 loop-again c =
-    let l = c .before .before .before .before .before .before .before .before .before .before .before .loop in
-    let k = c .before .before .before .before .before .before .link-line in
-    let t = c .before .before .before .before .before .before .before .before .before .before .loop-test .taken in
+    let after-link-line : tie.After-link-line Inv-loop μ-loop = search in
+    let in-loop : tie.In-loop Inv-loop μ-loop = search in
+    let at-loop : tie.At-loop Inv-loop μ-loop = search in
+    let l = at-loop .loop in
+    let k = after-link-line .link-line in
+    let t = in-loop .loop-test .taken in
     (omega arith, omega (arith, k .ensures .0), k .kept .1 .0 ∙ l .inv .2, k .kept .1 .1 .0 ∙ l .inv .3, k .kept .1 .1 .1 .0 ∙ l .inv .4, k .ensures .1)
 
 same-length : tie.Need-same-length Inv-loop μ-loop
@@ -54,7 +58,7 @@ same-length-3 c = c .before .loop .inv .4
 
 returns : tie.Need-returns Inv-loop μ-loop
 returns c =
-    let s = c .before .before .before .before .before in
+    let s : tie.Start Inv-loop μ-loop = search in
     let l = c .before .loop in
     (search needs, linked-all (s .args .lines .now) (s .args .b) (s .args .n) (l .c) (l .i) (l .head) (l .next) (l .half) (c .loop-test .left) (l .inv .5))
 

@@ -22,7 +22,7 @@ abbrev μ-loop : tie.MeasureT-loop
 μ-loop lines next half other₀ rise₀ weight₀ b n k p a c₀ q₀ other rise weight c q = q
 
 abbrev start-of : tie.At-loop Inv-loop μ-loop → tie.Start Inv-loop μ-loop
-start-of c = c .before .before .before .before .before
+start-of c = search
 
 -- the chain that is left has a first sight
 unrolled : (c : tie.In-loop Inv-loop μ-loop) →
@@ -40,7 +40,7 @@ unrolled c =
 
 loop-holds : tie.Need-loop-holds Inv-loop μ-loop
 loop-holds c =
-    let s = c .before .before .before .before in (
+    let s : tie.Start Inv-loop μ-loop = search in (
       s .pre .1 .1 .0,
       refl,
       refl,
@@ -52,38 +52,55 @@ sub-j : tie.Need-sub-j Inv-loop μ-loop
 sub-j c = search needs
 
 mul-write-half : tie.Need-mul-write-half Inv-loop μ-loop
-mul-write-half c = let l = c .before .before .before .before in omega (arith, l .loop .inv .0, start-of l .pre .1 .0 .halves)
+mul-write-half c =
+    let l : tie.At-loop Inv-loop μ-loop = search in
+    omega (arith, l .loop .inv .0, start-of l .pre .1 .0 .halves)
 
 shared-slice-read-write-half : tie.Need-shared-slice-read-write-half Inv-loop μ-loop
-shared-slice-read-write-half c = let l = c .before .before .before .before .before in let t = c .before .before .before .before .loop-test .taken in omega (arith, l .loop .inv .0, start-of l .pre .1 .0 .halves)
+shared-slice-read-write-half c =
+    let in-loop : tie.In-loop Inv-loop μ-loop = search in
+    let l : tie.At-loop Inv-loop μ-loop = search in
+    let t = in-loop .loop-test .taken in omega (arith, l .loop .inv .0, start-of l .pre .1 .0 .halves)
 
 write-half-requires : tie.Need-write-half-requires Inv-loop μ-loop
 write-half-requires c κs =
-    let i = c .before .before .before .before in
+    let i : tie.In-loop Inv-loop μ-loop = search in
     let l = i .before in
     let s = start-of l in
     let t = i .loop-test .taken in
     (place-of (s .args .lines .now) (s .args .b) (s .args .n) (getD (s .args .half .now) (l .loop .q - 1) 0 / 2) (s .pre .0) (s .pre .1 .0 .names (l .loop .q - 1) (omega (arith, l .loop .inv .0))), (room-one (unrolled i), l .loop .inv .4 .range))
 
 add-c : tie.Need-add-c Inv-loop μ-loop
-add-c c = let f = room-one (unrolled (c .before .before .before .before .before .before .before .before .before .before)) in omega (arith, f .others, c .before .before .before .before .before .before .before .before .before .before .before .loop .inv .1, start-of (c .before .before .before .before .before .before .before .before .before .before .before) .good)
+add-c c =
+    let in-loop : tie.In-loop Inv-loop μ-loop = search in
+    let at-loop : tie.At-loop Inv-loop μ-loop = search in
+    let f = room-one (unrolled in-loop) in omega (arith, f .others, at-loop .loop .inv .1, start-of at-loop .good)
 
 mul-q : tie.Need-mul-q Inv-loop μ-loop
-mul-q c = let l = c .before .before .before .before .before .before .before .before .before .before .before in omega (arith, l .loop .inv .0, start-of l .pre .1 .0 .nexts)
+mul-q c =
+    let l : tie.At-loop Inv-loop μ-loop = search in
+    omega (arith, l .loop .inv .0, start-of l .pre .1 .0 .nexts)
 
 shared-slice-read-q : tie.Need-shared-slice-read-q Inv-loop μ-loop
-shared-slice-read-q c = let l = c .before .before .before .before .before .before .before .before .before .before .before .before in let t = c .before .before .before .before .before .before .before .before .before .before .before .loop-test .taken in omega (arith, l .loop .inv .0, start-of l .pre .1 .0 .nexts)
+shared-slice-read-q c =
+    let in-loop : tie.In-loop Inv-loop μ-loop = search in
+    let l : tie.At-loop Inv-loop μ-loop = search in
+    let t = in-loop .loop-test .taken in omega (arith, l .loop .inv .0, start-of l .pre .1 .0 .nexts)
 
 loop-less : tie.Need-loop-less Inv-loop μ-loop
-loop-less c = let l = c .before .before .before .before .before .before .before .before .before .before .before .before in let t = c .before .before .before .before .before .before .before .before .before .before .before .loop-test .taken in omega (arith, start-of l .pre .1 .0 .falls (l .loop .q - 1) (omega (arith, l .loop .inv .0)))
+loop-less c =
+    let in-loop : tie.In-loop Inv-loop μ-loop = search in
+    let l : tie.At-loop Inv-loop μ-loop = search in
+    let t = in-loop .loop-test .taken in omega (arith, start-of l .pre .1 .0 .falls (l .loop .q - 1) (omega (arith, l .loop .inv .0)))
 
 loop-again : tie.Need-loop-again Inv-loop μ-loop
 loop-again c =
-    let i = c .before .before .before .before .before .before .before .before .before .before .before in
+    let after-write-half : tie.After-write-half Inv-loop μ-loop = search in
+    let i : tie.In-loop Inv-loop μ-loop = search in
     let l = i .before in
     let s = start-of l in
     let t = i .loop-test .taken in
-    let w = c .before .before .before .before .before .before .write-half in
+    let w = after-write-half .write-half in
     let j = getD (s .args .half .now) (l .loop .q - 1) 0 in
     let named = s .pre .1 .0 .names (l .loop .q - 1) (omega (arith, l .loop .inv .0)) in (
       omega (arith, l .loop .inv .0, s .pre .1 .0 .falls (l .loop .q - 1) (omega (arith, l .loop .inv .0))),

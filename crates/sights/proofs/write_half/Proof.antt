@@ -48,7 +48,7 @@ same-length-3 c = search needs
 
 returns : tie.Need-returns
 returns c =
-    let s = c .before .before .before .before .before in
+    let s : tie.Start = search in
     let o = c .before .before .other-of in
     let r = c .before .rise-of in
     let w = c .weight-of in

@@ -25,12 +25,15 @@ shared-slice-read-write-chain : tie.Need-shared-slice-read-write-chain
 shared-slice-read-write-chain c = search needs
 
 write-chain-requires : tie.Need-write-chain-requires
-write-chain-requires c κs = let s = c .before .before .before .before .before .before .before .before .before .before .before in (s .pre .0, (s .pre .1 .0 .nodes, (s .pre .1 .0 .heads .low (s .args .v) (s .pre .1 .1 .1 .1), (s .pre .1 .1 .0 .range, row-room (sightsOf (standing (s .args .lines .now))) (s .args .first .now) (s .args .other .now) (s .args .rise .now) (s .args .weight .now) (s .args .total .now) (s .args .b) (s .args .v) (s .args .c) (s .pre .1 .1 .1 .0) (s .pre .1 .1 .0) (s .pre .1 .1 .1 .1) (chain (s .args .lines .now) (s .args .next .now) (s .args .half .now) (getD (s .args .head .now) (s .args .v) 0)) (s .pre .1 .0 .holds (s .args .v) (s .pre .1 .1 .1 .1))))))
+write-chain-requires c κs =
+    let s : tie.Start = search in
+    (s .pre .0, (s .pre .1 .0 .nodes, (s .pre .1 .0 .heads .low (s .args .v) (s .pre .1 .1 .1 .1), (s .pre .1 .1 .0 .range, row-room (sightsOf (standing (s .args .lines .now))) (s .args .first .now) (s .args .other .now) (s .args .rise .now) (s .args .weight .now) (s .args .total .now) (s .args .b) (s .args .v) (s .args .c) (s .pre .1 .1 .1 .0) (s .pre .1 .1 .0) (s .pre .1 .1 .1 .1) (chain (s .args .lines .now) (s .args .next .now) (s .args .half .now) (getD (s .args .head .now) (s .args .v) 0)) (s .pre .1 .0 .holds (s .args .v) (s .pre .1 .1 .1 .1))))))
 
 total-of-requires : tie.Need-total-of-requires
 total-of-requires c κs =
-    let s = c .before .before .before .before .before .before .before .before .before .before .before .before .before .before .before .before .before .before in
-    let w = c .before .before .before .before .before .before .write-chain in
+    let after-write-chain : tie.After-write-chain = search in
+    let s : tie.Start = search in
+    let w = after-write-chain .write-chain in
     row-weights (sightsOf (standing (s .args .lines .now))) (s .args .first .now) (s .args .other .now) (s .args .rise .now) (s .args .weight .now) (s .args .total .now) (s .args .b) (s .args .v) (s .args .c) (s .pre .1 .1 .1 .0) (s .pre .1 .1 .0) (s .pre .1 .1 .1 .1) (chain (s .args .lines .now) (s .args .next .now) (s .args .half .now) (getD (s .args .head .now) (s .args .v) 0)) (s .pre .1 .0 .holds (s .args .v) (s .pre .1 .1 .1 .1)) (w .last .1 .1 .1 .1 .1 .0) (w .result) (w .ensures .0) (w .kept .1 .1 .1 .1 .1 .0) (w .ensures .1 .range .weightIn)
 
 mul-total : tie.Need-mul-total
@@ -56,8 +59,9 @@ same-length-5 c = search needs
 
 returns : tie.Need-returns
 returns c =
-    let s = c .before .before .before .before .before .before .before .before .before .before .before .before .before .before .before .before .before .before .before in
-    let w = c .before .before .before .before .before .before .before .write-chain in
+    let after-write-chain : tie.After-write-chain = search in
+    let s : tie.Start = search in
+    let w = after-write-chain .write-chain in
     let e = s .pre .1 .0 .holds (s .args .v) (s .pre .1 .1 .1 .1) in
     let l = s .pre .1 .1 .1 .1 in
     rowed-next (sightsOf (standing (s .args .lines .now))) (s .args .first .now) (s .args .other .now) (s .args .rise .now) (s .args .weight .now) (s .args .total .now) (set (s .args .first .now) (s .args .v) (s .args .c)) (w .last .1 .1 .1 .0) (w .last .1 .1 .1 .1 .0) (w .last .1 .1 .1 .1 .1 .0) (set (s .args .total .now) (s .args .v) (c .total-of .result))

@@ -19,25 +19,36 @@ abbrev μ-loop : tie.MeasureT-loop
 μ-loop lines head next half first₀ other₀ rise₀ weight₀ total₀ b n k c₀ v₀ first other rise weight total c v = b - v
 
 loop-holds : tie.Need-loop-holds Inv-loop μ-loop
-loop-holds c = let s = c .before .before .before .before .before .before .before in (search needs, refl, refl, refl, refl, refl, rowed-none (sightsOf (standing (s .args .lines .now))) (s .args .first .now) (s .args .other .now) (s .args .rise .now) (s .args .weight .now) (s .args .total .now) (s .args .b) (s .pre .1 .1 .0))
+loop-holds c =
+    let s : tie.Start Inv-loop μ-loop = search in
+    (search needs, refl, refl, refl, refl, refl, rowed-none (sightsOf (standing (s .args .lines .now))) (s .args .first .now) (s .args .other .now) (s .args .rise .now) (s .args .weight .now) (s .args .total .now) (s .args .b) (s .pre .1 .1 .0))
 
 write-row-requires : tie.Need-write-row-requires Inv-loop μ-loop
 write-row-requires c κs =
-    let s = c .before .before .before .before .before .before .before .before .before .before .before .before .before .before in
-    let l = c .before .before .before .before .before .before .loop in
-    (s .pre .0, (s .pre .1 .0, (l .inv .6, (broad-kept (sightsOf (standing (s .args .lines .now))) (s .args .first .now) (s .args .other .now) (s .args .rise .now) (s .args .weight .now) (s .args .total .now) (l .first) (l .other) (l .rise) (l .weight) (l .total) (s .args .b) (s .pre .1 .1 .1) (l .inv .1) (l .inv .2) (l .inv .3) (l .inv .4) (l .inv .5), c .before .before .before .before .before .loop-test .taken))))
+    let in-loop : tie.In-loop Inv-loop μ-loop = search in
+    let at-loop : tie.At-loop Inv-loop μ-loop = search in
+    let s : tie.Start Inv-loop μ-loop = search in
+    let l = at-loop .loop in
+    (s .pre .0, (s .pre .1 .0, (l .inv .6, (broad-kept (sightsOf (standing (s .args .lines .now))) (s .args .first .now) (s .args .other .now) (s .args .rise .now) (s .args .weight .now) (s .args .total .now) (l .first) (l .other) (l .rise) (l .weight) (l .total) (s .args .b) (s .pre .1 .1 .1) (l .inv .1) (l .inv .2) (l .inv .3) (l .inv .4) (l .inv .5), in-loop .loop-test .taken))))
 
 add-v : tie.Need-add-v Inv-loop μ-loop
-add-v c = omega (arith, c .before .before .before .before .before .before .before .before .before .before .before .before .before .before .before .loop-test .taken)
+add-v c =
+    let in-loop : tie.In-loop Inv-loop μ-loop = search in
+    omega (arith, in-loop .loop-test .taken)
 
 loop-less : tie.Need-loop-less Inv-loop μ-loop
-loop-less c = omega (arith, c .before .before .before .before .before .before .before .before .before .before .before .before .before .before .before .loop-test .taken)
+loop-less c =
+    let in-loop : tie.In-loop Inv-loop μ-loop = search in
+    omega (arith, in-loop .loop-test .taken)
 
 loop-again : tie.Need-loop-again Inv-loop μ-loop
 loop-again c =
-    let l = c .before .before .before .before .before .before .before .before .before .before .before .before .before .before .before .before .loop in
-    let w = c .before .before .before .before .before .before .before .before .before .write-row in (
-      omega (arith, c .before .before .before .before .before .before .before .before .before .before .before .before .before .before .before .loop-test .taken),
+    let after-write-row : tie.After-write-row Inv-loop μ-loop = search in
+    let in-loop : tie.In-loop Inv-loop μ-loop = search in
+    let at-loop : tie.At-loop Inv-loop μ-loop = search in
+    let l = at-loop .loop in
+    let w = after-write-row .write-row in (
+      omega (arith, in-loop .loop-test .taken),
       w .kept .1 .1 .1 .1 .0 ∙ l .inv .1,
       w .kept .1 .1 .1 .1 .1 .0 ∙ l .inv .2,
       w .kept .1 .1 .1 .1 .1 .1 .0 ∙ l .inv .3,
@@ -47,10 +58,14 @@ loop-again c =
     )
 
 mul-first : tie.Need-mul-first Inv-loop μ-loop
-mul-first c = let s = c .before .before .before .before .before .before .before .before .before in omega (arith, s .pre .1 .1 .1 .firsts)
+mul-first c =
+    let s : tie.Start Inv-loop μ-loop = search in
+    omega (arith, s .pre .1 .1 .1 .firsts)
 
 slice-write-first : tie.Need-slice-write-first Inv-loop μ-loop
-slice-write-first c = let s = c .before .before .before .before .before .before .before .before .before in omega (arith, s .pre .1 .1 .1 .firsts, c .before .loop .inv .1)
+slice-write-first c =
+    let s : tie.Start Inv-loop μ-loop = search in
+    omega (arith, s .pre .1 .1 .1 .firsts, c .before .loop .inv .1)
 
 same-length : tie.Need-same-length Inv-loop μ-loop
 same-length c = simp length-set (c .before .loop .inv .1)
@@ -69,7 +84,7 @@ same-length-5 c = c .before .loop .inv .5
 
 returns : tie.Need-returns Inv-loop μ-loop
 returns c =
-    let s = c .before .before .before .before .before .before .before .before .before in
+    let s : tie.Start Inv-loop μ-loop = search in
     let l = c .before .loop in
     let e : l .v ≡ s .args .b = omega (arith, c .loop-test .left) in
     let f = set (l .first) (s .args .b) (l .c) in

@@ -22,13 +22,19 @@ loop-holds : tie.Need-loop-holds Inv-loop μ-loop
 loop-holds c = (search needs, refl, λ u l. absurd (omega arith))
 
 start-at-requires : tie.Need-start-at-requires Inv-loop μ-loop
-start-at-requires c κs = let s = c .before .before .before .before in (c .loop-test .taken, (s .pre .1 .0, s .pre .1 .1))
+start-at-requires c κs =
+    let s : tie.Start Inv-loop μ-loop = search in
+    (c .loop-test .taken, (s .pre .1 .0, s .pre .1 .1))
 
 mul-z : tie.Need-mul-z Inv-loop μ-loop
-mul-z c = let s = c .before .before .before .before .before in omega (arith, c .before .loop-test .taken, s .pre .1 .0 .few)
+mul-z c =
+    let s : tie.Start Inv-loop μ-loop = search in
+    omega (arith, c .before .loop-test .taken, s .pre .1 .0 .few)
 
 slice-set-from-z : tie.Need-slice-set-from-z Inv-loop μ-loop
-slice-set-from-z c = let s = c .before .before .before .before .before in omega (arith, c .before .loop-test .taken, s .pre .0, c .before .before .loop .inv .1)
+slice-set-from-z c =
+    let s : tie.Start Inv-loop μ-loop = search in
+    omega (arith, c .before .loop-test .taken, s .pre .0, c .before .before .loop .inv .1)
 
 add-v : tie.Need-add-v Inv-loop μ-loop
 add-v c = omega (arith, c .before .loop-test .taken)
@@ -38,7 +44,7 @@ loop-less c = omega (arith, c .before .loop-test .taken)
 
 loop-again : tie.Need-loop-again Inv-loop μ-loop
 loop-again c =
-    let s = c .before .before .before .before .before in
+    let s : tie.Start Inv-loop μ-loop = search in
     let l = c .before .before .loop in
     let r = c .start-at in (
       omega (arith, c .before .loop-test .taken),
@@ -51,7 +57,7 @@ same-length c = c .before .loop .inv .1
 
 returns : tie.Need-returns Inv-loop μ-loop
 returns c =
-    let s = c .before .before .before .before in
+    let s : tie.Start Inv-loop μ-loop = search in
     let l = c .before .loop in
     record { all = l .inv .1 ∙ s .pre .0; each = λ v h. l .inv .2 v (omega (arith, c .loop-test .left)) }
 

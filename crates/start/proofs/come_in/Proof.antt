@@ -35,7 +35,9 @@ sub-from-mark : tie.Need-sub-from-mark
 sub-from-mark c = search needs
 
 from-mark-requires : tie.Need-from-mark-requires
-from-mark-requires c κs = let s = c .before .before .before .before .before in place-of (s .args .lines .now) (s .args .b) (s .args .n) (s .args .j - 1) (s .pre .0) (omega (arith, s .pre .1 .1 .2, c .before .before .before .if1 .left))
+from-mark-requires c κs =
+    let s : tie.Start = search in
+    place-of (s .args .lines .now) (s .args .b) (s .args .n) (s .args .j - 1) (s .pre .0) (omega (arith, s .pre .1 .1 .2, c .before .before .before .if1 .left))
 
 sub-t14 : tie.Need-sub-t14
 sub-t14 c = search needs
@@ -56,15 +58,22 @@ shared-slice-copy-out-add : tie.Need-shared-slice-copy-out-add
 shared-slice-copy-out-add c = search needs
 
 add-requires : tie.Need-add-requires
-add-requires c κs = let s = c .before .before .before .before .before .before .before .before in let d = c .before .before .before .before .before .difference-of in rw (over-read s (c .before .before .from-mark .result - 1), back (d .result) (d .ok)) (omega (arith, s .pre .1 .0 .size (c .before .before .from-mark .result - 1), s .pre .1 .1 .3, d .ensures .1))
+add-requires c κs =
+    let after-difference-of : tie.After-difference-of = search in
+    let s : tie.Start = search in
+    let d = after-difference-of .difference-of in rw (over-read s (c .before .before .from-mark .result - 1), back (d .result) (d .ok)) (omega (arith, s .pre .1 .0 .size (c .before .before .from-mark .result - 1), s .pre .1 .1 .3, d .ensures .1))
 
 returns-2 : tie.Need-returns-2
 returns-2 c =
-    let s = c .before .before .before .before .before .before .before .before .before in
-    let d = c .before .before .before .before .before .before .difference-of in
+    let then2 : tie.Then2 = search in
+    let after-to-mark : tie.After-to-mark = search in
+    let after-difference-of : tie.After-difference-of = search in
+    let else1 : tie.Else1 = search in
+    let s : tie.Start = search in
+    let d = after-difference-of .difference-of in
     let f = c .before .before .before .from-mark in
-    let t = c .before .before .before .before .before .to-mark in
-    come-up (s .args .lines .now) (s .args .root .now) (s .args .over .now) (s .args .b) (s .args .k) (s .args .m) (s .pre .1 .0) (s .args .j) (f .result) (d .result) (toZ w64 (ofZ w64 (c .add .result))) (omega (arith, c .before .before .before .before .before .before .before .if1 .left)) (sym (t .ensures .0) ∙ c .before .before .before .before .if2 .taken) (f .ensures .0) (f .ensures .1) (f .ensures .2) (d .ensures .0) (d .ensures .1)
+    let t = after-to-mark .to-mark in
+    come-up (s .args .lines .now) (s .args .root .now) (s .args .over .now) (s .args .b) (s .args .k) (s .args .m) (s .pre .1 .0) (s .args .j) (f .result) (d .result) (toZ w64 (ofZ w64 (c .add .result))) (omega (arith, else1 .if1 .left)) (sym (t .ensures .0) ∙ then2 .if2 .taken) (f .ensures .0) (f .ensures .1) (f .ensures .2) (d .ensures .0) (d .ensures .1)
     (stored (c .add .result) (c .add .ok) (c .add .ensures ∙ rw (over-read s (f .result - 1), back (d .result) (d .ok))))
 
 sub-t13 : tie.Need-sub-t13
@@ -86,14 +95,20 @@ shared-slice-copy-out-sub : tie.Need-shared-slice-copy-out-sub
 shared-slice-copy-out-sub c = search needs
 
 sub-requires : tie.Need-sub-requires
-sub-requires c κs = let s = c .before .before .before .before .before .before .before in let d = c .before .before .before .before .difference-of in rw (over-read s (c .before .before .before .to-mark .result - 1), back (d .result) (d .ok)) (omega (arith, s .pre .1 .0 .size (c .before .before .before .to-mark .result - 1), s .pre .1 .1 .3, d .ensures .1))
+sub-requires c κs =
+    let after-difference-of : tie.After-difference-of = search in
+    let s : tie.Start = search in
+    let d = after-difference-of .difference-of in rw (over-read s (c .before .before .before .to-mark .result - 1), back (d .result) (d .ok)) (omega (arith, s .pre .1 .0 .size (c .before .before .before .to-mark .result - 1), s .pre .1 .1 .3, d .ensures .1))
 
 returns-3 : tie.Need-returns-3
 returns-3 c =
-    let s = c .before .before .before .before .before .before .before .before in
-    let d = c .before .before .before .before .before .difference-of in
-    let t = c .before .before .before .before .to-mark in
-    come-down (s .args .lines .now) (s .args .root .now) (s .args .over .now) (s .args .b) (s .args .k) (s .args .m) (s .pre .1 .0) (s .args .j) (t .result) (d .result) (toZ w64 (ofZ w64 (c .sub .result))) (omega (arith, c .before .before .before .before .before .before .if1 .left)) (c .before .before .before .if2 .left) (t .ensures .0) (t .ensures .1) (t .ensures .2) (d .ensures .0) (d .ensures .1)
+    let after-to-mark : tie.After-to-mark = search in
+    let after-difference-of : tie.After-difference-of = search in
+    let else1 : tie.Else1 = search in
+    let s : tie.Start = search in
+    let d = after-difference-of .difference-of in
+    let t = after-to-mark .to-mark in
+    come-down (s .args .lines .now) (s .args .root .now) (s .args .over .now) (s .args .b) (s .args .k) (s .args .m) (s .pre .1 .0) (s .args .j) (t .result) (d .result) (toZ w64 (ofZ w64 (c .sub .result))) (omega (arith, else1 .if1 .left)) (c .before .before .before .if2 .left) (t .ensures .0) (t .ensures .1) (t .ensures .2) (d .ensures .0) (d .ensures .1)
     (stored (c .sub .result) (c .sub .ok) (c .sub .ensures ∙ rw (over-read s (t .result - 1), back (d .result) (d .ok))))
 
 pub come-in-spec : {M : Type 1} → statement M

@@ -23,25 +23,39 @@ shared-slice-read-come-in : tie.Need-shared-slice-read-come-in
 shared-slice-read-come-in c = search needs
 
 come-in-requires : tie.Need-come-in-requires
-come-in-requires c κs = let s = c .before .before .before .before .before .before .before in let g = s .pre .1 .0 .marks (s .args .k) (s .pre .1 .1 .1 .0) in (s .pre .0, (s .pre .1 .1 .0 .spotted, (g .0, g .1, s .pre .1 .0 .lines (s .args .k) (s .pre .1 .1 .1 .0), omega (arith, s .pre .1 .1 .1 .0, s .pre .1 .1 .1 .1))))
+come-in-requires c κs =
+    let s : tie.Start = search in
+    let g = s .pre .1 .0 .marks (s .args .k) (s .pre .1 .1 .1 .0) in (s .pre .0, (s .pre .1 .1 .0 .spotted, (g .0, g .1, s .pre .1 .0 .lines (s .args .k) (s .pre .1 .1 .1 .0), omega (arith, s .pre .1 .1 .1 .0, s .pre .1 .1 .1 .1))))
 
 sub-root : tie.Need-sub-root
-sub-root c = let s = c .before .before .before .before .before .before .before .before .before in let g = s .pre .1 .0 .marks (s .args .k) (s .pre .1 .1 .1 .0) in g .0
+sub-root c =
+    let s : tie.Start = search in
+    let g = s .pre .1 .0 .marks (s .args .k) (s .pre .1 .1 .1 .0) in g .0
 
 mul-root : tie.Need-mul-root
-mul-root c = let s = c .before .before .before .before .before .before .before .before .before in let g = s .pre .1 .0 .marks (s .args .k) (s .pre .1 .1 .1 .0) in omega (arith, g .1, s .pre .1 .1 .1 .1)
+mul-root c =
+    let s : tie.Start = search in
+    let g = s .pre .1 .0 .marks (s .args .k) (s .pre .1 .1 .1 .0) in omega (arith, g .1, s .pre .1 .1 .1 .1)
 
 slice-write-root : tie.Need-slice-write-root
-slice-write-root c = let s = c .before .before .before .before .before .before .before .before .before in let g = s .pre .1 .0 .marks (s .args .k) (s .pre .1 .1 .1 .0) in omega (arith, g .0, g .1, s .pre .1 .1 .0 .spotted .roots)
+slice-write-root c =
+    let s : tie.Start = search in
+    let g = s .pre .1 .0 .marks (s .args .k) (s .pre .1 .1 .1 .0) in omega (arith, g .0, g .1, s .pre .1 .1 .0 .spotted .roots)
 
 sub-its-over : tie.Need-sub-its-over
-sub-its-over c = let s = c .before .before .before .before .before .before .before .before .before in let g = s .pre .1 .0 .marks (s .args .k) (s .pre .1 .1 .1 .0) in g .0
+sub-its-over c =
+    let s : tie.Start = search in
+    let g = s .pre .1 .0 .marks (s .args .k) (s .pre .1 .1 .1 .0) in g .0
 
 mul-its-over : tie.Need-mul-its-over
-mul-its-over c = let s = c .before .before .before .before .before .before .before .before .before in let g = s .pre .1 .0 .marks (s .args .k) (s .pre .1 .1 .1 .0) in omega (arith, g .1, s .pre .1 .1 .1 .1)
+mul-its-over c =
+    let s : tie.Start = search in
+    let g = s .pre .1 .0 .marks (s .args .k) (s .pre .1 .1 .1 .0) in omega (arith, g .1, s .pre .1 .1 .1 .1)
 
 slice-set-from-its-over : tie.Need-slice-set-from-its-over
-slice-set-from-its-over c = let s = c .before .before .before .before .before .before .before .before .before in let g = s .pre .1 .0 .marks (s .args .k) (s .pre .1 .1 .1 .0) in omega (arith, g .0, g .1, s .pre .1 .1 .0 .spotted .overs)
+slice-set-from-its-over c =
+    let s : tie.Start = search in
+    let g = s .pre .1 .0 .marks (s .args .k) (s .pre .1 .1 .1 .0) in omega (arith, g .0, g .1, s .pre .1 .1 .0 .spotted .overs)
 
 same-length : tie.Need-same-length
 same-length c = search needs
@@ -51,7 +65,7 @@ same-length-2 c = search needs
 
 returns : tie.Need-returns
 returns c =
-    let s = c .before .before .before .before .before .before .before .before .before in
+    let s : tie.Start = search in
     let r = c .before .come-in in
     let e : toZ w64 (ofZ w64 (r .result .over)) ≡ r .result .over = read (r .result .over) ((s .args .k + 1) * 100000000) (r .ensures .size) (omega (arith, s .pre .1 .1 .1 .0, s .pre .1 .1 .1 .1)) in
     rw e

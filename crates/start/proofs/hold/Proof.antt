@@ -44,13 +44,19 @@ shared-slice-copy-out-z : tie.Need-shared-slice-copy-out-z
 shared-slice-copy-out-z c = search needs
 
 slice-write-flags : tie.Need-slice-write-flags
-slice-write-flags c = let s = c .before .before .before .before in omega (arith, mark-read (c .before), s .pre .0 .good .mark .low, s .pre .0 .good .mark .high, s .pre .1 .flagged)
+slice-write-flags c =
+    let s : tie.Start = search in
+    omega (arith, mark-read (c .before), s .pre .0 .good .mark .low, s .pre .0 .good .mark .high, s .pre .1 .flagged)
 
 mul-z-2 : tie.Need-mul-z-2
-mul-z-2 c = let s = c .before .before .before .before in omega (arith, mark-read (c .before), s .pre .0 .good .mark .high, s .pre .1 .heighted)
+mul-z-2 c =
+    let s : tie.Start = search in
+    omega (arith, mark-read (c .before), s .pre .0 .good .mark .high, s .pre .1 .heighted)
 
 slice-set-from-z : tie.Need-slice-set-from-z
-slice-set-from-z c = let s = c .before .before .before .before in omega (arith, mark-read (c .before), s .pre .0 .good .mark .low, s .pre .0 .good .mark .high, s .pre .1 .heighted)
+slice-set-from-z c =
+    let s : tie.Start = search in
+    omega (arith, mark-read (c .before), s .pre .0 .good .mark .low, s .pre .0 .good .mark .high, s .pre .1 .heighted)
 
 same-length : tie.Need-same-length
 same-length c = search needs
@@ -60,7 +66,7 @@ same-length-2 c = search needs
 
 returns : tie.Need-returns
 returns c =
-    let s = c .before .before .before .before in
+    let s : tie.Start = search in
     held-more (s .args .held .now) (s .args .flags .now) (s .args .own .now) (s .args .b) (s .args .i) (c .before .index .result - 1) (toZ w64 (ofZ w64 (heightAt (s .args .held .now) (s .args .i)))) (s .pre .0) (s .pre .1)
     (omega (arith, mark-read (c .before), s .pre .0 .good .mark .low)) (read (heightAt (s .args .held .now) (s .args .i)) 10000000000 (s .pre .0 .good .height) (omega arith))
 

@@ -23,20 +23,24 @@ sub-i c = search needs
 
 hold-requires : tie.Need-hold-requires Inv-loop μ-loop
 hold-requires c κs =
-    let s = c .before .before .before .before .before in
+    let s : tie.Start Inv-loop μ-loop = search in
     let l = c .before .before .before .loop in
     let t = c .before .before .loop-test .taken in
     let e : l .i - 1 + 1 ≡ l .i = omega arith in
     (held-place (s .args .held .now) (s .args .b) (s .args .h) (l .i - 1) (s .pre .0) (omega arith), rw e (l .inv .3))
 
 loop-less : tie.Need-loop-less Inv-loop μ-loop
-loop-less c = let t = c .before .before .before .before .before .before .loop-test .taken in omega arith
+loop-less c =
+    let in-loop : tie.In-loop Inv-loop μ-loop = search in
+    let t = in-loop .loop-test .taken in omega arith
 
 loop-again : tie.Need-loop-again Inv-loop μ-loop
 loop-again c =
-    let l = c .before .before .before .before .before .before .before .loop in
+    let in-loop : tie.In-loop Inv-loop μ-loop = search in
+    let at-loop : tie.At-loop Inv-loop μ-loop = search in
+    let l = at-loop .loop in
     let e = c .before .before .before .hold in
-    (omega (arith, c .before .before .before .before .before .before .loop-test .taken), e .kept .1 .0 ∙ l .inv .1, e .kept .1 .1 .0 ∙ l .inv .2, e .ensures)
+    (omega (arith, in-loop .loop-test .taken), e .kept .1 .0 ∙ l .inv .1, e .kept .1 .1 .0 ∙ l .inv .2, e .ensures)
 
 same-length : tie.Need-same-length Inv-loop μ-loop
 same-length c = c .before .loop .inv .1

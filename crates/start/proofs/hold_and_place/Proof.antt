@@ -6,15 +6,18 @@ use Rattle.start.proofs.hold_and_place.Statement.{statement}
 use Rattle.start.proofs.hold_and_place.Tie as tie
 
 hold-all-requires : tie.Need-hold-all-requires
-hold-all-requires c κs = let s = c .before .before .before .before .before .before in let k = s .pre .1 .0 in (s .pre .0 .heldGood, held-none (s .args .held .now) (s .args .flags .now) (s .args .own .now) (s .args .b) (s .args .h) (s .pre .0 .heldGood) (k .flagged) (k .heighted) (k .none) (k .zero))
+hold-all-requires c κs =
+    let s : tie.Start = search in
+    let k = s .pre .1 .0 in (s .pre .0 .heldGood, held-none (s .args .held .now) (s .args .flags .now) (s .args .own .now) (s .args .b) (s .args .h) (s .pre .0 .heldGood) (k .flagged) (k .heighted) (k .none) (k .zero))
 
 seed-requires : tie.Need-seed-requires
 seed-requires c κs = search needs
 
 place-all-requires : tie.Need-place-all-requires
 place-all-requires c κs =
-    let s = c .before .before .before .before .before .before .before .before .before .before .before .before .before .before .before .before in
-    let r = c .before .before .before .before .seed in
+    let after-seed : tie.After-seed = search in
+    let s : tie.Start = search in
+    let r = after-seed .seed in
     let k = s .pre .1 .1 in
     (s .pre .0 .linesGood, (s .pre .0 .growth, (entered-none (s .args .lines .now) (s .args .order .now) (s .args .came .now) (r .last .0) (s .args .over .now) (s .args .b) (r .kept .0 ∙ k .roots) (k .overs) (r .ensures .each) (k .zero), s .pre .0 .few)))
 

@@ -27,7 +27,9 @@ shared-slice-read-r : tie.Need-shared-slice-read-r
 shared-slice-read-r c = search needs
 
 sub-r : tie.Need-sub-r
-sub-r c = let s = c .before .before .before .before .before .before in s .pre .1 .0 .spotted .marks (s .args .v) (s .pre .0) .0
+sub-r c =
+    let s : tie.Start = search in
+    s .pre .1 .0 .spotted .marks (s .args .v) (s .pre .0) .0
 
 mul-sub : tie.Need-mul-sub
 mul-sub c = search needs
@@ -42,16 +44,24 @@ shared-slice-copy-out-sub-2 : tie.Need-shared-slice-copy-out-sub-2
 shared-slice-copy-out-sub-2 c = search needs
 
 sub-requires : tie.Need-sub-requires
-sub-requires c κs = let s = c .before .before .before .before .before .before .before .before in rw (own-read s, over-read s) (omega (arith, s .pre .1 .0 .small (s .args .v), s .pre .1 .0 .spotted .size (s .args .v), s .pre .1 .0 .few))
+sub-requires c κs =
+    let s : tie.Start = search in
+    rw (own-read s, over-read s) (omega (arith, s .pre .1 .0 .small (s .args .v), s .pre .1 .0 .spotted .size (s .args .v), s .pre .1 .0 .few))
 
 slice-write-has : tie.Need-slice-write-has
-slice-write-has c = let s = c .before .before .before .before .before .before .before .before .before in omega (arith, s .pre .1 .0 .spotted .marks (s .args .v) (s .pre .0) .0, s .pre .1 .0 .spotted .marks (s .args .v) (s .pre .0) .1, s .pre .1 .1 .flagged)
+slice-write-has c =
+    let s : tie.Start = search in
+    omega (arith, s .pre .1 .0 .spotted .marks (s .args .v) (s .pre .0) .0, s .pre .1 .0 .spotted .marks (s .args .v) (s .pre .0) .1, s .pre .1 .1 .flagged)
 
 mul-z : tie.Need-mul-z
-mul-z c = let s = c .before .before .before .before .before .before .before .before .before in omega (arith, s .pre .1 .0 .spotted .marks (s .args .v) (s .pre .0) .1, s .pre .1 .0 .few)
+mul-z c =
+    let s : tie.Start = search in
+    omega (arith, s .pre .1 .0 .spotted .marks (s .args .v) (s .pre .0) .1, s .pre .1 .0 .few)
 
 slice-set-from-z : tie.Need-slice-set-from-z
-slice-set-from-z c = let s = c .before .before .before .before .before .before .before .before .before in omega (arith, s .pre .1 .0 .spotted .marks (s .args .v) (s .pre .0) .0, s .pre .1 .0 .spotted .marks (s .args .v) (s .pre .0) .1, s .pre .1 .1 .heighted)
+slice-set-from-z c =
+    let s : tie.Start = search in
+    omega (arith, s .pre .1 .0 .spotted .marks (s .args .v) (s .pre .0) .0, s .pre .1 .0 .spotted .marks (s .args .v) (s .pre .0) .1, s .pre .1 .1 .heighted)
 
 same-length : tie.Need-same-length
 same-length c = search needs
@@ -60,10 +70,15 @@ same-length-2 : tie.Need-same-length-2
 same-length-2 c = search needs
 
 returns : tie.Need-returns
-returns c = let s = c .before .before .before .before .before .before .before .before .before in lift-held (s .args .flags .now) (s .args .own .now) (s .args .root .now) (s .args .over .now) (s .args .has .now) (s .args .base .now) (s .args .b) (s .args .v) (s .pre .1 .0) (s .pre .0) (s .pre .1 .1) (c .before .before .before .before .if1 .taken) (toZ w64 (ofZ w64 (c .sub .result))) (stored (c .sub .result) (c .sub .ok) (c .sub .ensures ∙ rw (own-read s, over-read s)))
+returns c =
+    let then1 : tie.Then1 = search in
+    let s : tie.Start = search in
+    lift-held (s .args .flags .now) (s .args .own .now) (s .args .root .now) (s .args .over .now) (s .args .has .now) (s .args .base .now) (s .args .b) (s .args .v) (s .pre .1 .0) (s .pre .0) (s .pre .1 .1) (then1 .if1 .taken) (toZ w64 (ofZ w64 (c .sub .result))) (stored (c .sub .result) (c .sub .ok) (c .sub .ensures ∙ rw (own-read s, over-read s)))
 
 returns-2 : tie.Need-returns-2
-returns-2 c = let s = c .before .before .before .before .before in lift-free (s .args .flags .now) (s .args .own .now) (s .args .root .now) (s .args .over .now) (s .args .has .now) (s .args .base .now) (s .args .b) (s .args .v) (s .pre .1 .0) (s .pre .0) (s .pre .1 .1) (c .if1 .left)
+returns-2 c =
+    let s : tie.Start = search in
+    lift-free (s .args .flags .now) (s .args .own .now) (s .args .root .now) (s .args .over .now) (s .args .has .now) (s .args .base .now) (s .args .b) (s .args .v) (s .pre .1 .0) (s .pre .0) (s .pre .1 .1) (c .if1 .left)
 
 pub lift-spec : {M : Type 1} → statement M
 lift-spec =

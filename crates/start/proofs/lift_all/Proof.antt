@@ -21,20 +21,24 @@ sub-v c = search needs
 
 lift-requires : tie.Need-lift-requires Inv-loop μ-loop
 lift-requires c κs =
-    let s = c .before .before .before .before .before .before .before in
+    let s : tie.Start Inv-loop μ-loop = search in
     let l = c .before .before .before .loop in
     let t = c .before .before .loop-test .taken in
     let e : l .v - 1 + 1 ≡ l .v = omega arith in
     (omega arith, (s .pre .0, rw e (l .inv .3)))
 
 loop-less : tie.Need-loop-less Inv-loop μ-loop
-loop-less c = let t = c .before .before .before .before .before .before .loop-test .taken in omega arith
+loop-less c =
+    let in-loop : tie.In-loop Inv-loop μ-loop = search in
+    let t = in-loop .loop-test .taken in omega arith
 
 loop-again : tie.Need-loop-again Inv-loop μ-loop
 loop-again c =
-    let l = c .before .before .before .before .before .before .before .loop in
+    let in-loop : tie.In-loop Inv-loop μ-loop = search in
+    let at-loop : tie.At-loop Inv-loop μ-loop = search in
+    let l = at-loop .loop in
     let e = c .before .before .before .lift in
-    (omega (arith, c .before .before .before .before .before .before .loop-test .taken), e .kept .1 .1 .1 .1 .0 ∙ l .inv .1, e .kept .1 .1 .1 .1 .1 .0 ∙ l .inv .2, e .ensures)
+    (omega (arith, in-loop .loop-test .taken), e .kept .1 .1 .1 .1 .0 ∙ l .inv .1, e .kept .1 .1 .1 .1 .1 .0 ∙ l .inv .2, e .ensures)
 
 same-length : tie.Need-same-length Inv-loop μ-loop
 same-length c = c .before .loop .inv .1
@@ -44,7 +48,7 @@ same-length-2 c = c .before .loop .inv .2
 
 returns : tie.Need-returns Inv-loop μ-loop
 returns c =
-    let s = c .before .before .before .before .before in
+    let s : tie.Start Inv-loop μ-loop = search in
     let l = c .before .loop in
     let e : l .v ≡ 0 = omega (arith, c .loop-test .left) in
     subst (λ (v : ℕ). Given (rootsFrom (spots (s .args .root .now) (s .args .over .now)) (gives (s .args .flags .now) (s .args .own .now)) (s .args .b) v) (l .has) (l .base) (s .args .b) mostRoot) e (l .inv .3)

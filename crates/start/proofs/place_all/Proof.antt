@@ -17,19 +17,27 @@ loop-holds : tie.Need-loop-holds Inv-loop μ-loop
 loop-holds c = let s = c .before .before .before in (search needs, refl, refl, s .pre .1 .1 .0)
 
 enter-requires : tie.Need-enter-requires Inv-loop μ-loop
-enter-requires c κs = let s = c .before .before .before .before .before .before .before in (s .pre .0, (s .pre .1 .0, (c .before .before .before .loop .inv .3, (c .before .before .loop-test .taken, s .pre .1 .1 .1))))
+enter-requires c κs =
+    let s : tie.Start Inv-loop μ-loop = search in
+    (s .pre .0, (s .pre .1 .0, (c .before .before .before .loop .inv .3, (c .before .before .loop-test .taken, s .pre .1 .1 .1))))
 
 add-k : tie.Need-add-k Inv-loop μ-loop
-add-k c = omega (arith, c .before .before .before .before .before .before .loop-test .taken)
+add-k c =
+    let in-loop : tie.In-loop Inv-loop μ-loop = search in
+    omega (arith, in-loop .loop-test .taken)
 
 loop-less : tie.Need-loop-less Inv-loop μ-loop
-loop-less c = omega (arith, c .before .before .before .before .before .before .loop-test .taken)
+loop-less c =
+    let in-loop : tie.In-loop Inv-loop μ-loop = search in
+    omega (arith, in-loop .loop-test .taken)
 
 loop-again : tie.Need-loop-again Inv-loop μ-loop
 loop-again c =
-    let l = c .before .before .before .before .before .before .before .loop in
+    let in-loop : tie.In-loop Inv-loop μ-loop = search in
+    let at-loop : tie.At-loop Inv-loop μ-loop = search in
+    let l = at-loop .loop in
     let e = c .before .before .before .enter in
-    (omega (arith, c .before .before .before .before .before .before .loop-test .taken), e .kept .1 .1 .1 .0 ∙ l .inv .1, e .kept .1 .1 .1 .1 .0 ∙ l .inv .2, e .ensures)
+    (omega (arith, in-loop .loop-test .taken), e .kept .1 .1 .1 .0 ∙ l .inv .1, e .kept .1 .1 .1 .1 .0 ∙ l .inv .2, e .ensures)
 
 same-length : tie.Need-same-length Inv-loop μ-loop
 same-length c = c .before .loop .inv .1
@@ -39,7 +47,7 @@ same-length-2 c = c .before .loop .inv .2
 
 returns : tie.Need-returns Inv-loop μ-loop
 returns c =
-    let s = c .before .before .before .before .before in
+    let s : tie.Start Inv-loop μ-loop = search in
     let l = c .before .loop in
     let e : l .k ≡ s .args .b = omega (arith, c .loop-test .left) in
     subst (λ (k : ℕ). Placing (rooting (s .args .lines .now) (s .args .order .now) (s .args .came .now) k) (l .root) (l .over) (s .args .b) k) e (l .inv .3)

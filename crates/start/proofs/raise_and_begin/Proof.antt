@@ -7,7 +7,9 @@ use Rattle.start.proofs.raise_and_begin.Statement.{statement}
 use Rattle.start.proofs.raise_and_begin.Tie as tie
 
 lift-all-requires : tie.Need-lift-all-requires
-lift-all-requires c κs = let s = c .before .before .before .before .before in (s .pre .0, lift-none (s .args .flags .now) (s .args .own .now) (s .args .root .now) (s .args .over .now) (s .args .has .now) (s .args .base .now) (s .args .b) (s .pre .1 .0))
+lift-all-requires c κs =
+    let s : tie.Start = search in
+    (s .pre .0, lift-none (s .args .flags .now) (s .args .own .now) (s .args .root .now) (s .args .over .now) (s .args .has .now) (s .args .base .now) (s .args .b) (s .pre .1 .0))
 
 first-unheld-requires : tie.Need-first-unheld-requires
 first-unheld-requires c κs = search needs
@@ -20,8 +22,9 @@ same-length-2 c = search needs
 
 returns : tie.Need-returns
 returns c =
-    let s = c .before .before .before .before .before .before .before .before .before .before .before .before in
-    let l = c .before .before .before .before .before .before .lift-all in
+    let after-lift-all : tie.After-lift-all = search in
+    let s : tie.Start = search in
+    let l = after-lift-all .lift-all in
     let m = c .before .first-unheld in
     λ at held p g.
     (m .ensures ∙ unheld-is (s .args .b) at held (s .args .flags .now) (s .args .own .now) (s .args .root .now) (s .args .over .now) (l .last .1 .1 .1 .1 .0) (l .last .1 .1 .1 .1 .1 .0) p g (l .ensures), λ z. absurd (omega (arith, c .if1 .taken)), s .pre .1 .1)
@@ -40,11 +43,14 @@ same-length-5 c = search needs
 
 returns-2 : tie.Need-returns-2
 returns-2 c =
-    let s = c .before .before .before .before .before .before .before .before .before .before .before .before .before .before .before .before in
-    let l = c .before .before .before .before .before .before .before .before .before .before .lift-all in
-    let m = c .before .before .before .before .before .first-unheld in
+    let else1 : tie.Else1 = search in
+    let after-first-unheld : tie.After-first-unheld = search in
+    let after-lift-all : tie.After-lift-all = search in
+    let s : tie.Start = search in
+    let l = after-lift-all .lift-all in
+    let m = after-first-unheld .first-unheld in
     let g₀ = c .before .begin .ensures in
-    let e : m .result ≡ 0 = omega (arith, c .before .before .before .before .if1 .left) in
+    let e : m .result ≡ 0 = omega (arith, else1 .if1 .left) in
     λ at held p g. (
       sym e ∙ m .ensures ∙ unheld-is (s .args .b) at held (s .args .flags .now) (s .args .own .now) (s .args .root .now) (s .args .over .now) (l .last .1 .1 .1 .1 .0) (l .last .1 .1 .1 .1 .1 .0) p g (l .ensures),
       λ z v h. g₀ .each v h ∙ start-is (s .args .b) at held (s .args .flags .now) (s .args .own .now) (s .args .root .now) (s .args .over .now) (l .last .1 .1 .1 .1 .0) (l .last .1 .1 .1 .1 .1 .0) p g (l .ensures) (sym (m .ensures) ∙ e) v h,

@@ -32,7 +32,9 @@ shared-slice-copy-out-result c = search needs
 
 returns : tie.Need-returns
 unfolding startAt
-returns c = let s = c .before .before .before .before .before in own-read s ∙ sym (rw (c .before .if1 .taken))
+returns c =
+    let s : tie.Start = search in
+    own-read s ∙ sym (rw (c .before .if1 .taken))
 
 mul-add : tie.Need-mul-add
 mul-add c = search needs
@@ -41,13 +43,19 @@ shared-slice-read-add : tie.Need-shared-slice-read-add
 shared-slice-read-add c = search needs
 
 sub-add : tie.Need-sub-add
-sub-add c = let s = c .before .before .before .before .before in s .pre .1 .0 .spotted .marks (s .args .v) (s .pre .0) .0
+sub-add c =
+    let s : tie.Start = search in
+    s .pre .1 .0 .spotted .marks (s .args .v) (s .pre .0) .0
 
 mul-add-2 : tie.Need-mul-add-2
-mul-add-2 c = let s = c .before .before .before .before .before in omega (arith, s .pre .1 .0 .spotted .marks (s .args .v) (s .pre .0) .1, s .pre .1 .0 .few)
+mul-add-2 c =
+    let s : tie.Start = search in
+    omega (arith, s .pre .1 .0 .spotted .marks (s .args .v) (s .pre .0) .1, s .pre .1 .0 .few)
 
 shared-slice-copy-out-add : tie.Need-shared-slice-copy-out-add
-shared-slice-copy-out-add c = let s = c .before .before .before .before .before in omega (arith, s .pre .1 .0 .spotted .marks (s .args .v) (s .pre .0) .0, s .pre .1 .0 .spotted .marks (s .args .v) (s .pre .0) .1, s .pre .1 .1 .all)
+shared-slice-copy-out-add c =
+    let s : tie.Start = search in
+    omega (arith, s .pre .1 .0 .spotted .marks (s .args .v) (s .pre .0) .0, s .pre .1 .0 .spotted .marks (s .args .v) (s .pre .0) .1, s .pre .1 .1 .all)
 
 mul-add-3 : tie.Need-mul-add-3
 mul-add-3 c = search needs
@@ -56,11 +64,16 @@ shared-slice-copy-out-add-2 : tie.Need-shared-slice-copy-out-add-2
 shared-slice-copy-out-add-2 c = search needs
 
 add-requires : tie.Need-add-requires
-add-requires c κs = let s = c .before .before .before .before .before .before .before in let r = getD (s .args .root .now) (s .args .v) 0 - 1 in rw (base-read s r, over-read s) (omega (arith, s .pre .1 .1 .size r, s .pre .1 .0 .spotted .size (s .args .v), s .pre .1 .0 .few))
+add-requires c κs =
+    let s : tie.Start = search in
+    let r = getD (s .args .root .now) (s .args .v) 0 - 1 in rw (base-read s r, over-read s) (omega (arith, s .pre .1 .1 .size r, s .pre .1 .0 .spotted .size (s .args .v), s .pre .1 .0 .few))
 
 returns-2 : tie.Need-returns-2
 unfolding startAt
-returns-2 c = let s = c .before .before .before .before .before .before .before .before in let r = getD (s .args .root .now) (s .args .v) 0 - 1 in rw (c .before .before .before .before .if1 .left) (stored (c .add .result) (c .add .ok) (c .add .ensures ∙ rw (base-read s r, over-read s)))
+returns-2 c =
+    let else1 : tie.Else1 = search in
+    let s : tie.Start = search in
+    let r = getD (s .args .root .now) (s .args .v) 0 - 1 in rw (else1 .if1 .left) (stored (c .add .result) (c .add .ok) (c .add .ensures ∙ rw (base-read s r, over-read s)))
 
 pub start-at-spec : {M : Type 1} → statement M
 start-at-spec =

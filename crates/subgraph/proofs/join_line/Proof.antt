@@ -32,8 +32,10 @@ shared-slice-read-join : tie.Need-shared-slice-read-join
 shared-slice-read-join c = search needs
 
 join-requires : tie.Need-join-requires
-join-requires c κs = let p = c .before .before .before .before .before .before .before .before .before .before .before .before .before .pre in
-    let j = c .before .before .before .before .before .before .before .before .before .before .before .before .before .args .number in
+join-requires c κs =
+    let entry : tie.Start = search in
+    let p = entry .pre in
+    let j = entry .args .number in
     (p .1 .1 .0, record { f-ok = p .0 .tip-ok (j * 2 + 1) (omega arith); t-ok = p .0 .tip-ok (j * 2) (omega arith); number = p .1 .1 .1; short = p .1 .0 .long-ok j (p .1 .1 .1) })
 
 same-length : tie.Need-same-length

@@ -9,7 +9,9 @@ returns : tie.Need-returns
 returns c = stayed (c .if1 .taken) refl refl refl refl refl
 
 join-line-requires : tie.Need-join-line-requires
-join-line-requires c κs = let p = c .before .before .before .before .before .before .before .before .before .before .before .pre in (p .0, (p .1 .0, (p .1 .1, omega arith)))
+join-line-requires c κs =
+    let entry : tie.Start = search in
+    let p = entry .pre in (p .0, (p .1 .0, (p .1 .1, omega arith)))
 
 add-result : tie.Need-add-result
 add-result c = search needs
@@ -27,7 +29,9 @@ same-length-4 : tie.Need-same-length-4
 same-length-4 c = search needs
 
 returns-2 : tie.Need-returns-2
-returns-2 c = joined (λ e. omega arith) refl (c .before .before .before .before .before .before .before .before .join-line .ensures)
+returns-2 c =
+    let after-join-line : tie.After-join-line = search in
+    joined (λ e. omega arith) refl (after-join-line .join-line .ensures)
 
 pub lay-mark-spec : {M : Type 1} → statement M
 lay-mark-spec =

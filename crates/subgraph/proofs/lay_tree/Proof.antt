@@ -23,7 +23,9 @@ zero-requires : tie.Need-zero-requires Inv-loop μ-loop
 zero-requires c κs = search needs
 
 loop-holds : tie.Need-loop-holds Inv-loop μ-loop
-loop-holds c = let p = c .before .before .before .before .before .before .before .before .before .before .before .before .pre .1 .1 in
+loop-holds c =
+    let entry : tie.Start Inv-loop μ-loop = search in
+    let p = entry .pre .1 .1 in
     let z = c .before .before .zero .ensures in
     (p .some-mark, omega arith, nodes-none _ _ _ _, heads-none _ _ (omega (arith, p .heads)) z, (refl, refl, refl, refl), λ q lines li ho. lay-start _ _ _ _ lines li _ _ ho _ _ _ _ z)
 
@@ -37,14 +39,23 @@ shared-slice-read-lay-mark : tie.Need-shared-slice-read-lay-mark Inv-loop μ-loo
 shared-slice-read-lay-mark c = search needs
 
 mul-lay-mark-2 : tie.Need-mul-lay-mark-2 Inv-loop μ-loop
-mul-lay-mark-2 c = let p = c .before .before .before .before .before .before .before .before .before .before .before .before .before .before .before .before .before .before .before .pre .1 .1 in omega (arith, p .below (c .before .before .before .before .before .before .loop .k) (omega arith), p .bests)
+mul-lay-mark-2 c =
+    let at-loop : tie.At-loop Inv-loop μ-loop = search in
+    let entry : tie.Start Inv-loop μ-loop = search in
+    let p = entry .pre .1 .1 in omega (arith, p .below (at-loop .loop .k) (omega arith), p .bests)
 
 shared-slice-read-lay-mark-2 : tie.Need-shared-slice-read-lay-mark-2 Inv-loop μ-loop
-shared-slice-read-lay-mark-2 c = let p = c .before .before .before .before .before .before .before .before .before .before .before .before .before .before .before .before .before .before .before .before .pre .1 .1 in omega (arith, p .below (c .before .before .before .before .before .before .before .loop .k) (omega arith), p .bests)
+shared-slice-read-lay-mark-2 c =
+    let at-loop : tie.At-loop Inv-loop μ-loop = search in
+    let entry : tie.Start Inv-loop μ-loop = search in
+    let p = entry .pre .1 .1 in omega (arith, p .below (at-loop .loop .k) (omega arith), p .bests)
 
 lay-mark-requires : tie.Need-lay-mark-requires Inv-loop μ-loop
-lay-mark-requires c κs = let p = c .before .before .before .before .before .before .before .before .before .before .before .before .before .before .before .before .before .before .before .before .pre in
-    let v = c .before .before .before .before .before .before .before .loop .inv in
+lay-mark-requires c κs =
+    let at-loop : tie.At-loop Inv-loop μ-loop = search in
+    let entry : tie.Start Inv-loop μ-loop = search in
+    let p = entry .pre in
+    let v = at-loop .loop .inv in
     (p .0, (p .1 .0, record { heads = v .3; nodes = v .2; nexts = omega (arith, v, p .1 .1 .nexts); ends = omega (arith, v, p .1 .1 .ends); adds = omega (arith, v, p .1 .1 .adds) }))
 
 add-k : tie.Need-add-k Inv-loop μ-loop
@@ -54,8 +65,11 @@ loop-less : tie.Need-loop-less Inv-loop μ-loop
 loop-less c = search needs
 
 loop-again : tie.Need-loop-again Inv-loop μ-loop
-loop-again c = let v = c .before .before .before .before .before .before .before .before .before .before .before .before .before .before .before .before .loop .inv in
-    let e = c .before .before .before .before .before .before .before .before .lay-mark .ensures in
+loop-again c =
+    let after-lay-mark : tie.After-lay-mark Inv-loop μ-loop = search in
+    let at-loop : tie.At-loop Inv-loop μ-loop = search in
+    let v = at-loop .loop .inv in
+    let e = after-lay-mark .lay-mark .ensures in
     (omega arith, omega (arith, laid-high e, v), laid-nodes e (v .2), laid-heads e (v .3), (omega arith, omega arith, omega arith, omega arith), λ q lines li ho. laid-next _ _ _ _ lines li _ _ ho _ _ _ _ _ _ _ _ _ _ _ (omega arith) (v .5 q lines li ho) e)
 
 same-length : tie.Need-same-length Inv-loop μ-loop
@@ -71,7 +85,9 @@ same-length-4 : tie.Need-same-length-4 Inv-loop μ-loop
 same-length-4 c = search needs
 
 returns : tie.Need-returns Inv-loop μ-loop
-returns c = let v = c .before .loop .inv in λ q lines li ho. lay-end _ _ _ _ lines li _ _ ho _ _ _ _ _ _ (c .before .before .before .before .before .before .before .before .before .before .before .before .before .before .pre .1 .1 .some-mark) (omega arith) (v .2) (v .3) (v .5 q lines li ho)
+returns c =
+    let entry : tie.Start Inv-loop μ-loop = search in
+    let v = c .before .loop .inv in λ q lines li ho. lay-end _ _ _ _ lines li _ _ ho _ _ _ _ _ _ (entry .pre .1 .1 .some-mark) (omega arith) (v .2) (v .3) (v .5 q lines li ho)
 
 pub lay-tree-spec : {M : Type 1} → statement M
 lay-tree-spec =

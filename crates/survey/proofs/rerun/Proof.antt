@@ -47,7 +47,7 @@ enum-known-book : tie.Need-enum-known-book
 enum-known-book c = search needs
 
 -- what the test answered, at the numbers that were lent
-tested : (c : tie.After-test) → (let a = c .before .before .before .before .args in c .test .result ≡ testOf (a .b) (a .t) (a .held .now) (a .lines .now))
+tested : (c : tie.After-test) → (let entry : tie.Start = search in let a = entry .args in c .test .result ≡ testOf (a .b) (a .t) (a .held .now) (a .lines .now))
 tested c = c .test .ensures ∙ search needs
 
 -- the difference is inside its limit
@@ -57,16 +57,23 @@ small c = size-within 99999999 _ (sym (flag (c .before)) ∙ c .if1 .left)
 
 rerun-good-requires : tie.Need-rerun-good-requires
 rerun-good-requires c κs =
+    let after-test : tie.After-test = search in
+    let else1 : tie.Else1 = search in
+    let entry : tie.Start = search in
     let g = c .before .before .before in
-    let a = c .before .before .before .before .before .before .before .before .before .args in
-    (good-lines _ _ _ _ _ (tested-good (a .b) (a .t) (a .held .now) (a .lines .now) (g .book .given .0 .0) (sym (tested (c .before .before .before .before .before)) ∙ g .book .given .1)), rw (toZ-ofZ (c .before .before .before .before .before .before .before .before .before .fits .difference)) (small (c .before .before .before .before .before .before .before)))
+    let a = entry .args in
+    (good-lines _ _ _ _ _ (tested-good (a .b) (a .t) (a .held .now) (a .lines .now) (g .book .given .0 .0) (sym (tested after-test) ∙ g .book .given .1)), rw (toZ-ofZ (entry .fits .difference)) (small else1))
 
 same-length : tie.Need-same-length
 same-length c = search needs
 
 returns-2 : tie.Need-returns-2
 unfolding rerunOf correctTested
-returns-2 c = rw (← (flag (c .before .before .before .before .before .before .before)), c .before .before .before .before .before .before .if1 .left, ← (tested (c .before .before .before .before)), c .before .before .r .given .1, c .refuse2 .ensures)
+returns-2 c =
+    let after-test : tie.After-test = search in
+    let else1 : tie.Else1 = search in
+    let after-outside-difference : tie.After-outside-difference = search in
+    rw (← (flag after-outside-difference), else1 .if1 .left, ← (tested after-test), c .before .before .r .given .1, c .refuse2 .ensures)
 
 same-length-2 : tie.Need-same-length-2
 same-length-2 c = search needs
@@ -77,8 +84,12 @@ same-length-3 c = search needs
 returns-3 : tie.Need-returns-3
 unfolding rerunOf correctTested
 returns-3 c =
+    let after-book : tie.After-book = search in
+    let after-test : tie.After-test = search in
+    let else1 : tie.Else1 = search in
+    let after-outside-difference : tie.After-outside-difference = search in
     let e = c .before .before .rerun-good .ensures in
-    rw (← (flag (c .before .before .before .before .before .before .before .before .before .before .before)), c .before .before .before .before .before .before .before .before .before .before .if1 .left, ← (tested (c .before .before .before .before .before .before .before .before)), c .before .before .before .before .before .before .book .given .1) (e ∙ search needs)
+    rw (← (flag after-outside-difference), else1 .if1 .left, ← (tested after-test), after-book .book .given .1) (e ∙ search needs)
 
 pub rerun-spec : {M : Type 1} → statement M
 rerun-spec =

@@ -30,20 +30,27 @@ tested c = c .test .ensures ∙ search needs
 
 survey-good-requires : tie.Need-survey-good-requires
 survey-good-requires c κs =
+    let after-test : tie.After-test = search in
+    let entry : tie.Start = search in
     let g = c .before .before in
-    let a = c .before .before .before .before .before .args in
-    good-lines _ _ _ _ _ (tested-good (a .b) (a .t) (a .held .now) (a .lines .now) (g .book .given .0 .0) (sym (tested (c .before .before .before .before)) ∙ g .book .given .1))
+    let a = entry .args in
+    good-lines _ _ _ _ _ (tested-good (a .b) (a .t) (a .held .now) (a .lines .now) (g .book .given .0 .0) (sym (tested after-test) ∙ g .book .given .1))
 
 returns : tie.Need-returns
 unfolding surveyOf surveyTested
-returns c = rw (← (tested (c .before .before .before .before)), c .before .before .r .given .1, c .refuse .ensures)
+returns c =
+    let after-test : tie.After-test = search in
+    rw (← (tested after-test), c .before .before .r .given .1, c .refuse .ensures)
 
 same-length : tie.Need-same-length
 same-length c = search needs
 
 returns-2 : tie.Need-returns-2
 unfolding surveyOf surveyTested
-returns-2 c = rw (← (tested (c .before .before .before .before .before .before)), c .before .before .before .before .book .given .1) (c .before .survey-good .ensures)
+returns-2 c =
+    let after-book : tie.After-book = search in
+    let after-test : tie.After-test = search in
+    rw (← (tested after-test), after-book .book .given .1) (c .before .survey-good .ensures)
 
 pub survey-spec : {M : Type 1} → statement M
 survey-spec =

@@ -31,16 +31,20 @@ tested c = c .test .ensures ∙ search needs
 
 withdraw-good-requires : tie.Need-withdraw-good-requires
 withdraw-good-requires c κs =
+    let after-test : tie.After-test = search in
+    let entry : tie.Start = search in
     let g = c .before .before .before in
-    let a = c .before .before .before .before .before .before .before .args in
-    good-lines _ _ _ _ _ (tested-good (a .b) (a .t) (a .held .now) (a .lines .now) (g .book .given .0 .0) (sym (tested (c .before .before .before .before .before)) ∙ g .book .given .1))
+    let a = entry .args in
+    good-lines _ _ _ _ _ (tested-good (a .b) (a .t) (a .held .now) (a .lines .now) (g .book .given .0 .0) (sym (tested after-test) ∙ g .book .given .1))
 
 same-length : tie.Need-same-length
 same-length c = search needs
 
 returns : tie.Need-returns
 unfolding withdrawOf correctTested
-returns c = rw (← (tested (c .before .before .before .before)), c .before .before .r .given .1, c .refuse .ensures)
+returns c =
+    let after-test : tie.After-test = search in
+    rw (← (tested after-test), c .before .before .r .given .1, c .refuse .ensures)
 
 same-length-2 : tie.Need-same-length-2
 same-length-2 c = search needs
@@ -51,8 +55,10 @@ same-length-3 c = search needs
 returns-2 : tie.Need-returns-2
 unfolding withdrawOf correctTested
 returns-2 c =
+    let after-book : tie.After-book = search in
+    let after-test : tie.After-test = search in
     let e = c .before .before .withdraw-good .ensures in
-    rw (← (tested (c .before .before .before .before .before .before .before .before)), c .before .before .before .before .before .before .book .given .1) (e ∙ search needs)
+    rw (← (tested after-test), after-book .book .given .1) (e ∙ search needs)
 
 pub withdraw-spec : {M : Type 1} → statement M
 withdraw-spec =

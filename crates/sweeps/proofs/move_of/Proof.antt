@@ -15,10 +15,12 @@ use Rattle.sweeps.proofs.move_of.Tie as tie
 height-read : (s : tie.Start) → toZ w64 (ofZ w64 (getD (s .args .h .now) (s .args .v) (pos 0))) ≡ getD (s .args .h .now) (s .args .v) (pos 0)
 height-read s = read (getD (s .args .h .now) (s .args .v) (pos 0)) 50000000000 (s .pre .1 .0 .inside (s .args .v)) (omega arith)
 
-pull-read : (c : tie.After-pull-of) → (let s = c .before .before .before .before .before .before .before .before in toZ w64 (ofZ w64 (c .pull-of .result)) ≡ pullHere (s .args .first .now) (s .args .other .now) (s .args .rise .now) (s .args .weight .now) (s .args .total .now) (s .args .h .now) (s .args .b) (s .args .v) (s .pre .0) (s .pre .1 .0) (s .pre .1 .1))
-pull-read c = stored (c .pull-of .result) (c .pull-of .ok) (c .pull-of .ensures ∙ rw (height-read (c .before .before .before .before .before .before .before .before)))
+pull-read : (c : tie.After-pull-of) → (let s : tie.Start = search in toZ w64 (ofZ w64 (c .pull-of .result)) ≡ pullHere (s .args .first .now) (s .args .other .now) (s .args .rise .now) (s .args .weight .now) (s .args .total .now) (s .args .h .now) (s .args .b) (s .args .v) (s .pre .0) (s .pre .1 .0) (s .pre .1 .1))
+pull-read c =
+    let entry : tie.Start = search in
+    stored (c .pull-of .result) (c .pull-of .ok) (c .pull-of .ensures ∙ rw (height-read entry))
 
-move-read : (c : tie.After-move-by) → (let s = c .before .before .before .before .before .before .before .before .before .before in toZ w64 (ofZ w64 (c .move-by .result)) ≡ nearest (pullHere (s .args .first .now) (s .args .other .now) (s .args .rise .now) (s .args .weight .now) (s .args .total .now) (s .args .h .now) (s .args .b) (s .args .v) (s .pre .0) (s .pre .1 .0) (s .pre .1 .1)) (getD (s .args .total .now) (s .args .v) 0))
+move-read : (c : tie.After-move-by) → (let s : tie.Start = search in toZ w64 (ofZ w64 (c .move-by .result)) ≡ nearest (pullHere (s .args .first .now) (s .args .other .now) (s .args .rise .now) (s .args .weight .now) (s .args .total .now) (s .args .h .now) (s .args .b) (s .args .v) (s .pre .0) (s .pre .1 .0) (s .pre .1 .1)) (getD (s .args .total .now) (s .args .v) 0))
 move-read c = stored (c .move-by .result) (c .move-by .ok) (c .move-by .ensures ∙ rw (pull-read (c .before .before)))
 
 mul-pull-of : tie.Need-mul-pull-of
@@ -44,7 +46,7 @@ shared-slice-read-pull-of-2 c = search needs
 
 pull-of-requires : tie.Need-pull-of-requires
 pull-of-requires c κs =
-    let s = c .before .before .before .before .before .before .before in
+    let s : tie.Start = search in
     (s .pre .0 .ends (s .args .v) (s .pre .1 .1), (s .pre .1 .0, (rw (height-read s) (s .pre .1 .0 .inside (s .args .v)), s .pre .0 .span (s .args .v) (s .pre .1 .1))))
 
 mul-move-by : tie.Need-mul-move-by
@@ -55,12 +57,12 @@ shared-slice-read-move-by c = search needs
 
 move-by-requires : tie.Need-move-by-requires
 move-by-requires c κs =
-    let s = c .before .before .before .before .before .before .before .before .before in
+    let s : tie.Start = search in
     rw (pull-read (c .before)) (total-zero (s .args .first .now) (s .args .other .now) (s .args .rise .now) (s .args .weight .now) (s .args .total .now) (s .args .h .now) (s .args .b) (s .args .v) (s .pre .0) (s .pre .1 .0) (s .pre .1 .1), (total-fits (s .args .first .now) (s .args .other .now) (s .args .rise .now) (s .args .weight .now) (s .args .total .now) (s .args .h .now) (s .args .b) (s .args .v) (s .pre .0) (s .pre .1 .0) (s .pre .1 .1), omega (arith, pull-fits (s .args .first .now) (s .args .other .now) (s .args .rise .now) (s .args .weight .now) (s .args .total .now) (s .args .h .now) (s .args .b) (s .args .v) (s .pre .0) (s .pre .1 .0) (s .pre .1 .1))))
 
 returns : tie.Need-returns
 returns c =
-    let s = c .before .before .before .before .before .before .before .before .before .before in
+    let s : tie.Start = search in
     let e = move-read c in
     (e ∙ move-is (s .args .first .now) (s .args .other .now) (s .args .rise .now) (s .args .weight .now) (s .args .total .now) (s .args .h .now) (s .args .b) (s .args .v) (s .pre .0) (s .pre .1 .0) (s .pre .1 .1), rw e (move-fits (s .args .first .now) (s .args .other .now) (s .args .rise .now) (s .args .weight .now) (s .args .total .now) (s .args .h .now) (s .args .b) (s .args .v) (s .pre .0) (s .pre .1 .0) (s .pre .1 .1)))
 

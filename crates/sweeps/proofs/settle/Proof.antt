@@ -17,10 +17,14 @@ abbrev μ-loop : tie.MeasureT-loop
 μ-loop first other rise weight total held h₀ b n₀ h n = maxSweeps - n
 
 loop-holds : tie.Need-loop-holds Inv-loop μ-loop
-loop-holds c = let s = c .before .before .before .before .before in (s .pre .1 .0, left-start (rows (s .args .first .now) (s .args .other .now) (s .args .rise .now) (s .args .weight .now)) (flags (s .args .held .now)) (s .args .b) (s .args .h .now))
+loop-holds c =
+    let s : tie.Start Inv-loop μ-loop = search in
+    (s .pre .1 .0, left-start (rows (s .args .first .now) (s .args .other .now) (s .args .rise .now) (s .args .weight .now)) (flags (s .args .held .now)) (s .args .b) (s .args .h .now))
 
 sweep-requires : tie.Need-sweep-requires Inv-loop μ-loop
-sweep-requires c κs = let s = c .before .before .before .before .before .before .before .before in (s .pre .0, (c .before .before .loop .inv .0, s .pre .1 .1))
+sweep-requires c κs =
+    let s : tie.Start Inv-loop μ-loop = search in
+    (s .pre .0, (c .before .before .loop .inv .0, s .pre .1 .1))
 
 enum-told : tie.Need-enum-told Inv-loop μ-loop
 enum-told c = search needs
@@ -29,29 +33,39 @@ add-t15 : tie.Need-add-t15 Inv-loop μ-loop
 add-t15 c = search needs
 
 same-length : tie.Need-same-length Inv-loop μ-loop
-same-length c = let s = c .before .before .before .before .before .before .before .before .before .before .before .before in c .before .before .before .sweep .ensures .1 .all ∙ sym (s .pre .1 .0 .all)
+same-length c =
+    let s : tie.Start Inv-loop μ-loop = search in
+    c .before .before .before .sweep .ensures .1 .all ∙ sym (s .pre .1 .0 .all)
 
 returns : tie.Need-returns Inv-loop μ-loop
 returns c =
-    let s = c .before .before .before .before .before .before .before .before .before .before .before .before in
-    let l = c .before .before .before .before .before .before .loop in
+    let in-loop : tie.In-loop Inv-loop μ-loop = search in
+    let at-loop : tie.At-loop Inv-loop μ-loop = search in
+    let s : tie.Start Inv-loop μ-loop = search in
+    let l = at-loop .loop in
     let w = c .before .before .before .sweep in
     let gs = w .last .1 .1 .1 .1 .1 .1 .0 in
-    left-still (rows (s .args .first .now) (s .args .other .now) (s .args .rise .now) (s .args .weight .now)) (flags (s .args .held .now)) (s .args .b) (l .n) (l .h) (settle (rows (s .args .first .now) (s .args .other .now) (s .args .rise .now) (s .args .weight .now)) (flags (s .args .held .now)) (s .args .b) (s .args .h .now)) (c .before .before .before .before .before .loop-test .taken) (l .inv .1) gs (ap (λ (t : Turn). swept t gs) (sym (c .enum-told .given .1)) ∙ w .ensures .0)
+    left-still (rows (s .args .first .now) (s .args .other .now) (s .args .rise .now) (s .args .weight .now)) (flags (s .args .held .now)) (s .args .b) (l .n) (l .h) (settle (rows (s .args .first .now) (s .args .other .now) (s .args .rise .now) (s .args .weight .now)) (flags (s .args .held .now)) (s .args .b) (s .args .h .now)) (in-loop .loop-test .taken) (l .inv .1) gs (ap (λ (t : Turn). swept t gs) (sym (c .enum-told .given .1)) ∙ w .ensures .0)
 
 enum-known-s : tie.Need-enum-known-s Inv-loop μ-loop
 enum-known-s c = search needs
 
 same-length-2 : tie.Need-same-length-2 Inv-loop μ-loop
-same-length-2 c = let s = c .before .before .before .before .before .before .before .before .before .before .before .before .before in c .before .before .before .before .sweep .ensures .1 .all ∙ sym (s .pre .1 .0 .all)
+same-length-2 c =
+    let after-sweep : tie.After-sweep Inv-loop μ-loop = search in
+    let s : tie.Start Inv-loop μ-loop = search in
+    after-sweep .sweep .ensures .1 .all ∙ sym (s .pre .1 .0 .all)
 
 returns-2 : tie.Need-returns-2 Inv-loop μ-loop
 returns-2 c =
-    let s = c .before .before .before .before .before .before .before .before .before .before .before .before .before in
-    let l = c .before .before .before .before .before .before .before .loop in
-    let w = c .before .before .before .before .sweep in
+    let after-sweep : tie.After-sweep Inv-loop μ-loop = search in
+    let in-loop : tie.In-loop Inv-loop μ-loop = search in
+    let at-loop : tie.At-loop Inv-loop μ-loop = search in
+    let s : tie.Start Inv-loop μ-loop = search in
+    let l = at-loop .loop in
+    let w = after-sweep .sweep in
     let gs = w .last .1 .1 .1 .1 .1 .1 .0 in
-    left-outside (rows (s .args .first .now) (s .args .other .now) (s .args .rise .now) (s .args .weight .now)) (flags (s .args .held .now)) (s .args .b) (l .n) (l .h) (settle (rows (s .args .first .now) (s .args .other .now) (s .args .rise .now) (s .args .weight .now)) (flags (s .args .held .now)) (s .args .b) (s .args .h .now)) (c .before .before .before .before .before .before .loop-test .taken) (l .inv .1) _ (ap (λ (t : Turn). swept t gs) (sym (c .before .s .given .1)) ∙ w .ensures .0)
+    left-outside (rows (s .args .first .now) (s .args .other .now) (s .args .rise .now) (s .args .weight .now)) (flags (s .args .held .now)) (s .args .b) (l .n) (l .h) (settle (rows (s .args .first .now) (s .args .other .now) (s .args .rise .now) (s .args .weight .now)) (flags (s .args .held .now)) (s .args .b) (s .args .h .now)) (in-loop .loop-test .taken) (l .inv .1) _ (ap (λ (t : Turn). swept t gs) (sym (c .before .s .given .1)) ∙ w .ensures .0)
 
 enum-told-2 : tie.Need-enum-told-2 Inv-loop μ-loop
 enum-told-2 c = search needs
@@ -64,20 +78,24 @@ loop-less c = search needs
 
 loop-again : tie.Need-loop-again Inv-loop μ-loop
 loop-again c =
-    let s = c .before .before .before .before .before .before .before .before .before .before .before .before in
-    let l = c .before .before .before .before .before .before .loop in
+    let in-loop : tie.In-loop Inv-loop μ-loop = search in
+    let at-loop : tie.At-loop Inv-loop μ-loop = search in
+    let s : tie.Start Inv-loop μ-loop = search in
+    let l = at-loop .loop in
     let w = c .before .before .before .sweep in
     let gs = w .last .1 .1 .1 .1 .1 .1 .0 in (
       w .ensures .1,
-      left-moved (rows (s .args .first .now) (s .args .other .now) (s .args .rise .now) (s .args .weight .now)) (flags (s .args .held .now)) (s .args .b) (l .n) (l .h) (settle (rows (s .args .first .now) (s .args .other .now) (s .args .rise .now) (s .args .weight .now)) (flags (s .args .held .now)) (s .args .b) (s .args .h .now)) (c .before .before .before .before .before .loop-test .taken) (l .inv .1) gs (ap (λ (t : Turn). swept t gs) (sym (c .enum-told2 .given .1)) ∙ w .ensures .0),
+      left-moved (rows (s .args .first .now) (s .args .other .now) (s .args .rise .now) (s .args .weight .now)) (flags (s .args .held .now)) (s .args .b) (l .n) (l .h) (settle (rows (s .args .first .now) (s .args .other .now) (s .args .rise .now) (s .args .weight .now)) (flags (s .args .held .now)) (s .args .b) (s .args .h .now)) (in-loop .loop-test .taken) (l .inv .1) gs (ap (λ (t : Turn). swept t gs) (sym (c .enum-told2 .given .1)) ∙ w .ensures .0),
     )
 
 same-length-3 : tie.Need-same-length-3 Inv-loop μ-loop
-same-length-3 c = let s = c .before .before .before .before .before .before .before in c .before .loop .inv .0 .all ∙ sym (s .pre .1 .0 .all)
+same-length-3 c =
+    let s : tie.Start Inv-loop μ-loop = search in
+    c .before .loop .inv .0 .all ∙ sym (s .pre .1 .0 .all)
 
 returns-3 : tie.Need-returns-3 Inv-loop μ-loop
 returns-3 c =
-    let s = c .before .before .before .before .before .before .before in
+    let s : tie.Start Inv-loop μ-loop = search in
     let l = c .before .loop in
     left-none (rows (s .args .first .now) (s .args .other .now) (s .args .rise .now) (s .args .weight .now)) (flags (s .args .held .now)) (s .args .b) (l .n) (l .h) (settle (rows (s .args .first .now) (s .args .other .now) (s .args .rise .now) (s .args .weight .now)) (flags (s .args .held .now)) (s .args .b) (s .args .h .now)) (c .loop-test .left) (l .inv .1)
 

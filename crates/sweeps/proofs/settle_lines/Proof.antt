@@ -27,7 +27,7 @@ slice-aggregate-fill-table-5 c = search needs
 
 fill-table-requires : tie.Need-fill-table-requires
 fill-table-requires c κs =
-    let s = c .before .before .before .before .before .before in
+    let s : tie.Start = search in
     (s .pre .0, (s .pre .1 .0 .1, (range-zeros 1024 (s .args .b) (s .pre .1 .0 .0), broad-zeros (s .args .lines .now) (s .args .b) (s .args .n) 257 1024 256 (s .pre .0) (omega (arith, s .pre .1 .0 .1)) (s .pre .1 .0 .1) (omega (arith, s .pre .0 .few)))))
 
 slice-aggregate-settle : tie.Need-slice-aggregate-settle
@@ -53,8 +53,9 @@ same-length c = search needs
 
 returns : tie.Need-returns
 returns c =
-    let s = c .before .before .before .before .before .before .before .before .before .before .before .before .before .before .before .before .before .before .before .before in
-    let t = c .before .before .before .before .before .before .before .before .before .before .before .before .before .fill-table in
+    let after-fill-table : tie.After-fill-table = search in
+    let s : tie.Start = search in
+    let t = after-fill-table .fill-table in
     let e = c .before .settle .ensures in
     e ∙ settle-same (rows (t .last .1 .0) (t .last .1 .1 .0) (t .last .1 .1 .1 .0) (t .last .1 .1 .1 .1 .0)) (sightsOf (standing (s .args .lines .now))) (flags (s .args .held .now)) (s .args .b) (t .ensures .1) (s .args .h .now)
 

@@ -17,7 +17,7 @@ abbrev μ-loop : tie.MeasureT-loop
 
 loop-holds : tie.Need-loop-holds Inv-loop μ-loop
 loop-holds c =
-    let s = c .before .before .before .before .before in
+    let s : tie.Start Inv-loop μ-loop = search in
     let f = rows (s .args .first .now) (s .args .other .now) (s .args .rise .now) (s .args .weight .now) in
     let e : 0 ≡ s .args .b - s .args .b = omega arith in
     (omega arith, sweep-none f (flags (s .args .held .now)) (s .args .h .now) ∙ ap (sweep f (flags (s .args .held .now)) (s .args .h .now)) e, s .pre .1 .0)
@@ -27,7 +27,7 @@ sub-take-turn c = omega (arith, c .before .before .loop .inv .0)
 
 take-turn-requires : tie.Need-take-turn-requires Inv-loop μ-loop
 take-turn-requires c κs =
-    let s = c .before .before .before .before .before .before .before .before in
+    let s : tie.Start Inv-loop μ-loop = search in
     let l = c .before .before .loop in
     (s .pre .0, (l .inv .2, (omega (arith, l .inv .0, c .before .loop-test .taken), s .pre .1 .1)))
 
@@ -39,8 +39,8 @@ loop-less c = omega arith
 
 loop-again : tie.Need-loop-again Inv-loop μ-loop
 loop-again c =
-    let s = c .before .before .before .before .before .before .before .before .before .before in
-    let l = c .before .before .before .before in
+    let l : tie.At-loop Inv-loop μ-loop = search in
+    let s : tie.Start Inv-loop μ-loop = search in
     let t = c .before .take-turn in
     let f = rows (s .args .first .now) (s .args .other .now) (s .args .rise .now) (s .args .weight .now) in
     let e : s .args .b - l .loop .left + 1 ≡ s .args .b - (l .loop .left - 1) = omega (arith, l .loop .inv .0, c .before .before .before .loop-test .taken) in (
@@ -51,11 +51,13 @@ loop-again c =
     )
 
 same-length : tie.Need-same-length Inv-loop μ-loop
-same-length c = let s = c .before .before .before .before .before .before .before in c .before .loop .inv .2 .all ∙ sym (s .pre .1 .0 .all)
+same-length c =
+    let s : tie.Start Inv-loop μ-loop = search in
+    c .before .loop .inv .2 .all ∙ sym (s .pre .1 .0 .all)
 
 returns : tie.Need-returns Inv-loop μ-loop
 returns c =
-    let s = c .before .before .before .before .before .before .before in
+    let s : tie.Start Inv-loop μ-loop = search in
     let l = c .before .loop in
     let e : s .args .b - l .left ≡ s .args .b = omega (arith, c .loop-test .left) in
     (rw e at (l .inv .1), l .inv .2)

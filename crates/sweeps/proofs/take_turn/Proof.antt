@@ -11,7 +11,7 @@ shared-slice-read-if1 c = search needs
 
 returns : tie.Need-returns
 returns c =
-    let s = c .before .before .before .before .before .before .before in
+    let s : tie.Start = search in
     (turn-held (s .args .held .now) (rows (s .args .first .now) (s .args .other .now) (s .args .rise .now) (s .args .weight .now) (suc (s .args .v))) (s .args .h .now) (s .args .v) (s .args .s) (c .if1 .taken), s .pre .1 .0)
 
 is-outside-requires : tie.Need-is-outside-requires
@@ -19,7 +19,7 @@ is-outside-requires c κs = search needs
 
 returns-2 : tie.Need-returns-2
 returns-2 c =
-    let s = c .before .before .before .before .before .before .before .before .before in
+    let s : tie.Start = search in
     (turn-outside (s .args .held .now) (rows (s .args .first .now) (s .args .other .now) (s .args .rise .now) (s .args .weight .now) (suc (s .args .v))) (s .args .h .now) (s .args .v) (s .args .s) (sym (c .before .is-outside .ensures) ∙ c .if2 .taken), s .pre .1 .0)
 
 visit-requires : tie.Need-visit-requires
@@ -33,9 +33,12 @@ same-length c = search needs
 
 returns-3 : tie.Need-returns-3
 returns-3 c =
-    let s = c .before .before .before .before .before .before .before .before .before .before .before .before .before in
+    let else2 : tie.Else2 = search in
+    let after-is-outside : tie.After-is-outside = search in
+    let else1 : tie.Else1 = search in
+    let s : tie.Start = search in
     let d = c .before .before in
-    (turn-free (s .args .held .now) (rows (s .args .first .now) (s .args .other .now) (s .args .rise .now) (s .args .weight .now) (suc (s .args .v))) (s .args .h .now) (s .args .v) (s .args .s) (c .before .before .before .before .before .before .if1 .left) (sym (c .before .before .before .before .before .is-outside .ensures) ∙ c .before .before .before .before .if2 .left) (d .visit .result) (c .joined .result) (d .visit .last .1 .1 .1 .1 .1 .0) (c .joined .ensures) (d .visit .ensures .0), d .visit .ensures .1)
+    (turn-free (s .args .held .now) (rows (s .args .first .now) (s .args .other .now) (s .args .rise .now) (s .args .weight .now) (suc (s .args .v))) (s .args .h .now) (s .args .v) (s .args .s) (else1 .if1 .left) (sym (after-is-outside .is-outside .ensures) ∙ else2 .if2 .left) (d .visit .result) (c .joined .result) (d .visit .last .1 .1 .1 .1 .1 .0) (c .joined .ensures) (d .visit .ensures .0), d .visit .ensures .1)
 
 pub take-turn-spec : {M : Type 1} → statement M
 take-turn-spec =

@@ -58,7 +58,7 @@ present-read : (s : tie.Start) → toZ w64 (ofZ w64 (s .args .z)) ≡ s .args .z
 present-read s = read (s .args .z) 50000000000 (s .pre .1 .1) (omega arith)
 
 abbrev start-of : tie.After-add → tie.Start
-start-of c = c .before .before .before .before .before .before
+start-of c = search
 
 given-read : (c : tie.After-add) → toZ w64 (ofZ w64 (c .add .result)) ≡ height-of (start-of c) +ℤ rise-of (start-of c)
 given-read c = stored (c .add .result) (c .add .ok) (c .add .ensures ∙ rw (height-read (start-of c), rise-read (start-of c)))
@@ -88,7 +88,9 @@ shared-slice-copy-out-add-2 : tie.Need-shared-slice-copy-out-add-2
 shared-slice-copy-out-add-2 c = search needs
 
 add-requires : tie.Need-add-requires
-add-requires c κs = let s = c .before .before .before .before .before in let x = height-size s in let r = rise-size s in rw (height-read s, rise-read s) (omega arith)
+add-requires c κs =
+    let s : tie.Start = search in
+    let x = height-size s in let r = rise-size s in rw (height-read s, rise-read s) (omega arith)
 
 mul-signed-count : tie.Need-mul-signed-count
 mul-signed-count c = search needs
@@ -97,7 +99,9 @@ shared-slice-read-signed-count : tie.Need-shared-slice-read-signed-count
 shared-slice-read-signed-count c = search needs
 
 signed-count-requires : tie.Need-signed-count-requires
-signed-count-requires c κs = let s = c .before .before .before .before .before .before .before in omega (arith, s .pre .0 .weightIn (s .args .j))
+signed-count-requires c κs =
+    let s : tie.Start = search in
+    omega (arith, s .pre .0 .weightIn (s .args .j))
 
 sub-requires : tie.Need-sub-requires
 sub-requires c κs = let g = given-read (c .before .before) in let h = given-size (start-of (c .before .before)) in let s = start-of (c .before .before) in let z = s .pre .1 .1 in rw (g, present-read s) (omega arith)

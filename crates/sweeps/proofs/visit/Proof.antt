@@ -21,13 +21,15 @@ move-read : (c : tie.After-move-of) → toZ w64 (ofZ w64 (c .move-of .result)) �
 move-read c = back (c .move-of .result) (c .move-of .ok)
 
 abbrev start-of : tie.After-add → tie.Start
-start-of c = c .before .before .before .before .before .before .before .before
+start-of c = search
 
 sum-read : (c : tie.After-add) → toZ w64 (ofZ w64 (c .add .result)) ≡ getD (start-of c .args .h .now) (start-of c .args .v) (pos 0) +ℤ c .before .before .move-of .result
 sum-read c = stored (c .add .result) (c .add .ok) (c .add .ensures ∙ rw (height-read (start-of c), move-read (c .before .before)))
 
-still-read : (c : tie.After-same) → eqZ (c .before .before .before .before .before .move-of .result) (pos 0) ≡ c .same .result
-still-read c = sym (c .same .ensures ∙ rw (move-read (c .before .before .before .before .before)))
+still-read : (c : tie.After-same) → (let after-move-of : tie.After-move-of = search in eqZ (after-move-of .move-of .result) (pos 0) ≡ c .same .result)
+still-read c =
+    let after-move-of : tie.After-move-of = search in
+    sym (c .same .ensures ∙ rw (move-read after-move-of))
 
 move-of-requires : tie.Need-move-of-requires
 move-of-requires c κs = search needs
@@ -40,7 +42,7 @@ slice-copy-out-add c = search needs
 
 add-requires : tie.Need-add-requires
 add-requires c κs =
-    let s = c .before .before .before .before .before .before .before in
+    let s : tie.Start = search in
     let h = s .pre .1 .0 .inside (s .args .v) in
     let m = c .before .move-of .ensures .1 in
     rw (height-read s, move-read (c .before)) (omega arith)
@@ -74,20 +76,20 @@ same-length-2 c = search needs
 
 returns-2 : tie.Need-returns-2
 returns-2 c =
-    let a = c .before .before .before .before in
+    let a : tie.After-add = search in
     let s = start-of a in
     let o = sym (c .before .before .before .outside-work .ensures) ∙ c .before .before .if1 .left in
-    (visit-still (rows (s .args .first .now) (s .args .other .now) (s .args .rise .now) (s .args .weight .now) (suc (s .args .v))) (s .args .h .now) (s .args .v) (a .before .before .move-of .result) (toZ w64 (ofZ w64 (a .add .result))) (a .before .before .move-of .ensures .0) (sum-read (a)) o (still-read (c .before) ∙ c .if2 .taken), working-set (s .args .h .now) (s .args .b) (s .args .v) (toZ w64 (ofZ w64 (a .add .result))) (s .pre .1 .0) o)
+    (visit-still (rows (s .args .first .now) (s .args .other .now) (s .args .rise .now) (s .args .weight .now) (suc (s .args .v))) (s .args .h .now) (s .args .v) (a .before .before .move-of .result) (toZ w64 (ofZ w64 (a .add .result))) (a .before .before .move-of .ensures .0) (sum-read a) o (still-read (c .before) ∙ c .if2 .taken), working-set (s .args .h .now) (s .args .b) (s .args .v) (toZ w64 (ofZ w64 (a .add .result))) (s .pre .1 .0) o)
 
 same-length-3 : tie.Need-same-length-3
 same-length-3 c = search needs
 
 returns-3 : tie.Need-returns-3
 returns-3 c =
-    let a = c .before .before .before .before in
+    let a : tie.After-add = search in
     let s = start-of a in
     let o = sym (c .before .before .before .outside-work .ensures) ∙ c .before .before .if1 .left in
-    (visit-moved (rows (s .args .first .now) (s .args .other .now) (s .args .rise .now) (s .args .weight .now) (suc (s .args .v))) (s .args .h .now) (s .args .v) (a .before .before .move-of .result) (toZ w64 (ofZ w64 (a .add .result))) (a .before .before .move-of .ensures .0) (sum-read (a)) o (still-read (c .before) ∙ c .if2 .left), working-set (s .args .h .now) (s .args .b) (s .args .v) (toZ w64 (ofZ w64 (a .add .result))) (s .pre .1 .0) o)
+    (visit-moved (rows (s .args .first .now) (s .args .other .now) (s .args .rise .now) (s .args .weight .now) (suc (s .args .v))) (s .args .h .now) (s .args .v) (a .before .before .move-of .result) (toZ w64 (ofZ w64 (a .add .result))) (a .before .before .move-of .ensures .0) (sum-read a) o (still-read (c .before) ∙ c .if2 .left), working-set (s .args .h .now) (s .args .b) (s .args .v) (toZ w64 (ofZ w64 (a .add .result))) (s .pre .1 .0) o)
 
 pub visit-spec : {M : Type 1} → statement M
 visit-spec =

@@ -32,7 +32,9 @@ loop-less : tie.Need-loop-less Inv-loop μ-loop
 loop-less c = omega arith
 
 loop-again : tie.Need-loop-again Inv-loop μ-loop
-loop-again c = (omega arith, omega arith, first-next (c .before .before .before .before .args .best .now) (c .before .before .before .before .args .i) (c .before .before .before .loop .j) (c .before .before .before .loop .inv .2) (λ e. omega arith))
+loop-again c =
+    let entry : tie.Start Inv-loop μ-loop = search in
+    (omega arith, omega arith, first-next (entry .args .best .now) (entry .args .i) (c .before .before .before .loop .j) (c .before .before .before .loop .inv .2) (λ e. omega arith))
 
 returns-2 : tie.Need-returns-2 Inv-loop μ-loop
 returns-2 c = let v = c .before .loop .inv in record { low = omega arith; high = omega arith; before = v .2; at = λ h. absurd (omega arith) }

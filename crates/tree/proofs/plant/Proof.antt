@@ -31,26 +31,33 @@ clear-requires-2 : tie.Need-clear-requires-2 Inv-loop μ-loop
 clear-requires-2 c κs = search needs
 
 loop-holds : tie.Need-loop-holds Inv-loop μ-loop
-loop-holds c = let p = c .before .before .before .before .before .before .before .before .before .before .before .before .before .before .before .before .before .before .before .before .pre .1 .1 .1 in
-    let z = c .before .before .before .before .before .before .before .before .before .before .zero .ensures in
-    let a = c .before .before .before .before .before .before .clear .ensures in
+loop-holds c =
+    let after-clear : tie.After-clear Inv-loop μ-loop = search in
+    let after-zero : tie.After-zero Inv-loop μ-loop = search in
+    let entry : tie.Start Inv-loop μ-loop = search in
+    let p = entry .pre .1 .1 .1 in
+    let z = after-zero .zero .ensures in
+    let a = after-clear .clear .ensures in
     let b = c .before .before .clear2 .ensures in (
       p .some-mark,
       omega (arith, p .some-mark),
-      stage-clear _ (c .before .before .before .before .before .before .clear .last .0) (c .before .before .clear2 .last .0) (p .room .few) (p .some-mark) (omega (arith, a .0, p .room .bests)) (omega (arith, b .0, p .room .segs)) (a .1) (λ i h. b .1 i (omega arith)),
+      stage-clear _ (after-clear .clear .last .0) (c .before .before .clear2 .last .0) (p .room .few) (p .some-mark) (omega (arith, a .0, p .room .bests)) (omega (arith, b .0, p .room .segs)) (a .1) (λ i h. b .1 i (omega arith)),
       refl,
       refl,
       refl,
       λ k h. omega (arith, z k h),
-      λ lines g. plant-start lines _ _ _ _ _ _ g (c .before .before .before .before .before .before .clear .last .0) (c .before .before .clear2 .last .0) _ (a .1) (λ i h. b .1 i (omega arith)),
+      λ lines g. plant-start lines _ _ _ _ _ _ g (after-clear .clear .last .0) (c .before .before .clear2 .last .0) _ (a .1) (λ i h. b .1 i (omega arith)),
     )
 
 add-loop : tie.Need-add-loop Inv-loop μ-loop
 add-loop c = search needs
 
 sprout-requires : tie.Need-sprout-requires Inv-loop μ-loop
-sprout-requires c κs = let p = c .before .before .before .before .before .before .before .before .before .before .before .before .before .before .before .before .before .before .before .before .before .before .before .before .before .pre in
-    (p .0, (p .1 .0, (p .1 .1 .0, (c .before .before .before .before .loop .inv .2, (c .before .before .before .before .loop .inv .1, omega (arith, p .1 .1 .1 .orders, c .before .before .before .before .loop .inv))))))
+sprout-requires c κs =
+    let at-loop : tie.At-loop Inv-loop μ-loop = search in
+    let entry : tie.Start Inv-loop μ-loop = search in
+    let p = entry .pre in
+    (p .0, (p .1 .0, (p .1 .1 .0, (at-loop .loop .inv .2, (at-loop .loop .inv .1, omega (arith, c, p .1 .1 .1 .orders, at-loop .loop .inv))))))
 
 add-k : tie.Need-add-k Inv-loop μ-loop
 add-k c = search needs
@@ -59,13 +66,18 @@ loop-less : tie.Need-loop-less Inv-loop μ-loop
 loop-less c = omega arith
 
 loop-again : tie.Need-loop-again Inv-loop μ-loop
-loop-again c = let v = c .before .before .before .before .before .before .before .before .before .before .before .loop .inv in
-    let e = c .before .before .before .before .before .before .sprout .ensures in
-    let p = c .before .before .before .before .before .before .before .before .before .before .before .before .before .before .before .before .before .before .before .before .before .before .before .before .before .before .before .before .before .before .before .before .pre in (
+loop-again c =
+    let after-sprout : tie.After-sprout Inv-loop μ-loop = search in
+    let at-loop : tie.At-loop Inv-loop μ-loop = search in
+    let after-order : tie.After-order Inv-loop μ-loop = search in
+    let entry : tie.Start Inv-loop μ-loop = search in
+    let v = at-loop .loop .inv in
+    let e = after-sprout .sprout .ensures in
+    let p = entry .pre in (
       omega arith,
       sprouted-high _ _ _ _ _ _ _ _ _ _ _ _ _ _ _ (v .1) e,
       sprouted-stage _ _ _ _ _ _ _ _ _ _ _ _ _ _ _ (v .2) (p .1 .1 .0) e,
-      omega arith,
+      omega (arith, c),
       omega arith,
       omega arith,
       sprouted-below _ _ _ _ _ _ _ _ _ _ _ _ _ _ _ (v .2) (p .1 .1 .0) (v .6) e,

@@ -28,7 +28,9 @@ same-length-3 : tie.Need-same-length-3
 same-length-3 c = search needs
 
 returns : tie.Need-returns
-returns c = by-line (c .before .before .before .before .before .turn .result) (c .before .before .before .before .before .turn .ensures) (λ e. omega arith) refl refl
+returns c =
+    let after-turn : tie.After-turn = search in
+    by-line (after-turn .turn .result) (after-turn .turn .ensures) (λ e. omega arith) refl refl
 
 first-far-requires : tie.Need-first-far-requires
 first-far-requires c κs = search needs
@@ -46,19 +48,30 @@ shared-slice-read-relax : tie.Need-shared-slice-read-relax
 shared-slice-read-relax c = search needs
 
 relax-requires : tie.Need-relax-requires
-relax-requires c κs = let p = c .before .before .before .before .before .before .before .before .before .before .before .before .before .before .before .before .before .before .before .before .before .before .pre in
-    let st = turned-any _ _ _ _ _ _ _ _ _ _ _ _ (p .1 .1 .1 .0) (p .1 .1 .0) (c .before .before .before .before .before .before .before .before .before .before .before .turn .ensures) in
-    let lt : c .before .before .before .before .first-far .result < c .before .before .before .before .before .before .before .before .before .before .before .before .before .before .before .before .before .before .before .before .before .before .args .n = omega arith in
+relax-requires c κs =
+    let after-first-far : tie.After-first-far = search in
+    let after-turn : tie.After-turn = search in
+    let entry : tie.Start = search in
+    let p = entry .pre in
+    let st = turned-any _ _ _ _ _ _ _ _ _ _ _ _ (p .1 .1 .1 .0) (after-turn .turn .ensures) in
+    let lt : after-first-far .first-far .result < entry .args .n = omega arith in
     (p .0, (stage-set _ _ _ _ st lt, (p .1 .0 .head-ok _ lt, omega arith)))
 
 mul-order-2 : tie.Need-mul-order-2
-mul-order-2 c = omega (arith, c .before .before .before .before .before .before .before .before .before .before .before .before .before .before .before .before .before .before .before .before .before .before .before .before .before .before .before .pre .1 .1 .1 .1, c .before .before .before .before .before .before .before .before .before .before .before .before .before .before .before .before .before .before .before .before .before .before .before .before .before .before .before .good)
+mul-order-2 c =
+    let entry : tie.Start = search in
+    omega (arith, entry .pre .1 .1 .1 .1, entry .good)
 
 slice-write-order-2 : tie.Need-slice-write-order-2
-slice-write-order-2 c = c .before .before .before .before .before .before .before .before .before .before .before .before .before .before .before .before .before .before .before .before .before .before .before .before .before .before .before .pre .1 .1 .1 .1 .1
+slice-write-order-2 c =
+    let entry : tie.Start = search in
+    entry .pre .1 .1 .1 .1 .1
 
 same-length-4 : tie.Need-same-length-4
-same-length-4 c = omega (arith, length-set (c .before .before .before .before .before .before .before .before .before .before .before .before .before .before .before .before .turn .last .1 .1 .1 .1 .1 .0) (c .before .before .before .before .before .before .before .before .before .first-far .result) 0)
+same-length-4 c =
+    let after-first-far : tie.After-first-far = search in
+    let after-turn : tie.After-turn = search in
+    omega (arith, length-set (after-turn .turn .last .1 .1 .1 .1 .1 .0) (after-first-far .first-far .result) 0)
 
 same-length-5 : tie.Need-same-length-5
 same-length-5 c = search needs
@@ -67,7 +80,11 @@ same-length-6 : tie.Need-same-length-6
 same-length-6 c = search needs
 
 returns-2 : tie.Need-returns-2
-returns-2 c = by-root (c .before .before .before .before .before .before .before .before .before .before .before .before .before .before .before .before .turn .result) (c .before .before .before .before .before .before .before .before .before .before .before .before .before .before .before .before .turn .last .1 .1 .1 .1 .1 .0) (c .before .before .before .before .before .before .before .before .before .before .before .before .before .before .before .before .turn .last .1 .1 .1 .1 .1 .1 .0) (c .before .before .before .before .before .before .before .before .before .before .before .before .before .before .before .before .turn .ensures) (omega arith) (c .before .before .before .before .before .before .before .before .before .first-far .ensures) (omega arith) (c .before .before .before .before .relax .ensures) refl
+returns-2 c =
+    let after-relax : tie.After-relax = search in
+    let after-first-far : tie.After-first-far = search in
+    let after-turn : tie.After-turn = search in
+    by-root (after-turn .turn .result) (after-turn .turn .last .1 .1 .1 .1 .1 .0) (after-turn .turn .last .1 .1 .1 .1 .1 .1 .0) (after-turn .turn .ensures) (omega arith) (after-first-far .first-far .ensures) (omega arith) (after-relax .relax .ensures) refl
 
 same-length-7 : tie.Need-same-length-7
 same-length-7 c = search needs
@@ -76,7 +93,9 @@ same-length-8 : tie.Need-same-length-8
 same-length-8 c = search needs
 
 returns-3 : tie.Need-returns-3
-returns-3 c = ended (c .before .before .before .before .before .before .before .before .turn .result) (c .before .before .before .before .before .before .before .before .turn .ensures) (omega arith) (c .before .first-far .ensures) (omega arith) refl
+returns-3 c =
+    let after-turn : tie.After-turn = search in
+    ended (after-turn .turn .result) (after-turn .turn .ensures) (omega arith) (c .before .first-far .ensures) (omega arith) refl
 
 pub sprout-spec : {M : Type 1} → statement M
 sprout-spec =

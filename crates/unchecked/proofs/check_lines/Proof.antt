@@ -1,68 +1,79 @@
--- The loop of `check_lines`: the closing lines before place i are done, the rest are left. Assumes nothing.
+-- The loop of `check_lines`: the lines with numbers below `number` are done. Assumes nothing.
 use Prim.Native.Nat.{ℕ, _-_, _≤_}
-use mathlib.Core.Path.{_≡_, refl}
-use mathlib.Core.List.{List}
 use native.Mathlib.Omega.{arith}
-use borrow.Author.Needs.{needs}
+use mathlib.Core.Path.{_≡_}
+use mathlib.Core.List.{List}
 use lib.ListN.{length}
+use borrow.Author.Needs.{needs}
 use Rattle.network.specs.Standing.{Line}
+use Rattle.network.specs.Tree.{tree}
 use Rattle.chains.specs.Chains.{numberLimit}
-use Rattle.unchecked.specs.Ways.{TreeHeld, ClosingHeld}
-use Rattle.unchecked.proofs.Marking.{Left, left-start, left-turn, left-end}
+use Rattle.chains.specs.Listed.{Listed}
+use Rattle.tree.specs.Plant.{Holding}
+use Rattle.unchecked.proofs.Checking.{SoFar, start-so-far, next-so-far, all-so-far}
 use Rattle.unchecked.proofs.check_lines.Statement.{statement}
 use Rattle.unchecked.proofs.check_lines.Tie as tie
+use Rattle.unchecked.proofs.check_lines.Reads as reads
+use Rattle.unchecked.proofs.check_lines.Lts as lts
+use Rattle.chains.proofs.zero.Reads as zero-reads
+use Rattle.unchecked.proofs.check_line.Reads as check-line-reads
 
 abbrev Inv-loop : tie.InvT-loop
-Inv-loop tip best close marked₀ count i₀ marked i = (numberLimit ≤ length marked) × (length marked ≡ length marked₀) × ((n : ℕ) (lines : List Line) → TreeHeld n lines tip best → ClosingHeld n lines close count → Left n lines close count marked i)
+Inv-loop tip long best marked₀ q number₀ marked number =
+    (numberLimit ≤ length marked) × (length marked ≡ length marked₀) × ((n : ℕ) (order : List ℕ) (lines : List Line) → Listed lines n q tip long → Holding (tree (n - 1) lines) best order tip → SoFar n lines marked number)
 
 abbrev μ-loop : tie.MeasureT-loop
-μ-loop tip best close marked₀ count i₀ marked i = count - i
+μ-loop tip long best marked₀ q number₀ marked number = q - number
 
 zero-requires : tie.Need-zero-requires Inv-loop μ-loop
-zero-requires c κs = omega (arith, c .before .before .before .before .before .pre .tables .marks)
+zero-requires c κs =
+    let entry : tie.Start Inv-loop μ-loop = search in
+    omega (arith, entry .pre .marks)
 
 loop-holds : tie.Need-loop-holds Inv-loop μ-loop
 loop-holds c =
-    let p = c .before .before .before .before .before .before .before .before .pre in
-    (omega (arith, p .tables .marks), refl, λ n lines t h. left-start t _ _ h (c .before .before .zero .ensures))
+    let after-zero : tie.After-zero Inv-loop μ-loop = search in
+    let entry : tie.Start Inv-loop μ-loop = search in
+    (omega (arith, c, entry .pre .marks), omega (arith, c), λ n order lines li ho. start-so-far li ho (after-zero .zero .ensures))
 
-mul-check-loop : tie.Need-mul-check-loop Inv-loop μ-loop
-mul-check-loop c = search needs
+check-line-requires : tie.Need-check-line-requires Inv-loop μ-loop
+check-line-requires c κs =
+    let at-loop : tie.At-loop Inv-loop μ-loop = search in
+    let entry : tie.Start Inv-loop μ-loop = search in
+    let p = entry .pre in (
+      record {
+        marks = at-loop .loop .inv .0;
+        few = p .few;
+        longs = p .longs;
+        n = p .n;
+        tips = p .tips;
+        bests = p .bests;
+        order = p .order;
+        lines = p .lines;
+        listed = p .listed;
+        holding = p .holding;
+      },
+      omega (arith, c),
+    )
 
-shared-slice-read-check-loop : tie.Need-shared-slice-read-check-loop Inv-loop μ-loop
-shared-slice-read-check-loop c = omega (arith, c .before .before .before .before .before .before .before .before .before .before .before .before .pre .closes)
-
-check-loop-requires : tie.Need-check-loop-requires Inv-loop μ-loop
-check-loop-requires c κs =
-    let p = c .before .before .before .before .before .before .before .before .before .before .before .before .pre in
-    let v = c .before .before .before .loop .inv in
-    let w = left-turn (p .held) _ _ (omega arith) (v .2 (p .n) (p .lines) (p .held) (p .closing-held)) in record {
-      tables = record { tips = p .tables .tips; marks = v .0 };
-      n = p .n;
-      bests = p .bests;
-      lines = p .lines;
-      held = p .held;
-      c = w .c;
-      isLine = w .isLine;
-      its = w .its;
-    }
-
-add-i : tie.Need-add-i Inv-loop μ-loop
-add-i c = search needs
+add-number : tie.Need-add-number Inv-loop μ-loop
+add-number c = search needs
 
 loop-less : tie.Need-loop-less Inv-loop μ-loop
 loop-less c = search needs
 
 loop-again : tie.Need-loop-again Inv-loop μ-loop
 loop-again c =
-    let v = c .before .before .before .before .before .before .loop .inv in
-    (omega arith, omega arith, λ n lines t h. let w = left-turn t _ _ (omega arith) (v .2 n lines t h) in w .next (c .before .before .check-loop .ensures n lines t (w .c) (w .isLine) (w .its)))
+    let after-check-line : tie.After-check-line Inv-loop μ-loop = search in
+    let at-loop : tie.At-loop Inv-loop μ-loop = search in
+    let v = at-loop .loop .inv in
+    (omega (arith, c, v), omega (arith, c, v), λ n order lines li ho. next-so-far li ho (omega (arith, c)) (v .2 n order lines li ho) (after-check-line .check-line .ensures))
 
 same-length : tie.Need-same-length Inv-loop μ-loop
 same-length c = search needs
 
 returns : tie.Need-returns Inv-loop μ-loop
-returns c = λ n lines t h. left-end t _ _ (omega arith) (c .before .loop .inv .2 n lines t h)
+returns c = λ n order lines li ho. all-so-far li ho (omega arith) (c .before .loop .inv .2 n order lines li ho)
 
 pub check-lines-spec : {M : Type 1} → statement M
 check-lines-spec =
@@ -72,10 +83,8 @@ check-lines-spec =
     μ-loop
     zero-requires
     loop-holds
-    mul-check-loop
-    shared-slice-read-check-loop
-    check-loop-requires
-    add-i
+    check-line-requires
+    add-number
     loop-less
     loop-again
     same-length

@@ -29,20 +29,29 @@ mul-from-2 : tie.Need-mul-from-2
 mul-from-2 c = omega (arith, low (c .before .before .before .pre))
 
 shared-slice-read-from : tie.Need-shared-slice-read-from
-shared-slice-read-from c = omega (arith, low (c .before .before .before .before .pre), c .before .before .before .before .pre .tables .tips)
+shared-slice-read-from c =
+    let entry : tie.Start = search in
+    omega (arith, low (entry .pre), entry .pre .tables .tips)
 
 mul-to : tie.Need-mul-to
-mul-to c = omega (arith, low (c .before .before .before .before .pre))
+mul-to c =
+    let entry : tie.Start = search in
+    omega (arith, low (entry .pre))
 
 mul-to-2 : tie.Need-mul-to-2
-mul-to-2 c = omega (arith, low (c .before .before .before .before .pre))
+mul-to-2 c =
+    let entry : tie.Start = search in
+    omega (arith, low (entry .pre))
 
 shared-slice-read-to : tie.Need-shared-slice-read-to
-shared-slice-read-to c = omega (arith, low (c .before .before .before .before .before .pre), c .before .before .before .before .before .pre .tables .tips)
+shared-slice-read-to c =
+    let entry : tie.Start = search in
+    omega (arith, low (entry .pre), entry .pre .tables .tips)
 
 follow-requires : tie.Need-follow-requires
 follow-requires c κs =
-    let p = c .before .before .before .before .before .before .pre in record {
+    let entry : tie.Start = search in
+    let p = entry .pre in record {
       tables = record { tips = p .tables .tips; marks = simp length-set (p .tables .marks) };
       n = p .n;
       bests = p .bests;
@@ -54,12 +63,12 @@ follow-requires c κs =
 
 same-length : tie.Need-same-length
 same-length c =
-    let s = c .before .before .before .before .before .before .before .before .before in
+    let s : tie.Start = search in
     omega (arith, c .before .before .follow .kept .1 .1 .0, length-set (s .args .marked .now) (s .args .number) 1)
 
 returns : tie.Need-returns
 returns c =
-    let s = c .before .before .before .before .before .before .before .before .before in
+    let s : tie.Start = search in
     λ n lines t l i e. loop-checked t l i e (s .args .marked .now) (c .before .before .follow .last .1 .1 .0) (s .pre .tables .marks) (c .before .before .follow .ensures)
 
 pub check-loop-spec : {M : Type 1} → statement M

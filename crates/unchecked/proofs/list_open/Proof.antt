@@ -20,13 +20,19 @@ loop-holds : tie.Need-loop-holds Inv-loop μ-loop
 loop-holds c = (omega arith, refl, writing-start _ _ _ _)
 
 is-open-requires : tie.Need-is-open-requires Inv-loop μ-loop
-is-open-requires c κs = let p = c .before .before .before .before .before .pre in (omega (arith, p .longs), omega (arith, p .marks))
+is-open-requires c κs =
+    let entry : tie.Start Inv-loop μ-loop = search in
+    let p = entry .pre in (omega (arith, p .longs), omega (arith, p .marks))
 
 mul-out : tie.Need-mul-out Inv-loop μ-loop
-mul-out c = let p = c .before .before .before .before .before .before .before .pre in omega (arith, p .outs)
+mul-out c =
+    let entry : tie.Start Inv-loop μ-loop = search in
+    let p = entry .pre in omega (arith, p .outs)
 
 slice-write-out : tie.Need-slice-write-out Inv-loop μ-loop
-slice-write-out c = let p = c .before .before .before .before .before .before .before .pre in omega (arith, p .outs)
+slice-write-out c =
+    let entry : tie.Start Inv-loop μ-loop = search in
+    let p = entry .pre in omega (arith, p .outs)
 
 add-c : tie.Need-add-c Inv-loop μ-loop
 add-c c = search needs

@@ -3,6 +3,10 @@ use Rattle.unchecked.proofs.Listing.{open-list}
 use borrow.Author.Needs.{needs}
 use Rattle.unchecked.proofs.not_checked.Statement.{statement}
 use Rattle.unchecked.proofs.not_checked.Tie as tie
+use Rattle.unchecked.proofs.not_checked.Reads as reads
+use Rattle.unchecked.proofs.not_checked.Lts as lts
+use Rattle.unchecked.proofs.check_lines.Reads as check-lines-reads
+use Rattle.unchecked.proofs.list_open.Reads as list-open-reads
 
 check-lines-requires : tie.Need-check-lines-requires
 check-lines-requires c κs = search needs
@@ -18,9 +22,10 @@ same-length-2 c = search needs
 
 returns : tie.Need-returns
 returns c =
-    let few = c .before .before .before .before .before .before .before .before .before .before .before .before .before .before .before .pre .few in
-    let marking = c .before .before .before .before .before .before .before .check-lines in
-    λ n order lines li ho ch. open-list (marking .last .1 .1 .1 .0) few li ho ch (marking .ensures) (c .before .before .list-open .ensures)
+    let after-list-open : tie.After-list-open = search in
+    let after-check-lines : tie.After-check-lines = search in
+    let entry : tie.Start = search in
+    λ n order lines li ho. open-list _ (entry .pre .closes .few) li ho (after-check-lines .check-lines .ensures) (after-list-open .list-open .ensures)
 
 pub not-checked-spec : {M : Type 1} → statement M
 not-checked-spec =

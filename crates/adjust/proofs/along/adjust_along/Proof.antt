@@ -9,8 +9,9 @@ hold-and-place-requires c κs = search needs
 
 raise-and-begin-requires : tie.Need-raise-and-begin-requires
 raise-and-begin-requires c κs =
-    let s = c .before .before .before .before .before .before .before .before .before .before .before .before .before .before .before .before .before .before .before .before .before .before .before in
-    let p = c .before .before .before .before .before .before .before .before .before .before .before .before .before .hold-and-place in
+    let after-hold-and-place : tie.After-hold-and-place = search in
+    let s : tie.Start = search in
+    let p = after-hold-and-place .hold-and-place in
     (known (s .args .lines .now) (s .args .held .now) (s .args .order .now) (s .args .came .now) (s .args .b) (s .args .n) (s .args .h) (s .pre .0) (s .pre .1 .0) (p .last .1 .1 .1 .1 .0) (p .last .1 .1 .1 .1 .1 .0) (p .last .1 .1 .1 .1 .1 .1 .0) (p .last .1 .1 .1 .1 .1 .1 .1 .0) (p .ensures .0) (p .ensures .1), (s .pre .1 .1 .1 .0, s .pre .1 .1 .1 .1))
 
 refuse-requires : tie.Need-refuse-requires
@@ -39,16 +40,20 @@ same-length-7 c = search needs
 
 returns : tie.Need-returns
 returns c =
-    let s = c .before .before .before .before .before .before .before .before .before .before .before .before .before .before .before .before .before .before .before .before .before .before .before .before .before .before .before .before .before .before in
-    let p = c .before .before .before .before .before .before .before .before .before .before .before .before .before .before .before .before .before .before .before .before .hold-and-place in
-    let r = c .before .before .before .before .before .before .raise-and-begin in
+    let after-raise-and-begin : tie.After-raise-and-begin = search in
+    let after-hold-and-place : tie.After-hold-and-place = search in
+    let s : tie.Start = search in
+    let p = after-hold-and-place .hold-and-place in
+    let r = after-raise-and-begin .raise-and-begin in
     unheld-answer (s .args .lines .now) (s .args .held .now) (s .args .order .now) (s .args .came .now) (s .args .b) (s .args .n) (s .args .h) (s .pre .0) (s .pre .1 .0) (p .last .1 .1 .1 .1 .0) (p .last .1 .1 .1 .1 .1 .0) (p .last .1 .1 .1 .1 .1 .1 .0) (p .last .1 .1 .1 .1 .1 .1 .1 .0) (p .ensures .0) (p .ensures .1) (r .last .1 .1 .1 .1 .1 .1 .0) (r .result) (r .ensures) (c .refuse .result) (r .last .1 .1 .1 .1 .1 .1 .0) (c .before .if1 .taken) (c .refuse .ensures)
 
 settle-lines-requires : tie.Need-settle-lines-requires
 settle-lines-requires c κs =
-    let s = c .before .before .before .before .before .before .before .before .before .before .before .before .before .before .before .before .before .before .before .before .before .before .before .before .before .before .before .before .before .before .before in
-    let p = c .before .before .before .before .before .before .before .before .before .before .before .before .before .before .before .before .before .before .before .before .before .hold-and-place in
-    let r = c .before .before .before .before .before .before .before .raise-and-begin in
+    let after-raise-and-begin : tie.After-raise-and-begin = search in
+    let after-hold-and-place : tie.After-hold-and-place = search in
+    let s : tie.Start = search in
+    let p = after-hold-and-place .hold-and-place in
+    let r = after-raise-and-begin .raise-and-begin in
     (s .pre .0 .linesGood, ((s .pre .0 .some-mark, s .pre .0 .few), (working (s .args .lines .now) (s .args .held .now) (s .args .order .now) (s .args .came .now) (s .args .b) (s .args .n) (s .args .h) (s .pre .0) (s .pre .1 .0) (p .last .1 .1 .1 .1 .0) (p .last .1 .1 .1 .1 .1 .0) (p .last .1 .1 .1 .1 .1 .1 .0) (p .last .1 .1 .1 .1 .1 .1 .1 .0) (p .ensures .0) (p .ensures .1) (r .last .1 .1 .1 .1 .1 .1 .0) (r .result) (r .ensures) (omega (arith, c .before .before .if1 .left)), omega (arith, p .ensures .0 .flagged))))
 
 answer-of-requires : tie.Need-answer-of-requires
@@ -77,11 +82,16 @@ same-length-14 c = search needs
 
 returns-2 : tie.Need-returns-2
 returns-2 c =
-    let s = c .before .before .before .before .before .before .before .before .before .before .before .before .before .before .before .before .before .before .before .before .before .before .before .before .before .before .before .before .before .before .before .before .before .before in
-    let p = c .before .before .before .before .before .before .before .before .before .before .before .before .before .before .before .before .before .before .before .before .before .before .before .before .hold-and-place in
-    let r = c .before .before .before .before .before .before .before .before .before .before .raise-and-begin in
+    let else1 : tie.Else1 = search in
+    let after-raise-and-begin : tie.After-raise-and-begin = search in
+    let after-over : tie.After-over = search in
+    let after-hold-and-place : tie.After-hold-and-place = search in
+    let after-slice-known3 : tie.After-slice-known3 = search in
+    let s : tie.Start = search in
+    let p = after-hold-and-place .hold-and-place in
+    let r = after-raise-and-begin .raise-and-begin in
     let l = c .before .before .settle-lines in
-    settled-answer (s .args .lines .now) (s .args .held .now) (s .args .order .now) (s .args .came .now) (s .args .b) (s .args .n) (s .args .h) (s .pre .0) (s .pre .1 .0) (p .last .1 .1 .1 .1 .0) (p .last .1 .1 .1 .1 .1 .0) (p .last .1 .1 .1 .1 .1 .1 .0) (p .last .1 .1 .1 .1 .1 .1 .1 .0) (p .ensures .0) (p .ensures .1) (r .last .1 .1 .1 .1 .1 .1 .0) (r .result) (r .ensures) (omega (arith, c .before .before .before .before .before .if1 .left)) (c .answer-of .result) (l .result) (l .last .1 .1 .0) (c .answer-of .ensures) (l .ensures)
+    settled-answer (s .args .lines .now) (s .args .held .now) (s .args .order .now) (s .args .came .now) (s .args .b) (s .args .n) (s .args .h) (s .pre .0) (s .pre .1 .0) (p .last .1 .1 .1 .1 .0) (p .last .1 .1 .1 .1 .1 .0) (p .last .1 .1 .1 .1 .1 .1 .0) (p .last .1 .1 .1 .1 .1 .1 .1 .0) (p .ensures .0) (p .ensures .1) (r .last .1 .1 .1 .1 .1 .1 .0) (r .result) (r .ensures) (omega (arith, else1 .if1 .left)) (c .answer-of .result) (l .result) (l .last .1 .1 .0) (c .answer-of .ensures) (l .ensures)
 
 pub adjust-along-spec : {M : Type 1} → statement M
 adjust-along-spec =

@@ -21,16 +21,18 @@ same-length-2 c = search needs
 
 returns : tie.Need-returns
 returns c =
-    let s = c .before .before .before .before .before .before .before .before .before in
-    let a = c .before .before .before .before .before .before .before .adjust-into in
-    call-done (s .args .book) (s .args .held .now) (s .args .lines .now) (s .args .heights .now) (a .result) _ (s .pre .1 .1) (a .ensures) (c .before .before .before .before .if1 .taken) _ (c .before .put .ensures)
+    let then1 : tie.Then1 = search in
+    let after-adjust-into : tie.After-adjust-into = search in
+    let s : tie.Start = search in
+    let a = after-adjust-into .adjust-into in
+    call-done (s .args .book) (s .args .held .now) (s .args .lines .now) (s .args .heights .now) (a .result) _ (s .pre .1 .1) (a .ensures) (then1 .if1 .taken) _ (c .before .put .ensures)
 
 same-length-3 : tie.Need-same-length-3
 same-length-3 c = search needs
 
 returns-2 : tie.Need-returns-2
 returns-2 c =
-    let s = c .before .before .before .before .before in
+    let s : tie.Start = search in
     let a = c .before .before .before .adjust-into in
     call-refused (s .args .book) (s .args .held .now) (s .args .lines .now) (s .args .heights .now) (a .result) _ (s .pre .1 .1) (a .ensures) (c .if1 .left)
 

@@ -29,42 +29,55 @@ array-borrow-prefix-flags : tie.Need-array-borrow-prefix-flags
 array-borrow-prefix-flags c = search needs
 
 slice-aggregate-adjust-along-3 : tie.Need-slice-aggregate-adjust-along-3
-slice-aggregate-adjust-along-3 c = let s = c .before .before .before .before .before .before .before .before in sym (so-many false (s .args .book .marks) 256 (s .pre .0 .few))
+slice-aggregate-adjust-along-3 c =
+    let s : tie.Start = search in
+    sym (so-many false (s .args .book .marks) 256 (s .pre .0 .few))
 
 array-borrow-prefix-own : tie.Need-array-borrow-prefix-own
 array-borrow-prefix-own c = search needs
 
 slice-aggregate-adjust-along-4 : tie.Need-slice-aggregate-adjust-along-4
-slice-aggregate-adjust-along-4 c = let s = c .before .before .before .before .before .before .before .before .before in sym (so-many (pos 0) (s .args .book .marks) 256 (s .pre .0 .few))
+slice-aggregate-adjust-along-4 c =
+    let s : tie.Start = search in
+    sym (so-many (pos 0) (s .args .book .marks) 256 (s .pre .0 .few))
 
 array-borrow-prefix-root : tie.Need-array-borrow-prefix-root
 array-borrow-prefix-root c = search needs
 
 slice-aggregate-adjust-along-5 : tie.Need-slice-aggregate-adjust-along-5
-slice-aggregate-adjust-along-5 c = let s = c .before .before .before .before .before .before .before .before .before .before in sym (so-many 0 (s .args .book .marks) 256 (s .pre .0 .few))
+slice-aggregate-adjust-along-5 c =
+    let s : tie.Start = search in
+    sym (so-many 0 (s .args .book .marks) 256 (s .pre .0 .few))
 
 array-borrow-prefix-over : tie.Need-array-borrow-prefix-over
 array-borrow-prefix-over c = search needs
 
 slice-aggregate-adjust-along-6 : tie.Need-slice-aggregate-adjust-along-6
-slice-aggregate-adjust-along-6 c = let s = c .before .before .before .before .before .before .before .before .before .before .before in sym (so-many (pos 0) (s .args .book .marks) 256 (s .pre .0 .few))
+slice-aggregate-adjust-along-6 c =
+    let s : tie.Start = search in
+    sym (so-many (pos 0) (s .args .book .marks) 256 (s .pre .0 .few))
 
 array-borrow-prefix-has : tie.Need-array-borrow-prefix-has
 array-borrow-prefix-has c = search needs
 
 slice-aggregate-adjust-along-7 : tie.Need-slice-aggregate-adjust-along-7
-slice-aggregate-adjust-along-7 c = let s = c .before .before .before .before .before .before .before .before .before .before .before .before in sym (so-many false (s .args .book .marks) 256 (s .pre .0 .few))
+slice-aggregate-adjust-along-7 c =
+    let s : tie.Start = search in
+    sym (so-many false (s .args .book .marks) 256 (s .pre .0 .few))
 
 array-borrow-prefix-base : tie.Need-array-borrow-prefix-base
 array-borrow-prefix-base c = search needs
 
 slice-aggregate-adjust-along-8 : tie.Need-slice-aggregate-adjust-along-8
-slice-aggregate-adjust-along-8 c = let s = c .before .before .before .before .before .before .before .before .before .before .before .before .before in sym (so-many (pos 0) (s .args .book .marks) 256 (s .pre .0 .few))
+slice-aggregate-adjust-along-8 c =
+    let s : tie.Start = search in
+    sym (so-many (pos 0) (s .args .book .marks) 256 (s .pre .0 .few))
 
 adjust-along-requires : tie.Need-adjust-along-requires
 adjust-along-requires c κs =
-    let s = c .before .before .before .before .before .before .before .before .before .before .before .before .before .before in
-    let p = c .before .before .before .before .before .before .before .before .before .before .before .plant in
+    let after-plant : tie.After-plant = search in
+    let s : tie.Start = search in
+    let p = after-plant .plant in
     let b = s .args .book .marks in
     let g = s .pre .0 in (
       record { some-mark = g .some-mark; few = g .few; linesGood = g .lines-good; heldGood = g .held-good; growth = p .ensures .1 },

@@ -30,7 +30,7 @@ abbrev μ-scan : tie.MeasureT-scan
 μ-scan held b n i₀ i = n - i
 
 -- the two flags that the code has, as tests of the list
-out-flag : (c : tie.After-outside Inv-loop μ-loop Inv-scan μ-scan) → (let at = c .before .before .before .before in let g = at .before .args in
+out-flag : (c : tie.After-outside Inv-loop μ-loop Inv-scan μ-scan) → (let at : tie.At-scan Inv-loop μ-loop Inv-scan μ-scan = search in let g = at .before .args in
     c .outside .result ≡ heldOut (toZ w64 (ofZ w64 (g .b))) (markAt (g .held .now) (at .scan .i)) (heightAt (g .held .now) (at .scan .i)))
 out-flag c = c .outside .ensures ∙ search needs
 
@@ -72,7 +72,7 @@ add-result c = omega arith
 loop-holds : tie.Need-loop-holds Inv-loop μ-loop Inv-scan μ-scan
 unfolding heldBefore
 loop-holds c =
-    let at = c .before .before .before .before .before in
+    let at : tie.At-scan Inv-loop μ-loop Inv-scan μ-scan = search in
     (omega arith, any-none (λ j. eqZ (markAt (at .before .args .held .now) j) (markAt (at .before .args .held .now) (at .scan .i))))
 
 mul-same : tie.Need-mul-same Inv-loop μ-loop Inv-scan μ-scan
@@ -102,7 +102,7 @@ loop-less c = omega arith
 loop-again : tie.Need-loop-again Inv-loop μ-loop Inv-scan μ-scan
 unfolding heldBefore
 loop-again c =
-    let at = c .before .before .before .before in
+    let at : tie.At-loop Inv-loop μ-loop Inv-scan μ-scan = search in
     (omega arith, any-next _ (at .loop .j) (at .loop .inv .1) (sym (held-flag (c .before)) ∙ c .if3 .left))
 
 add-i : tie.Need-add-i Inv-loop μ-loop Inv-scan μ-scan
@@ -126,7 +126,7 @@ returns c = scan-end _ _ (c .before .scan .i) (c .if1 .taken) (c .before .scan .
 returns-2 : tie.Need-returns-2 Inv-loop μ-loop Inv-scan μ-scan
 unfolding firstBadHeld heldBad
 returns-2 c =
-    let at = c .before .before .before .before .before in
+    let at : tie.At-scan Inv-loop μ-loop Inv-scan μ-scan = search in
     scan-stop _ _ (at .scan .i) (omega arith) (sym (or-here _ (out-flag (c .before)) (c .if2 .taken))) (at .scan .inv) ∙ search needs
 
 returns-3 : tie.Need-returns-3 Inv-loop μ-loop Inv-scan μ-scan

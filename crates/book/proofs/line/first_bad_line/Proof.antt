@@ -54,7 +54,7 @@ add-result c = omega arith
 returns : tie.Need-returns Inv-loop μ-loop
 unfolding firstBadLine
 returns c =
-    let in-loop = c .before .before .before .before in
+    let in-loop : tie.In-loop Inv-loop μ-loop = search in
     let i = in-loop .before .loop .i in
     let e = simp add-sub-cancel-left at (c .before .before .line-of .ensures) in
     scan-stop _ _ i (in-loop .loop-test .taken) (faulty-entry _ _ i _ e _ (c .enum-told .given .1)) (in-loop .before .loop .inv) ∙ search needs
@@ -70,7 +70,7 @@ loop-less c = omega arith
 
 loop-again : tie.Need-loop-again Inv-loop μ-loop
 loop-again c =
-    let in-loop = c .before .before .before .before in
+    let in-loop : tie.In-loop Inv-loop μ-loop = search in
     let i = in-loop .before .loop .i in
     let e = simp add-sub-cancel-left at (c .before .before .line-of .ensures) in
     scan-next _ _ i (in-loop .loop-test .taken) (good-entry _ _ i _ e _ (c .enum-told2 .given .1)) (in-loop .before .loop .inv)

@@ -10,13 +10,17 @@ enum-told : tie.Need-enum-told
 enum-told c = search needs
 
 read-held-requires : tie.Need-read-held-requires
-read-held-requires c κs = rw (c .before .enum-told .given .1) at (c .before .before .before .before .pre)
+read-held-requires c κs =
+    let entry : tie.Start = search in
+    rw (c .before .enum-told .given .1) at (entry .pre)
 
 enum-told-2 : tie.Need-enum-told-2
 enum-told-2 c = search needs
 
 read-line-requires : tie.Need-read-line-requires
-read-line-requires c κs = rw (c .before .enum-told2 .given .1) at (c .before .before .before .before .pre)
+read-line-requires c κs =
+    let entry : tie.Start = search in
+    rw (c .before .enum-told2 .given .1) at (entry .pre)
 
 same-length : tie.Need-same-length
 same-length c = search needs

@@ -43,30 +43,34 @@ slice-aggregate-listing-in-13 : tie.Need-slice-aggregate-listing-in-13
 slice-aggregate-listing-in-13 c = search needs
 
 listing-in-requires : tie.Need-listing-in-requires
-listing-in-requires c κs = (
-  c .before .before .before .before .before .before .before .before .before .before .before .before .before .before .pre,
-  record {
-    tips = search needs;
-    longs = search needs;
-    heads = search needs;
-    nexts = search needs;
-    fars = search needs;
-    adds = search needs;
-    bests = search needs;
-    segs = search needs;
-    orders = search needs;
-    ranks = search needs;
-    sorts = search needs;
-    closes = search needs;
-    paths = search needs;
-  },
-)
+listing-in-requires c κs =
+    let entry : tie.Start = search in (
+      entry .pre,
+      record {
+        tips = search needs;
+        longs = search needs;
+        heads = search needs;
+        nexts = search needs;
+        fars = search needs;
+        adds = search needs;
+        bests = search needs;
+        segs = search needs;
+        orders = search needs;
+        ranks = search needs;
+        sorts = search needs;
+        closes = search needs;
+        paths = search needs;
+      },
+    )
 
 same-length : tie.Need-same-length
 same-length c = search needs
 
 returns : tie.Need-returns
-returns c = simp (toZ-ofZ (c .before .before .before .before .before .before .before .before .before .before .before .before .before .before .before .before .before .before .before .before .before .before .before .before .before .before .before .before .before .fits .number)) at (c .before .before .before .before .before .before .before .before .before .before .before .before .before .before .listing-in .ensures)
+returns c =
+    let after-listing-in : tie.After-listing-in = search in
+    let entry : tie.Start = search in
+    simp (toZ-ofZ (entry .fits .number)) at (after-listing-in .listing-in .ensures)
 
 pub listing-good-spec : {M : Type 1} → statement M
 listing-good-spec =

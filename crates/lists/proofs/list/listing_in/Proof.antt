@@ -16,7 +16,7 @@ add-n c = search needs
 
 start-book-requires : tie.Need-start-book-requires
 start-book-requires c κs =
-    let s = c .before .before .before .before .before .before .before .before .before .before .before .before .before .before .before .before .before .before .before .before .before .before .before .before .before .before in
+    let s : tie.Start = search in
     let b = s .args .book in
     let l = s .args .lines .now in
     let g = s .pre .0 in
@@ -25,8 +25,11 @@ start-book-requires c κs =
 
 signed-count-requires : tie.Need-signed-count-requires
 signed-count-requires c κs =
-    let s = c .before .before .before .before .before .before .before .before .before .before .before .before .before .before .before .before .before .before .before .before .before .before .before .before .before .before .before .before .before .before .before .before .before .before .before .before .before .before .before .before .before .before .before .before .before .before .before .before .before .before .before in
-    omega (arith, few-count (s .args .book) (s .args .lines .now) (s .pre .0) _ _ _ _ _ _ _ _ _ (c .before .before .before .before .before .before .before .before .before .before .before .before .before .before .before .before .before .before .before .before .before .before .before .before .start-book .ensures .started))
+    let after-start-book : tie.After-start-book = search in
+    let after-struct-known : tie.After-struct-known = search in
+    let after-slice-known7 : tie.After-slice-known7 = search in
+    let s : tie.Start = search in
+    omega (arith, few-count (s .args .book) (s .args .lines .now) (s .pre .0) _ _ _ _ _ _ _ _ _ (after-start-book .start-book .ensures .started))
 
 outside-requires : tie.Need-outside-requires
 outside-requires c κs = search needs
@@ -83,8 +86,11 @@ size c = simp (toZ-ofZ (c .before .before .before .before .before .before .befor
 
 returns : tie.Need-returns
 returns c =
-    let s = c .before .before .before .before .before .before .before .before .before .before .before .before .before .before .before .before .before .before .before .before .before .before .before .before .before .before .before .before .before .before .before .before .before .before .before .before .before .before .before .before .before .before .before .before .before .before .before .before .before .before .before .before .before .before .before in
-    rw (c .unlisted .ensures) (eight-is (s .args .book) (s .args .lines .now) (s .pre .0) _ _ _ _ _ _ _ _ _ (c .before .before .before .before .before .before .before .before .before .before .before .before .before .before .before .before .before .before .before .before .before .before .before .before .before .before .before .before .start-book .ensures .started) (s .args .number) (s .args .out .now) (sym (flag (c .before .before)) ∙ c .before .if1 .taken))
+    let after-start-book : tie.After-start-book = search in
+    let after-struct-known : tie.After-struct-known = search in
+    let after-slice-known7 : tie.After-slice-known7 = search in
+    let s : tie.Start = search in
+    rw (c .unlisted .ensures) (eight-is (s .args .book) (s .args .lines .now) (s .pre .0) _ _ _ _ _ _ _ _ _ (after-start-book .start-book .ensures .started) (s .args .number) (s .args .out .now) (sym (flag (c .before .before)) ∙ c .before .if1 .taken))
 
 magnitude-requires : tie.Need-magnitude-requires
 magnitude-requires c κs = search needs
@@ -94,15 +100,20 @@ sub-i c = omega (arith, inside (c .before) .low, size c)
 
 find-loop-requires : tie.Need-find-loop-requires
 find-loop-requires c κs =
-    let s = c .before .before .before .before .before .before .before .before .before .before .before .before .before .before .before .before .before .before .before .before .before .before .before .before .before .before .before .before .before .before .before .before .before .before .before .before .before .before .before .before .before .before .before .before .before .before .before .before .before .before .before .before .before .before .before .before .before .before .before .before .before .before .before .before .before in
+    let after-magnitude : tie.After-magnitude = search in
+    let else1 : tie.Else1 = search in
+    let after-seg : tie.After-seg = search in
+    let after-far : tie.After-far = search in
+    let after-start-book : tie.After-start-book = search in
+    let s = after-start-book .before .before .before .before .before .before .before .before .before .before .before .before .before .before .before .before .before .before .before .before .before .before .before .before .before .before .before in
     let b = s .args .book in
     let l = s .args .lines .now in
     let g = s .pre .0 in
     let d = s .pre .1 in
-    let e = c .before .before .before .before .before .before .before .before .before .before .before .before .before .before .before .before .before .before .before .before .before .before .before .before .before .before .before .before .before .before .before .before .before .before .before .before .before .before .start-book .ensures in
-    let k = c .before .before .before .before .before .before .before .before .before .before .before .before .before .before .before .before .before .before .before .before .before .before .before .before .before .before .before .before .before .before .before .before .before .before .before .before .before .before .start-book .kept in
-    let m = size (c .before .before .before .before .before .before .before .before .before .before) in
-    let w = inside (c .before .before .before .before .before .before .before .before .before .before .before) in (
+    let e = after-start-book .start-book .ensures in
+    let k = after-start-book .start-book .kept in
+    let m = size after-magnitude in
+    let w = inside else1 in (
       tables-of b l g 0 (omega arith) (e .planted),
       (
         nodes-of b l g _ _ _ _ _ _ _ _ _ _ _ _ _ d _ _ _ (k .1 .1 .1 .1 .0) (k .1 .1 .1 .1 .1 .0) (k .1 .1 .1 .1 .1 .1 .0),
@@ -119,53 +130,117 @@ find-loop-requires c κs =
 
 mul-write-loop : tie.Need-mul-write-loop
 mul-write-loop c =
-    let s = c .before .before .before .before .before .before .before .before .before .before .before .before .before .before .before .before .before .before .before .before .before .before .before .before .before .before .before .before .before .before .before .before .before .before .before .before .before .before .before .before .before .before .before .before .before .before .before .before .before .before .before .before .before .before .before .before .before .before .before .before .before .before .before .before .before .before .before .before .before .before .before .before .before .before .before .before .before .before .before .before in
-    omega (arith, size (c .before .before .before .before .before .before .before .before .before .before .before .before .before .before .before .before .before .before .before .before .before .before .before .before .before), inside (c .before .before .before .before .before .before .before .before .before .before .before .before .before .before .before .before .before .before .before .before .before .before .before .before .before .before) .high, few-count (s .args .book) (s .args .lines .now) (s .pre .0) _ _ _ _ _ _ _ _ _ (c .before .before .before .before .before .before .before .before .before .before .before .before .before .before .before .before .before .before .before .before .before .before .before .before .before .before .before .before .before .before .before .before .before .before .before .before .before .before .before .before .before .before .before .before .before .before .before .before .before .before .before .before .before .start-book .ensures .started))
+    let after-magnitude : tie.After-magnitude = search in
+    let else1 : tie.Else1 = search in
+    let after-seg : tie.After-seg = search in
+    let after-start-book : tie.After-start-book = search in
+    let after-struct-known = after-start-book .before .before .before .before .before .before .before .before .before .before .before .before .before in
+    let s = after-struct-known .before .before .before .before .before .before .before .before .before .before .before .before .before .before in
+    omega (arith, size after-magnitude, inside else1 .high, few-count (s .args .book) (s .args .lines .now) (s .pre .0) _ _ _ _ _ _ _ _ _ (after-start-book .start-book .ensures .started))
 
 slice-read-write-loop : tie.Need-slice-read-write-loop
 slice-read-write-loop c =
-    let s = c .before .before .before .before .before .before .before .before .before .before .before .before .before .before .before .before .before .before .before .before .before .before .before .before .before .before .before .before .before .before .before .before .before .before .before .before .before .before .before .before .before .before .before .before .before .before .before .before .before .before .before .before .before .before .before .before .before .before .before .before .before .before .before .before .before .before .before .before .before .before .before .before .before .before .before .before .before .before .before .before .before in
-    let w = inside (c .before .before .before .before .before .before .before .before .before .before .before .before .before .before .before .before .before .before .before .before .before .before .before .before .before .before .before) in
-    omega (arith, size (c .before .before .before .before .before .before .before .before .before .before .before .before .before .before .before .before .before .before .before .before .before .before .before .before .before .before), w .low, w .high, few-count (s .args .book) (s .args .lines .now) (s .pre .0) _ _ _ _ _ _ _ _ _ (c .before .before .before .before .before .before .before .before .before .before .before .before .before .before .before .before .before .before .before .before .before .before .before .before .before .before .before .before .before .before .before .before .before .before .before .before .before .before .before .before .before .before .before .before .before .before .before .before .before .before .before .before .before .before .start-book .ensures .started), s .pre .1 .closes, c .before .before .before .before .before .before .before .before .before .before .before .before .before .before .before .before .before .before .before .before .before .before .before .before .before .before .before .before .before .before .before .before .before .before .before .before .before .before .before .before .before .before .before .before .before .before .before .before .before .before .before .before .before .before .start-book .kept .1 .1 .1 .1 .1 .1 .1 .1 .1 .1 .1 .1 .0)
+    let after-magnitude : tie.After-magnitude = search in
+    let else1 : tie.Else1 = search in
+    let after-seg : tie.After-seg = search in
+    let after-start-book : tie.After-start-book = search in
+    let after-struct-known = after-start-book .before .before .before .before .before .before .before .before .before .before .before .before .before in
+    let s = after-struct-known .before .before .before .before .before .before .before .before .before .before .before .before .before .before in
+    let w = inside else1 in
+    omega (arith, size after-magnitude, w .low, w .high, few-count (s .args .book) (s .args .lines .now) (s .pre .0) _ _ _ _ _ _ _ _ _ (after-start-book .start-book .ensures .started), s .pre .1 .closes, after-start-book .start-book .kept .1 .1 .1 .1 .1 .1 .1 .1 .1 .1 .1 .1 .0)
 
 write-loop-requires : tie.Need-write-loop-requires
 write-loop-requires c κs = search needs
 
 same-length-13 : tie.Need-same-length-13
-same-length-13 c = c .before .before .before .before .before .before .before .before .before .before .before .before .before .before .before .before .before .before .before .before .before .before .before .before .before .before .before .before .before .before .before .before .before .before .before .before .before .before .before .before .before .before .before .before .before .before .before .before .before .before .before .before .before .before .before .before .before .before .start-book .kept .1 .0
+same-length-13 c =
+    let after-magnitude : tie.After-magnitude = search in
+    let after-seg : tie.After-seg = search in
+    let after-start-book : tie.After-start-book = search in
+    after-start-book .start-book .kept .1 .0
 
 same-length-14 : tie.Need-same-length-14
-same-length-14 c = c .before .before .before .before .before .before .before .before .before .before .before .before .before .before .before .before .before .before .before .before .before .before .before .before .before .before .before .before .before .before .before .before .before .before .before .before .before .before .before .before .before .before .before .before .before .before .before .before .before .before .before .before .before .before .before .before .before .before .start-book .kept .1 .1 .0
+same-length-14 c =
+    let after-magnitude : tie.After-magnitude = search in
+    let after-seg : tie.After-seg = search in
+    let after-start-book : tie.After-start-book = search in
+    after-start-book .start-book .kept .1 .1 .0
 
 same-length-15 : tie.Need-same-length-15
-same-length-15 c = c .before .before .before .before .before .before .before .before .before .before .before .before .before .before .before .before .before .before .before .find-loop .kept .1 .1 .1 .1 .0 ∙ c .before .before .before .before .before .before .before .before .before .before .before .before .before .before .before .before .before .before .before .before .before .before .before .before .before .before .before .before .before .before .before .before .before .before .before .before .before .before .before .before .before .before .before .before .before .before .before .before .before .before .before .before .before .before .before .before .before .before .start-book .kept .1 .1 .1 .0
+same-length-15 c =
+    let after-find-loop : tie.After-find-loop = search in
+    let after-magnitude : tie.After-magnitude = search in
+    let after-sort : tie.After-sort = search in
+    let after-start-book = after-sort .before .before .before .before .before .before .before .before .before .before .before .before .before .before .before .before .before .before .before .before .before in
+    after-find-loop .find-loop .kept .1 .1 .1 .1 .0 ∙ after-start-book .start-book .kept .1 .1 .1 .0
 
 same-length-16 : tie.Need-same-length-16
-same-length-16 c = c .before .before .before .before .before .before .before .before .before .before .before .before .before .before .before .before .before .before .before .find-loop .kept .1 .1 .1 .1 .1 .0 ∙ c .before .before .before .before .before .before .before .before .before .before .before .before .before .before .before .before .before .before .before .before .before .before .before .before .before .before .before .before .before .before .before .before .before .before .before .before .before .before .before .before .before .before .before .before .before .before .before .before .before .before .before .before .before .before .before .before .before .before .start-book .kept .1 .1 .1 .1 .0
+same-length-16 c =
+    let after-find-loop : tie.After-find-loop = search in
+    let after-magnitude : tie.After-magnitude = search in
+    let after-sort : tie.After-sort = search in
+    let after-start-book = after-sort .before .before .before .before .before .before .before .before .before .before .before .before .before .before .before .before .before .before .before .before .before in
+    after-find-loop .find-loop .kept .1 .1 .1 .1 .1 .0 ∙ after-start-book .start-book .kept .1 .1 .1 .1 .0
 
 same-length-17 : tie.Need-same-length-17
-same-length-17 c = c .before .before .before .before .before .before .before .before .before .before .before .before .before .before .before .before .before .before .before .find-loop .kept .1 .1 .1 .1 .1 .1 .0 ∙ c .before .before .before .before .before .before .before .before .before .before .before .before .before .before .before .before .before .before .before .before .before .before .before .before .before .before .before .before .before .before .before .before .before .before .before .before .before .before .before .before .before .before .before .before .before .before .before .before .before .before .before .before .before .before .before .before .before .before .start-book .kept .1 .1 .1 .1 .1 .0
+same-length-17 c =
+    let after-find-loop : tie.After-find-loop = search in
+    let after-magnitude : tie.After-magnitude = search in
+    let after-sort : tie.After-sort = search in
+    let after-start-book = after-sort .before .before .before .before .before .before .before .before .before .before .before .before .before .before .before .before .before .before .before .before .before in
+    after-find-loop .find-loop .kept .1 .1 .1 .1 .1 .1 .0 ∙ after-start-book .start-book .kept .1 .1 .1 .1 .1 .0
 
 same-length-18 : tie.Need-same-length-18
-same-length-18 c = c .before .before .before .before .before .before .before .before .before .before .before .before .before .before .before .before .before .before .before .find-loop .kept .1 .1 .1 .1 .1 .1 .1 .0 ∙ c .before .before .before .before .before .before .before .before .before .before .before .before .before .before .before .before .before .before .before .before .before .before .before .before .before .before .before .before .before .before .before .before .before .before .before .before .before .before .before .before .before .before .before .before .before .before .before .before .before .before .before .before .before .before .before .before .before .before .start-book .kept .1 .1 .1 .1 .1 .1 .0
+same-length-18 c =
+    let after-find-loop : tie.After-find-loop = search in
+    let after-magnitude : tie.After-magnitude = search in
+    let after-sort : tie.After-sort = search in
+    let after-start-book = after-sort .before .before .before .before .before .before .before .before .before .before .before .before .before .before .before .before .before .before .before .before .before in
+    after-find-loop .find-loop .kept .1 .1 .1 .1 .1 .1 .1 .0 ∙ after-start-book .start-book .kept .1 .1 .1 .1 .1 .1 .0
 
 same-length-19 : tie.Need-same-length-19
-same-length-19 c = c .before .before .before .before .before .before .before .before .before .before .before .before .before .before .before .before .before .before .before .find-loop .kept .1 .1 .1 .1 .1 .1 .1 .1 .0 ∙ c .before .before .before .before .before .before .before .before .before .before .before .before .before .before .before .before .before .before .before .before .before .before .before .before .before .before .before .before .before .before .before .before .before .before .before .before .before .before .before .before .before .before .before .before .before .before .before .before .before .before .before .before .before .before .before .before .before .before .start-book .kept .1 .1 .1 .1 .1 .1 .1 .0
+same-length-19 c =
+    let after-find-loop : tie.After-find-loop = search in
+    let after-magnitude : tie.After-magnitude = search in
+    let after-sort : tie.After-sort = search in
+    let after-start-book = after-sort .before .before .before .before .before .before .before .before .before .before .before .before .before .before .before .before .before .before .before .before .before in
+    after-find-loop .find-loop .kept .1 .1 .1 .1 .1 .1 .1 .1 .0 ∙ after-start-book .start-book .kept .1 .1 .1 .1 .1 .1 .1 .0
 
 same-length-20 : tie.Need-same-length-20
-same-length-20 c = c .before .before .before .before .before .before .before .before .before .before .before .before .before .before .before .before .before .before .before .find-loop .kept .1 .1 .1 .1 .1 .1 .1 .1 .1 .0 ∙ c .before .before .before .before .before .before .before .before .before .before .before .before .before .before .before .before .before .before .before .before .before .before .before .before .before .before .before .before .before .before .before .before .before .before .before .before .before .before .before .before .before .before .before .before .before .before .before .before .before .before .before .before .before .before .before .before .before .before .start-book .kept .1 .1 .1 .1 .1 .1 .1 .1 .0
+same-length-20 c =
+    let after-find-loop : tie.After-find-loop = search in
+    let after-magnitude : tie.After-magnitude = search in
+    let after-sort : tie.After-sort = search in
+    let after-start-book = after-sort .before .before .before .before .before .before .before .before .before .before .before .before .before .before .before .before .before .before .before .before .before in
+    after-find-loop .find-loop .kept .1 .1 .1 .1 .1 .1 .1 .1 .1 .0 ∙ after-start-book .start-book .kept .1 .1 .1 .1 .1 .1 .1 .1 .0
 
 same-length-21 : tie.Need-same-length-21
-same-length-21 c = c .before .before .before .before .before .before .before .before .before .before .before .before .before .before .before .before .before .before .before .before .before .before .before .before .before .before .before .before .before .before .before .before .before .before .before .before .before .before .before .before .before .before .before .before .before .before .before .before .before .before .before .before .before .before .before .before .before .before .start-book .kept .1 .1 .1 .1 .1 .1 .1 .1 .1 .0
+same-length-21 c =
+    let after-magnitude : tie.After-magnitude = search in
+    let after-seg : tie.After-seg = search in
+    let after-start-book : tie.After-start-book = search in
+    after-start-book .start-book .kept .1 .1 .1 .1 .1 .1 .1 .1 .1 .0
 
 same-length-22 : tie.Need-same-length-22
-same-length-22 c = c .before .before .before .before .before .before .before .before .before .before .before .before .before .before .before .before .before .before .before .before .before .before .before .before .before .before .before .before .before .before .before .before .before .before .before .before .before .before .before .before .before .before .before .before .before .before .before .before .before .before .before .before .before .before .before .before .before .before .start-book .kept .1 .1 .1 .1 .1 .1 .1 .1 .1 .1 .0
+same-length-22 c =
+    let after-magnitude : tie.After-magnitude = search in
+    let after-seg : tie.After-seg = search in
+    let after-start-book : tie.After-start-book = search in
+    after-start-book .start-book .kept .1 .1 .1 .1 .1 .1 .1 .1 .1 .1 .0
 
 same-length-23 : tie.Need-same-length-23
-same-length-23 c = c .before .before .before .before .before .before .before .before .before .before .before .before .before .before .before .before .before .before .before .before .before .before .before .before .before .before .before .before .before .before .before .before .before .before .before .before .before .before .before .before .before .before .before .before .before .before .before .before .before .before .before .before .before .before .before .before .before .before .start-book .kept .1 .1 .1 .1 .1 .1 .1 .1 .1 .1 .1 .0
+same-length-23 c =
+    let after-magnitude : tie.After-magnitude = search in
+    let after-seg : tie.After-seg = search in
+    let after-start-book : tie.After-start-book = search in
+    after-start-book .start-book .kept .1 .1 .1 .1 .1 .1 .1 .1 .1 .1 .1 .0
 
 same-length-24 : tie.Need-same-length-24
-same-length-24 c = c .before .before .before .before .before .before .before .before .before .before .before .before .before .before .before .before .before .before .before .before .before .before .before .before .before .before .before .before .before .before .before .before .before .before .before .before .before .before .before .before .before .before .before .before .before .before .before .before .before .before .before .before .before .before .before .before .before .before .start-book .kept .1 .1 .1 .1 .1 .1 .1 .1 .1 .1 .1 .1 .0
+same-length-24 c =
+    let after-magnitude : tie.After-magnitude = search in
+    let after-seg : tie.After-seg = search in
+    let after-start-book : tie.After-start-book = search in
+    after-start-book .start-book .kept .1 .1 .1 .1 .1 .1 .1 .1 .1 .1 .1 .1 .0
 
 same-length-25 : tie.Need-same-length-25
 same-length-25 c = search needs
@@ -175,10 +250,17 @@ same-length-26 c = search needs
 
 returns-2 : tie.Need-returns-2
 returns-2 c =
-    let s = c .before .before .before .before .before .before .before .before .before .before .before .before .before .before .before .before .before .before .before .before .before .before .before .before .before .before .before .before .before .before .before .before .before .before .before .before .before .before .before .before .before .before .before .before .before .before .before .before .before .before .before .before .before .before .before .before .before .before .before .before .before .before .before .before .before .before .before .before .before .before .before .before .before .before .before .before .before .before .before .before .before .before .before .before .before in
-    let f = rw (size (c .before .before .before .before .before .before .before .before .before .before .before .before .before .before .before .before .before .before .before .before .before .before .before .before .before .before .before .before .before .before)) at (c .before .before .before .before .before .before .before .before .before .before .before .before .before .before .before .before .before .before .before .find-loop .ensures) in
-    (rw (size (c .before .before .before .before .before .before .before .before .before .before .before .before .before .before .before .before .before .before .before .before .before .before .before .before .before .before .before .before .before .before)) at (c .before .write-loop .ensures))
-    ∙ loop-listed (s .args .book) (s .args .lines .now) (s .pre .0) _ _ _ _ _ _ _ _ _ (c .before .before .before .before .before .before .before .before .before .before .before .before .before .before .before .before .before .before .before .before .before .before .before .before .before .before .before .before .before .before .before .before .before .before .before .before .before .before .before .before .before .before .before .before .before .before .before .before .before .before .before .before .before .before .before .before .before .before .start-book .ensures .started) (s .args .number) _ _ (s .args .out .now) (sym (flag (c .before .before .before .before .before .before .before .before .before .before .before .before .before .before .before .before .before .before .before .before .before .before .before .before .before .before .before .before .before .before .before .before)) ∙ c .before .before .before .before .before .before .before .before .before .before .before .before .before .before .before .before .before .before .before .before .before .before .before .before .before .before .before .before .before .before .before .if1 .left) f
+    let after-find-loop : tie.After-find-loop = search in
+    let after-magnitude : tie.After-magnitude = search in
+    let else1 : tie.Else1 = search in
+    let after-outside : tie.After-outside = search in
+    let after-sort : tie.After-sort = search in
+    let after-best = after-sort .before .before .before .before .before .before .before .before in
+    let after-start-book = after-best .before .before .before .before .before .before .before .before .before .before .before .before .before in
+    let s = after-start-book .before .before .before .before .before .before .before .before .before .before .before .before .before .before .before .before .before .before .before .before .before .before .before .before .before .before .before in
+    let f = rw (size after-magnitude) at (after-find-loop .find-loop .ensures) in
+    (rw (size after-magnitude) at (c .before .write-loop .ensures))
+    ∙ loop-listed (s .args .book) (s .args .lines .now) (s .pre .0) _ _ _ _ _ _ _ _ _ (after-start-book .start-book .ensures .started) (s .args .number) _ _ (s .args .out .now) (sym (flag after-outside) ∙ else1 .if1 .left) f
 
 pub listing-in-spec : {M : Type 1} → statement M
 listing-in-spec =

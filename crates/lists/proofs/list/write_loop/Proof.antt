@@ -28,9 +28,10 @@ same-length c = search needs
 
 returns-2 : tie.Need-returns-2
 returns-2 c =
-    let s = c .before .before .before .before .before .before in
+    let else1 : tie.Else1 = search in
+    let s : tie.Start = search in
     let n = halves-length (s .args .number) (s .args .a) (s .args .path .now) (s .pre .places) in
-    let w = list-whole (halvesListed (s .args .number) (take (s .args .a) (s .args .path .now))) (s .args .out .now) (omega (arith, n, c .before .before .before .before .if1 .left)) in
+    let w = list-whole (halvesListed (s .args .number) (take (s .args .a) (s .args .path .now))) (s .args .out .now) (omega (arith, n, else1 .if1 .left)) in
     rw (c .entered .ensures, c .before .before .list-loop .ensures) (rw n at w)
 
 pub write-loop-spec : {M : Type 1} → statement M

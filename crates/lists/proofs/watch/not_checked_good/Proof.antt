@@ -39,49 +39,44 @@ slice-aggregate-list-book-10 c = search needs
 slice-aggregate-list-book-11 : tie.Need-slice-aggregate-list-book-11
 slice-aggregate-list-book-11 c = search needs
 
-slice-aggregate-list-book-12 : tie.Need-slice-aggregate-list-book-12
-slice-aggregate-list-book-12 c = search needs
-
-slice-aggregate-list-book-13 : tie.Need-slice-aggregate-list-book-13
-slice-aggregate-list-book-13 c = search needs
-
-slice-aggregate-list-book-14 : tie.Need-slice-aggregate-list-book-14
-slice-aggregate-list-book-14 c = search needs
-
 add-list-book : tie.Need-add-list-book
 add-list-book c = search needs
 
 list-book-requires : tie.Need-list-book-requires
 list-book-requires c κs =
-    let s = c .before .before .before .before .before .before .before .before .before .before .before .before .before .before .before in
+    let s : tie.Start = search in
     let b = s .args .book in
     let l = s .args .lines .now in
     let g = s .pre in
-    (good-of b l g, rooms-for b l g (search needs) (search needs) (search needs) (search needs) (search needs) (search needs) (search needs) (search needs) (search needs) (search needs) (search needs) (search needs) (search needs) (search needs))
+    (good-of b l g, rooms-for b l g (search needs) (search needs) (search needs) (search needs) (search needs) (search needs) (search needs) (search needs) (search needs) (search needs) (search needs))
 
 array-share-prefix-list : tie.Need-array-share-prefix-list
 array-share-prefix-list c =
-    let s = c .before .before .before .before .before .before .before .before .before .before .before .before .before .before .before .before .before .before .before .before .before .before .before .before .before .before .before .before .before .before in
-    list-fits (s .args .book) (s .args .lines .now) (s .pre) (search needs) (c .before .before .before .before .before .before .before .before .before .before .before .before .before .before .list-book .ensures)
+    let after-list-book : tie.After-list-book = search in
+    let s : tie.Start = search in
+    list-fits (s .args .book) (s .args .lines .now) (s .pre) (search needs) (after-list-book .list-book .ensures)
 
 slice-aggregate-write-list : tie.Need-slice-aggregate-write-list
 slice-aggregate-write-list c =
-    let s = c .before .before .before .before .before .before .before .before .before .before .before .before .before .before .before .before .before .before .before .before .before .before .before .before .before .before .before .before .before .before .before in
-    let f = list-fits (s .args .book) (s .args .lines .now) (s .pre) (search needs) (c .before .before .before .before .before .before .before .before .before .before .before .before .before .before .before .list-book .ensures) in
+    let after-list-book : tie.After-list-book = search in
+    let s : tie.Start = search in
+    let f = list-fits (s .args .book) (s .args .lines .now) (s .pre) (search needs) (after-list-book .list-book .ensures) in
     simp length-take (omega (arith, f))
 
 write-list-requires : tie.Need-write-list-requires
 write-list-requires c κs =
-    let s = c .before .before .before .before .before .before .before .before .before .before .before .before .before .before .before .before .before .before .before .before .before .before .before .before .before .before .before .before .before .before .before .before in
-    list-numbers (s .args .book) (s .args .lines .now) (s .pre) (search needs) (c .before .before .before .before .before .before .before .before .before .before .before .before .before .before .before .before .list-book .ensures)
+    let after-list-book : tie.After-list-book = search in
+    let s : tie.Start = search in
+    list-numbers (s .args .book) (s .args .lines .now) (s .pre) (search needs) (after-list-book .list-book .ensures)
 
 same-length : tie.Need-same-length
 same-length c = search needs
 
 returns : tie.Need-returns
 returns c =
-    let s = c .before .before .before .before .before .before .before .before .before .before .before .before .before .before .before .before .before .before .before .before .before .before .before .before .before .before .before .before .before .before .before .before .before .before in
-    rw (list-is (s .args .book) (s .args .lines .now) (s .pre) (search needs) (c .before .before .before .before .before .before .before .before .before .before .before .before .before .before .before .before .before .before .list-book .ensures)) at (c .before .write-list .ensures)
+    let after-list-book : tie.After-list-book = search in
+    let s : tie.Start = search in
+    rw (list-is (s .args .book) (s .args .lines .now) (s .pre) (search needs) (after-list-book .list-book .ensures)) at (c .before .write-list .ensures)
 
 pub not-checked-good-spec : {M : Type 1} → statement M
 not-checked-good-spec =
@@ -98,9 +93,6 @@ not-checked-good-spec =
     slice-aggregate-list-book-9
     slice-aggregate-list-book-10
     slice-aggregate-list-book-11
-    slice-aggregate-list-book-12
-    slice-aggregate-list-book-13
-    slice-aggregate-list-book-14
     add-list-book
     list-book-requires
     array-share-prefix-list

@@ -36,7 +36,9 @@ shared-slice-read-signed-count : tie.Need-shared-slice-read-signed-count Inv-loo
 shared-slice-read-signed-count c = omega arith
 
 signed-count-requires : tie.Need-signed-count-requires Inv-loop μ-loop
-signed-count-requires c κs = omega (arith, c .before .before .before .before .before .pre (c .before .before .loop .i) (omega arith))
+signed-count-requires c κs =
+    let entry : tie.Start Inv-loop μ-loop = search in
+    omega (arith, entry .pre (c .before .before .loop .i) (omega arith))
 
 mul-t13 : tie.Need-mul-t13 Inv-loop μ-loop
 mul-t13 c = omega arith
@@ -52,10 +54,11 @@ loop-less c = omega arith
 
 loop-again : tie.Need-loop-again Inv-loop μ-loop
 loop-again c =
+    let else1 : tie.Else1 Inv-loop μ-loop = search in
+    let s : tie.Start Inv-loop μ-loop = search in
     let l = c .before .before .before in
-    let s = c .before .before .before .before .before .before in
     let n = length-map (s .args .list .now) pos in
-    laid-next _ _ _ (l .loop .i) _ (pos 0) (omega (arith, n, c .before .before .before .before .if1 .left)) (omega (arith, n))
+    laid-next _ _ _ (l .loop .i) _ (pos 0) (omega (arith, n, else1 .if1 .left)) (omega (arith, n))
     (stored _ (c .signed-count .ok) (c .signed-count .ensures) ∙ sym (getD-map pos (s .args .list .now) (l .loop .i) 0 (pos 0) (omega arith)))
     (l .loop .inv)
 
@@ -67,7 +70,7 @@ same-length c = c .before .before .loop .inv .as-long
 
 returns-2 : tie.Need-returns-2 Inv-loop μ-loop
 returns-2 c =
-    let s = c .before .before .before .before .before in
+    let s : tie.Start Inv-loop μ-loop = search in
     let n = length-map (s .args .list .now) pos in
     let w = list-whole (map pos (s .args .list .now)) (s .args .out .now) (omega (arith, n, c .before .before .before .if1 .left)) in
     rw (c .entered .ensures, laid-end _ _ _ (c .before .before .loop .i) (omega (arith, n)) (c .before .before .loop .inv), n) (rw n at w)

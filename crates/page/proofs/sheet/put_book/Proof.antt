@@ -15,7 +15,9 @@ same-length c = search needs
 
 returns : tie.Need-returns
 unfolding bookPage
-returns c = c .before .before .before .before .before .before .put-loops-of .ensures then c .before .before .put-unchecked .ensures
+returns c =
+    let after-put-loops-of : tie.After-put-loops-of = search in
+    after-put-loops-of .put-loops-of .ensures then c .before .before .put-unchecked .ensures
 
 pub put-book-spec : {M : Type 1} → statement M
 put-book-spec =

@@ -11,7 +11,7 @@ add-n c = search needs
 
 start-book-requires : tie.Need-start-book-requires
 start-book-requires c κs =
-    let s = c .before .before .before .before .before .before .before .before .before .before .before .before .before .before .before .before .before .before .before .before .before .before .before .before .before .before .before in
+    let s : tie.Start = search in
     let b = s .args .book in
     let l = s .args .lines .now in
     let g = s .pre .0 in
@@ -23,13 +23,16 @@ head-text-requires c κs = search needs
 
 put-loops-requires : tie.Need-put-loops-requires
 put-loops-requires c κs =
-    let s = c .before .before .before .before .before .before .before .before .before .before .before .before .before .before .before .before .before .before .before .before .before .before .before .before .before .before .before .before .before .before .before .before .before .before .before .before .before .before .before .before .before .before .before .before .before .before .before .before .before .before .before .before .before .before .before .before .before .before .before .before .before .before .before .before .before .before .before .before .before in
+    let after-start-book : tie.After-start-book = search in
+    let after-slice-known14 : tie.After-slice-known14 = search in
+    let after-slice-known7 : tie.After-slice-known7 = search in
+    let s : tie.Start = search in
     let b = s .args .book in
     let l = s .args .lines .now in
     let g = s .pre .0 in
     let d = s .pre .1 .0 in
-    let e = c .before .before .before .before .before .before .before .before .before .before .before .before .before .before .before .before .before .before .before .before .before .before .before .before .before .before .before .before .before .before .before .before .before .before .before .before .before .before .before .before .before .start-book .ensures in
-    let k = c .before .before .before .before .before .before .before .before .before .before .before .before .before .before .before .before .before .before .before .before .before .before .before .before .before .before .before .before .before .before .before .before .before .before .before .before .before .before .before .before .before .start-book .kept in (
+    let e = after-start-book .start-book .ensures in
+    let k = after-start-book .start-book .kept in (
       tables-of b l g _ (omega arith) (e .planted),
       (
         nodes-of b l g _ _ _ _ _ _ _ _ _ _ _ _ _ d _ _ _ (k .1 .1 .1 .1 .0) (k .1 .1 .1 .1 .1 .0) (k .1 .1 .1 .1 .1 .1 .0),
@@ -41,40 +44,94 @@ put-loops-requires c κs =
     )
 
 same-length : tie.Need-same-length
-same-length c = c .before .before .before .before .before .before .before .before .before .before .before .before .before .before .before .before .before .before .before .before .before .before .before .before .before .before .before .before .before .before .before .before .before .before .before .before .before .before .before .before .before .before .before .before .before .before .before .before .before .before .before .before .before .before .before .before .before .before .before .before .start-book .kept .1 .0
+same-length c =
+    let after-out : tie.After-out = search in
+    let after-seg : tie.After-seg = search in
+    let after-start-book : tie.After-start-book = search in
+    after-start-book .start-book .kept .1 .0
 
 same-length-2 : tie.Need-same-length-2
-same-length-2 c = c .before .before .before .before .before .before .before .before .before .before .before .before .before .before .before .before .before .before .before .before .before .before .before .before .before .before .before .before .before .before .before .before .before .before .before .before .before .before .before .before .before .before .before .before .before .before .before .before .before .before .before .before .before .before .before .before .before .before .before .before .start-book .kept .1 .1 .0
+same-length-2 c =
+    let after-out : tie.After-out = search in
+    let after-seg : tie.After-seg = search in
+    let after-start-book : tie.After-start-book = search in
+    after-start-book .start-book .kept .1 .1 .0
 
 same-length-3 : tie.Need-same-length-3
-same-length-3 c = c .before .before .before .before .before .before .before .before .before .before .before .before .before .before .before .before .before .before .put-loops .kept .1 .1 .1 .1 .0 ∙ c .before .before .before .before .before .before .before .before .before .before .before .before .before .before .before .before .before .before .before .before .before .before .before .before .before .before .before .before .before .before .before .before .before .before .before .before .before .before .before .before .before .before .before .before .before .before .before .before .before .before .before .before .before .before .before .before .before .before .before .before .start-book .kept .1 .1 .1 .0
+same-length-3 c =
+    let after-put-loops : tie.After-put-loops = search in
+    let after-out : tie.After-out = search in
+    let after-sort : tie.After-sort = search in
+    let after-start-book = after-sort .before .before .before .before .before .before .before .before .before .before .before .before .before .before .before .before .before .before .before .before .before in
+    after-put-loops .put-loops .kept .1 .1 .1 .1 .0 ∙ after-start-book .start-book .kept .1 .1 .1 .0
 
 same-length-4 : tie.Need-same-length-4
-same-length-4 c = c .before .before .before .before .before .before .before .before .before .before .before .before .before .before .before .before .before .before .put-loops .kept .1 .1 .1 .1 .1 .0 ∙ c .before .before .before .before .before .before .before .before .before .before .before .before .before .before .before .before .before .before .before .before .before .before .before .before .before .before .before .before .before .before .before .before .before .before .before .before .before .before .before .before .before .before .before .before .before .before .before .before .before .before .before .before .before .before .before .before .before .before .before .before .start-book .kept .1 .1 .1 .1 .0
+same-length-4 c =
+    let after-put-loops : tie.After-put-loops = search in
+    let after-out : tie.After-out = search in
+    let after-sort : tie.After-sort = search in
+    let after-start-book = after-sort .before .before .before .before .before .before .before .before .before .before .before .before .before .before .before .before .before .before .before .before .before in
+    after-put-loops .put-loops .kept .1 .1 .1 .1 .1 .0 ∙ after-start-book .start-book .kept .1 .1 .1 .1 .0
 
 same-length-5 : tie.Need-same-length-5
-same-length-5 c = c .before .before .before .before .before .before .before .before .before .before .before .before .before .before .before .before .before .before .put-loops .kept .1 .1 .1 .1 .1 .1 .0 ∙ c .before .before .before .before .before .before .before .before .before .before .before .before .before .before .before .before .before .before .before .before .before .before .before .before .before .before .before .before .before .before .before .before .before .before .before .before .before .before .before .before .before .before .before .before .before .before .before .before .before .before .before .before .before .before .before .before .before .before .before .before .start-book .kept .1 .1 .1 .1 .1 .0
+same-length-5 c =
+    let after-put-loops : tie.After-put-loops = search in
+    let after-out : tie.After-out = search in
+    let after-sort : tie.After-sort = search in
+    let after-start-book = after-sort .before .before .before .before .before .before .before .before .before .before .before .before .before .before .before .before .before .before .before .before .before in
+    after-put-loops .put-loops .kept .1 .1 .1 .1 .1 .1 .0 ∙ after-start-book .start-book .kept .1 .1 .1 .1 .1 .0
 
 same-length-6 : tie.Need-same-length-6
-same-length-6 c = c .before .before .before .before .before .before .before .before .before .before .before .before .before .before .before .before .before .before .put-loops .kept .1 .1 .1 .1 .1 .1 .1 .0 ∙ c .before .before .before .before .before .before .before .before .before .before .before .before .before .before .before .before .before .before .before .before .before .before .before .before .before .before .before .before .before .before .before .before .before .before .before .before .before .before .before .before .before .before .before .before .before .before .before .before .before .before .before .before .before .before .before .before .before .before .before .before .start-book .kept .1 .1 .1 .1 .1 .1 .0
+same-length-6 c =
+    let after-put-loops : tie.After-put-loops = search in
+    let after-out : tie.After-out = search in
+    let after-sort : tie.After-sort = search in
+    let after-start-book = after-sort .before .before .before .before .before .before .before .before .before .before .before .before .before .before .before .before .before .before .before .before .before in
+    after-put-loops .put-loops .kept .1 .1 .1 .1 .1 .1 .1 .0 ∙ after-start-book .start-book .kept .1 .1 .1 .1 .1 .1 .0
 
 same-length-7 : tie.Need-same-length-7
-same-length-7 c = c .before .before .before .before .before .before .before .before .before .before .before .before .before .before .before .before .before .before .put-loops .kept .1 .1 .1 .1 .1 .1 .1 .1 .0 ∙ c .before .before .before .before .before .before .before .before .before .before .before .before .before .before .before .before .before .before .before .before .before .before .before .before .before .before .before .before .before .before .before .before .before .before .before .before .before .before .before .before .before .before .before .before .before .before .before .before .before .before .before .before .before .before .before .before .before .before .before .before .start-book .kept .1 .1 .1 .1 .1 .1 .1 .0
+same-length-7 c =
+    let after-put-loops : tie.After-put-loops = search in
+    let after-out : tie.After-out = search in
+    let after-sort : tie.After-sort = search in
+    let after-start-book = after-sort .before .before .before .before .before .before .before .before .before .before .before .before .before .before .before .before .before .before .before .before .before in
+    after-put-loops .put-loops .kept .1 .1 .1 .1 .1 .1 .1 .1 .0 ∙ after-start-book .start-book .kept .1 .1 .1 .1 .1 .1 .1 .0
 
 same-length-8 : tie.Need-same-length-8
-same-length-8 c = c .before .before .before .before .before .before .before .before .before .before .before .before .before .before .before .before .before .before .put-loops .kept .1 .1 .1 .1 .1 .1 .1 .1 .1 .0 ∙ c .before .before .before .before .before .before .before .before .before .before .before .before .before .before .before .before .before .before .before .before .before .before .before .before .before .before .before .before .before .before .before .before .before .before .before .before .before .before .before .before .before .before .before .before .before .before .before .before .before .before .before .before .before .before .before .before .before .before .before .before .start-book .kept .1 .1 .1 .1 .1 .1 .1 .1 .0
+same-length-8 c =
+    let after-put-loops : tie.After-put-loops = search in
+    let after-out : tie.After-out = search in
+    let after-sort : tie.After-sort = search in
+    let after-start-book = after-sort .before .before .before .before .before .before .before .before .before .before .before .before .before .before .before .before .before .before .before .before .before in
+    after-put-loops .put-loops .kept .1 .1 .1 .1 .1 .1 .1 .1 .1 .0 ∙ after-start-book .start-book .kept .1 .1 .1 .1 .1 .1 .1 .1 .0
 
 same-length-9 : tie.Need-same-length-9
-same-length-9 c = c .before .before .before .before .before .before .before .before .before .before .before .before .before .before .before .before .before .before .before .before .before .before .before .before .before .before .before .before .before .before .before .before .before .before .before .before .before .before .before .before .before .before .before .before .before .before .before .before .before .before .before .before .before .before .before .before .before .before .before .before .start-book .kept .1 .1 .1 .1 .1 .1 .1 .1 .1 .0
+same-length-9 c =
+    let after-out : tie.After-out = search in
+    let after-seg : tie.After-seg = search in
+    let after-start-book : tie.After-start-book = search in
+    after-start-book .start-book .kept .1 .1 .1 .1 .1 .1 .1 .1 .1 .0
 
 same-length-10 : tie.Need-same-length-10
-same-length-10 c = c .before .before .before .before .before .before .before .before .before .before .before .before .before .before .before .before .before .before .before .before .before .before .before .before .before .before .before .before .before .before .before .before .before .before .before .before .before .before .before .before .before .before .before .before .before .before .before .before .before .before .before .before .before .before .before .before .before .before .before .before .start-book .kept .1 .1 .1 .1 .1 .1 .1 .1 .1 .1 .0
+same-length-10 c =
+    let after-out : tie.After-out = search in
+    let after-seg : tie.After-seg = search in
+    let after-start-book : tie.After-start-book = search in
+    after-start-book .start-book .kept .1 .1 .1 .1 .1 .1 .1 .1 .1 .1 .0
 
 same-length-11 : tie.Need-same-length-11
-same-length-11 c = c .before .before .before .before .before .before .before .before .before .before .before .before .before .before .before .before .before .before .before .before .before .before .before .before .before .before .before .before .before .before .before .before .before .before .before .before .before .before .before .before .before .before .before .before .before .before .before .before .before .before .before .before .before .before .before .before .before .before .before .before .start-book .kept .1 .1 .1 .1 .1 .1 .1 .1 .1 .1 .1 .0
+same-length-11 c =
+    let after-out : tie.After-out = search in
+    let after-seg : tie.After-seg = search in
+    let after-start-book : tie.After-start-book = search in
+    after-start-book .start-book .kept .1 .1 .1 .1 .1 .1 .1 .1 .1 .1 .1 .0
 
 same-length-12 : tie.Need-same-length-12
-same-length-12 c = c .before .before .before .before .before .before .before .before .before .before .before .before .before .before .before .before .before .before .before .before .before .before .before .before .before .before .before .before .before .before .before .before .before .before .before .before .before .before .before .before .before .before .before .before .before .before .before .before .before .before .before .before .before .before .before .before .before .before .before .before .start-book .kept .1 .1 .1 .1 .1 .1 .1 .1 .1 .1 .1 .1 .0
+same-length-12 c =
+    let after-out : tie.After-out = search in
+    let after-seg : tie.After-seg = search in
+    let after-start-book : tie.After-start-book = search in
+    after-start-book .start-book .kept .1 .1 .1 .1 .1 .1 .1 .1 .1 .1 .1 .1 .0
 
 same-length-13 : tie.Need-same-length-13
 same-length-13 c = search needs
@@ -86,12 +143,20 @@ same-length-15 : tie.Need-same-length-15
 same-length-15 c = search needs
 
 same-length-16 : tie.Need-same-length-16
-same-length-16 c = c .before .before .before .before .before .before .before .before .before .before .before .before .before .before .before .before .before .before .put-loops .kept .1 .1 .1 .1 .1 .1 .1 .1 .1 .1 .1 .1 .1 .0 ∙ c .before .before .before .before .before .before .before .before .before .before .before .before .before .before .before .before .before .before .before .before .before .before .before .before .before .before .before .before .before .before .before .before .before .before .head-text .kept .0
+same-length-16 c =
+    let after-put-loops : tie.After-put-loops = search in
+    let after-head-text : tie.After-head-text = search in
+    after-put-loops .put-loops .kept .1 .1 .1 .1 .1 .1 .1 .1 .1 .1 .1 .1 .1 .0 ∙ after-head-text .head-text .kept .0
 
 returns : tie.Need-returns
 returns c =
-    let s = c .before .before .before .before .before .before .before .before .before .before .before .before .before .before .before .before .before .before .before .before .before .before .before .before .before .before .before .before .before .before .before .before .before .before .before .before .before .before .before .before .before .before .before .before .before .before .before .before .before .before .before .before .before .before .before .before .before .before .before .before .before .before .before .before .before .before .before .before .before .before .before .before .before .before .before .before .before .before .before .before .before .before .before .before .before .before .before .before in
-    loops-put (s .args .book) (s .args .lines .now) (s .pre .0) (c .before .before .before .before .before .before .before .before .before .before .before .before .before .before .before .before .before .before .before .before .before .before .before .before .before .before .before .before .before .before .before .before .before .before .before .before .before .before .before .before .before .before .before .before .before .before .before .before .before .before .before .before .before .before .before .before .before .before .before .before .start-book .ensures .started) (c .before .before .before .before .before .before .before .before .before .before .before .before .before .before .before .before .before .before .before .before .before .before .before .before .before .before .before .before .before .before .before .before .before .before .head-text .ensures) (c .before .before .before .before .before .before .before .before .before .before .before .before .before .before .before .before .before .before .put-loops .ensures)
+    let after-put-loops : tie.After-put-loops = search in
+    let after-head-text : tie.After-head-text = search in
+    let after-best : tie.After-best = search in
+    let after-next : tie.After-next = search in
+    let after-start-book : tie.After-start-book = search in
+    let s = after-start-book .before .before .before .before .before .before .before .before .before .before .before .before .before .before .before .before .before .before .before .before .before .before .before .before .before .before .before .before in
+    loops-put (s .args .book) (s .args .lines .now) (s .pre .0) (after-start-book .start-book .ensures .started) (after-head-text .head-text .ensures) (after-put-loops .put-loops .ensures)
 
 pub put-loops-in-spec : {M : Type 1} → statement M
 put-loops-in-spec =

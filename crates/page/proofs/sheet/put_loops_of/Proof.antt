@@ -48,27 +48,28 @@ slice-aggregate-put-loops-in-15 : tie.Need-slice-aggregate-put-loops-in-15
 slice-aggregate-put-loops-in-15 c = search needs
 
 put-loops-in-requires : tie.Need-put-loops-in-requires
-put-loops-in-requires c κs = (
-  c .before .before .before .before .before .before .before .before .before .before .before .before .before .before .before .before .before .pre,
-  (
-    record {
-      tips = search needs;
-      longs = search needs;
-      heads = search needs;
-      nexts = search needs;
-      fars = search needs;
-      adds = search needs;
-      bests = search needs;
-      segs = search needs;
-      orders = search needs;
-      ranks = search needs;
-      sorts = search needs;
-      closes = search needs;
-      paths = search needs;
-    },
-    record { rows = search needs; lists = search needs },
-  ),
-)
+put-loops-in-requires c κs =
+    let entry : tie.Start = search in (
+      entry .pre,
+      (
+        record {
+          tips = search needs;
+          longs = search needs;
+          heads = search needs;
+          nexts = search needs;
+          fars = search needs;
+          adds = search needs;
+          bests = search needs;
+          segs = search needs;
+          orders = search needs;
+          ranks = search needs;
+          sorts = search needs;
+          closes = search needs;
+          paths = search needs;
+        },
+        record { rows = search needs; lists = search needs },
+      ),
+    )
 
 same-length : tie.Need-same-length
 same-length c = search needs

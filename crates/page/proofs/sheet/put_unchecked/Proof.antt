@@ -13,13 +13,13 @@ not-checked-good-requires c κs = search needs
 
 array-share-prefix-list : tie.Need-array-share-prefix-list
 array-share-prefix-list c =
-    let s = c .before .before .before .before .before in
+    let s : tie.Start = search in
     let n = c .before .before .not-checked-good in
     unchecked-fits (s .args .book) (s .args .lines .now) (s .pre) _ (search needs) (n .ensures) (n .kept .1 .1 .0)
 
 slice-aggregate-not-checked-text : tie.Need-slice-aggregate-not-checked-text
 slice-aggregate-not-checked-text c =
-    let s = c .before .before .before .before .before .before in
+    let s : tie.Start = search in
     let n = c .before .before .before .not-checked-good in
     let f = unchecked-fits (s .args .book) (s .args .lines .now) (s .pre) _ (search needs) (n .ensures) (n .kept .1 .1 .0) in
     simp length-take (omega (arith, f))
@@ -32,8 +32,9 @@ same-length c = search needs
 
 returns : tie.Need-returns
 returns c =
-    let s = c .before .before .before .before .before .before .before .before .before in
-    rw (unchecked-is (s .args .book) (s .args .lines .now) (s .pre) _ (search needs) (c .before .before .before .before .before .before .not-checked-good .ensures)) at (c .before .before .not-checked-text .ensures)
+    let after-not-checked-good : tie.After-not-checked-good = search in
+    let s : tie.Start = search in
+    rw (unchecked-is (s .args .book) (s .args .lines .now) (s .pre) _ (search needs) (after-not-checked-good .not-checked-good .ensures)) at (c .before .before .not-checked-text .ensures)
 
 pub put-unchecked-spec : {M : Type 1} → statement M
 put-unchecked-spec =

@@ -10,37 +10,78 @@ use Rattle.page.proofs.turns.put_loop.Statement.{statement}
 use Rattle.page.proofs.turns.put_loop.Tie as tie
 
 take-loop-requires : tie.Need-take-loop-requires
-take-loop-requires c κs = let p = c .before .before .before .before .before .before .before .before .before .before .before .before .before .before .before .before .before .pre in takes-of (p .0) (p .1 .1 .1 .1) (p .1 .0) (p .1 .1 .0)
+take-loop-requires c κs =
+    let entry : tie.Start = search in
+    let p = entry .pre in takes-of (p .0) (p .1 .1 .1 .1) (p .1 .0) (p .1 .1 .0)
 
 row-of-requires : tie.Need-row-of-requires
-row-of-requires c κs = let p = c .before .before .before .before .before .before .before .before .before .before .before .before .before .before .before .before .before .before .before .before .before .before .before .before .before .before .before .before .before .before .before .before .before .before .pre in (row-asked (p .0) (p .1 .1 .1 .1) (p .1 .1 .0 .outs) (c .before .before .before .before .before .before .before .before .before .before .before .before .before .before .before .before .take-loop .ensures), p .1 .1 .1 .0 .rows)
+row-of-requires c κs =
+    let after-take-loop : tie.After-take-loop = search in
+    let entry : tie.Start = search in
+    let p = entry .pre in (row-asked (p .0) (p .1 .1 .1 .1) (p .1 .1 .0 .outs) (after-take-loop .take-loop .ensures), p .1 .1 .1 .0 .rows)
 
 -- the path is in its array
-few : (c : tie.After-take-loop) → c .take-loop .result .count ≤ length (c .before .before .before .before .before .before .before .before .before .before .before .before .before .before .before .before .before .before .args .path .now)
+few : (c : tie.After-take-loop) → (let entry : tie.Start = search in c .take-loop .result .count ≤ length (entry .args .path .now))
 few c =
-    let p = c .before .before .before .before .before .before .before .before .before .before .before .before .before .before .before .before .before .before .pre in
+    let entry : tie.Start = search in
+    let p = entry .pre in
     omega (arith, halves-of (p .0) (p .1 .1 .1 .1) (p .1 .1 .0 .outs) (c .take-loop .ensures) .places, c .take-loop .kept .1 .1 .1 .1 .1 .1 .1 .1 .0)
 
 list-loop-requires : tie.Need-list-loop-requires
-list-loop-requires c κs = let p = c .before .before .before .before .before .before .before .before .before .before .before .before .before .before .before .before .before .before .before .before .before .before .before .before .before .before .before .before .before .before .before .before .before .before .before .before .before .before .pre in (halves-of (p .0) (p .1 .1 .1 .1) (p .1 .1 .0 .outs) (c .before .before .before .before .before .before .before .before .before .before .before .before .before .before .before .before .before .before .before .before .take-loop .ensures), omega (arith, few (c .before .before .before .before .before .before .before .before .before .before .before .before .before .before .before .before .before .before .before .before), p .1 .1 .1 .0 .lists))
+list-loop-requires c κs =
+    let after-take-loop : tie.After-take-loop = search in
+    let after-slice-known7 : tie.After-slice-known7 = search in
+    let entry : tie.Start = search in
+    let p = entry .pre in (halves-of (p .0) (p .1 .1 .1 .1) (p .1 .1 .0 .outs) (after-take-loop .take-loop .ensures), omega (arith, few after-take-loop, p .1 .1 .1 .0 .lists))
 
 slice-copy-out-loop-text : tie.Need-slice-copy-out-loop-text
-slice-copy-out-loop-text c = omega (arith, c .before .before .before .before .before .before .before .before .before .before .before .before .before .before .before .before .before .before .before .before .before .before .before .before .before .before .before .before .before .before .before .before .before .before .before .before .before .before .before .before .before .pre .1 .1 .1 .0 .rows, c .before .before .before .before .before .before .row-of .kept .1 .1 .1 .0)
+slice-copy-out-loop-text c =
+    let after-row-of : tie.After-row-of = search in
+    let after-take-loop : tie.After-take-loop = search in
+    let after-slice-known7 : tie.After-slice-known7 = search in
+    let entry : tie.Start = search in
+    omega (arith, entry .pre .1 .1 .1 .0 .rows, after-row-of .row-of .kept .1 .1 .1 .0)
 
 slice-copy-out-loop-text-2 : tie.Need-slice-copy-out-loop-text-2
-slice-copy-out-loop-text-2 c = omega (arith, c .before .before .before .before .before .before .before .before .before .before .before .before .before .before .before .before .before .before .before .before .before .before .before .before .before .before .before .before .before .before .before .before .before .before .before .before .before .before .before .before .before .before .pre .1 .1 .1 .0 .rows, c .before .before .before .before .before .before .before .row-of .kept .1 .1 .1 .0)
+slice-copy-out-loop-text-2 c =
+    let after-row-of : tie.After-row-of = search in
+    let after-take-loop : tie.After-take-loop = search in
+    let after-slice-known7 : tie.After-slice-known7 = search in
+    let entry : tie.Start = search in
+    omega (arith, entry .pre .1 .1 .1 .0 .rows, after-row-of .row-of .kept .1 .1 .1 .0)
 
 slice-copy-out-loop-text-3 : tie.Need-slice-copy-out-loop-text-3
-slice-copy-out-loop-text-3 c = omega (arith, c .before .before .before .before .before .before .before .before .before .before .before .before .before .before .before .before .before .before .before .before .before .before .before .before .before .before .before .before .before .before .before .before .before .before .before .before .before .before .before .before .before .before .before .pre .1 .1 .1 .0 .rows, c .before .before .before .before .before .before .before .before .row-of .kept .1 .1 .1 .0)
+slice-copy-out-loop-text-3 c =
+    let after-row-of : tie.After-row-of = search in
+    let after-take-loop : tie.After-take-loop = search in
+    let after-slice-known7 : tie.After-slice-known7 = search in
+    let entry : tie.Start = search in
+    omega (arith, entry .pre .1 .1 .1 .0 .rows, after-row-of .row-of .kept .1 .1 .1 .0)
 
 add-loop-text : tie.Need-add-loop-text
-add-loop-text c = omega (arith, few (c .before .before .before .before .before .before .before .before .before .before .before .before .before .before .before .before .before .before .before .before .before .before .before .before .before .before), c .before .before .before .before .before .before .before .before .before .before .before .before .before .before .before .before .before .before .before .before .before .before .before .before .before .before .before .before .before .before .before .before .before .before .before .before .before .before .before .before .before .before .before .before .good)
+add-loop-text c =
+    let after-take-loop : tie.After-take-loop = search in
+    let after-slice-known7 : tie.After-slice-known7 = search in
+    let entry : tie.Start = search in
+    omega (arith, few after-take-loop, entry .good)
 
 slice-reshare-prefix-loop-text : tie.Need-slice-reshare-prefix-loop-text
-slice-reshare-prefix-loop-text c = omega (arith, few (c .before .before .before .before .before .before .before .before .before .before .before .before .before .before .before .before .before .before .before .before .before .before .before .before .before .before), c .before .before .before .before .before .before .before .before .before .before .before .before .before .before .before .before .before .before .before .before .before .before .before .before .before .before .before .before .before .before .before .before .before .before .before .before .before .before .before .before .before .before .before .before .pre .1 .1 .1 .0 .lists, c .before .before .before .before .before .list-loop .kept .1 .1 .1 .0)
+slice-reshare-prefix-loop-text c =
+    let after-list-loop : tie.After-list-loop = search in
+    let after-seg : tie.After-seg = search in
+    let after-take-loop : tie.After-take-loop = search in
+    let after-slice-known7 : tie.After-slice-known7 = search in
+    let entry : tie.Start = search in
+    omega (arith, few after-take-loop, entry .pre .1 .1 .1 .0 .lists, after-list-loop .list-loop .kept .1 .1 .1 .0)
 
 slice-aggregate-loop-text : tie.Need-slice-aggregate-loop-text
-slice-aggregate-loop-text c = simp length-take (omega (arith, few (c .before .before .before .before .before .before .before .before .before .before .before .before .before .before .before .before .before .before .before .before .before .before .before .before .before .before .before), c .before .before .before .before .before .before .before .before .before .before .before .before .before .before .before .before .before .before .before .before .before .before .before .before .before .before .before .before .before .before .before .before .before .before .before .before .before .before .before .before .before .before .before .before .before .pre .1 .1 .1 .0 .lists, c .before .before .before .before .before .before .list-loop .kept .1 .1 .1 .0))
+slice-aggregate-loop-text c =
+    let after-list-loop : tie.After-list-loop = search in
+    let after-seg : tie.After-seg = search in
+    let after-take-loop : tie.After-take-loop = search in
+    let after-slice-known7 : tie.After-slice-known7 = search in
+    let entry : tie.Start = search in
+    simp length-take (omega (arith, few after-take-loop, entry .pre .1 .1 .1 .0 .lists, after-list-loop .list-loop .kept .1 .1 .1 .0))
 
 loop-text-requires : tie.Need-loop-text-requires
 loop-text-requires c κs = search needs
@@ -76,10 +117,20 @@ same-length-10 : tie.Need-same-length-10
 same-length-10 c = search needs
 
 returns : tie.Need-returns
-returns c = λ d.
-    let p = c .before .before .before .before .before .before .before .before .before .before .before .before .before .before .before .before .before .before .before .before .before .before .before .before .before .before .before .before .before .before .before .before .before .before .before .before .before .before .before .before .before .before .before .before .before .before .before .before .pre in
-    line-put (p .0) d (p .1 .1 .0 .outs) (c .before .before .before .before .before .before .before .before .before .before .before .before .before .before .before .before .before .before .before .before .before .before .before .before .before .before .before .before .before .before .take-loop .ensures) (c .before .before .before .before .before .before .before .before .before .before .before .before .before .before .before .before .before .before .before .before .before .before .before .before .before .before .before .before .before .before .before .before .before .before .before .before .before .before .before .before .before .before .before .before .before .before .before .before .args .numbered) _ _ (c .before .before .before .before .before .before .before .before .before .before .before .before .before .row-of .ensures)
-    (list-front _ _ _ _ (halves-of (p .0) d (p .1 .1 .0 .outs) (c .before .before .before .before .before .before .before .before .before .before .before .before .before .before .before .before .before .before .before .before .before .before .before .before .before .before .before .before .before .before .take-loop .ensures) .places) (c .before .before .before .before .before .before .before .before .before .list-loop .ensures)) (rw (back _ (c .before .before .before .before .before .before .loop-text-arg2 .given), back _ (c .before .before .before .before .before .loop-text-arg3 .given), back _ (c .before .before .before .before .loop-text-arg4 .given)) at (c .before .before .loop-text .ensures))
+returns c =
+    let after-loop-text-arg4 : tie.After-loop-text-arg4 = search in
+    let after-loop-text-arg3 : tie.After-loop-text-arg3 = search in
+    let after-loop-text-arg2 : tie.After-loop-text-arg2 = search in
+    let after-list-loop : tie.After-list-loop = search in
+    let after-row-of : tie.After-row-of = search in
+    let after-best : tie.After-best = search in
+    let after-far : tie.After-far = search in
+    let after-take-loop : tie.After-take-loop = search in
+    let entry = after-take-loop .before .before .before .before .before .before .before .before .before .before .before .before .before .before .before .before .before .before in
+    λ d.
+    let p = entry .pre in
+    line-put (p .0) d (p .1 .1 .0 .outs) (after-take-loop .take-loop .ensures) (entry .args .numbered) _ _ (after-row-of .row-of .ensures)
+    (list-front _ _ _ _ (halves-of (p .0) d (p .1 .1 .0 .outs) (after-take-loop .take-loop .ensures) .places) (after-list-loop .list-loop .ensures)) (rw (back _ (after-loop-text-arg2 .loop-text-arg2 .given), back _ (after-loop-text-arg3 .loop-text-arg3 .given), back _ (after-loop-text-arg4 .loop-text-arg4 .given)) at (c .before .before .loop-text .ensures))
 
 pub put-loop-spec : {M : Type 1} → statement M
 put-loop-spec =

@@ -18,21 +18,31 @@ abbrev μ-loop : tie.MeasureT-loop
 μ-loop lines tip long close head₀ next₀ far₀ add₀ best₀ seg₀ path₀ row₀ list₀ out₀ n nodes count t at cnt₀ after₀ i₀ head next far add best seg path row list out cnt after i = count - i
 
 loop-holds : tie.Need-loop-holds Inv-loop μ-loop
-loop-holds c = (omega arith, (refl, refl, refl, refl), (refl, refl, refl), (refl, refl, refl), lines-start (c .before .before .before .before .before .before .before .before .before .before .before .args .out .now) (c .before .before .before .before .before .before .before .before .before .before .before .args .at) (c .before .before .before .before .before .before .before .before .before .before .before .pre .1 .1 .1 .1))
+loop-holds c =
+    let entry : tie.Start Inv-loop μ-loop = search in
+    (omega arith, (refl, refl, refl, refl), (refl, refl, refl), (refl, refl, refl), lines-start (entry .args .out .now) (entry .args .at) (entry .pre .1 .1 .1 .1))
 
 mul-put-loop : tie.Need-mul-put-loop Inv-loop μ-loop
-mul-put-loop c = omega (arith, c .before .before .before .before .before .before .before .before .before .before .before .before .before .before .before .before .before .before .before .before .before .before .before .pre .1 .1 .1 .1 .closes, c .before .before .before .before .before .before .before .before .before .before .before .before .before .before .before .before .before .before .before .before .before .before .before .good)
+mul-put-loop c =
+    let entry : tie.Start Inv-loop μ-loop = search in
+    omega (arith, entry .pre .1 .1 .1 .1 .closes, entry .good)
 
 shared-slice-read-put-loop : tie.Need-shared-slice-read-put-loop Inv-loop μ-loop
-shared-slice-read-put-loop c = omega (arith, c .before .before .before .before .before .before .before .before .before .before .before .before .before .before .before .before .before .before .before .before .before .before .before .before .pre .1 .1 .1 .1 .closes)
+shared-slice-read-put-loop c =
+    let entry : tie.Start Inv-loop μ-loop = search in
+    omega (arith, entry .pre .1 .1 .1 .1 .closes)
 
 add-put-loop : tie.Need-add-put-loop Inv-loop μ-loop
-add-put-loop c = omega (arith, c .before .before .before .before .before .before .before .before .before .before .before .before .before .before .before .before .before .before .before .before .before .before .before .before .fits .count)
+add-put-loop c =
+    let entry : tie.Start Inv-loop μ-loop = search in
+    omega (arith, entry .fits .count)
 
 put-loop-requires : tie.Need-put-loop-requires Inv-loop μ-loop
 put-loop-requires c κs =
-    let p = c .before .before .before .before .before .before .before .before .before .before .before .before .before .before .before .before .before .before .before .before .before .before .before .before .pre in
-    let v = c .before .before .before .before .before .before .before .before .before .before .before .before .loop .inv in (
+    let at-loop : tie.At-loop Inv-loop μ-loop = search in
+    let entry : tie.Start Inv-loop μ-loop = search in
+    let p = entry .pre in
+    let v = at-loop .loop .inv in (
       p .0,
       (
         record { nexts = omega (arith, v .1, p .1 .0 .nexts); ends = omega (arith, v .1, p .1 .0 .ends); adds = omega (arith, v .1, p .1 .0 .adds) },
@@ -40,32 +50,39 @@ put-loop-requires c κs =
           record { room = record { few = p .1 .1 .0 .room .few; bests = omega (arith, v .2, p .1 .1 .0 .room .bests); segs = omega (arith, v .2, p .1 .1 .0 .room .segs) }; outs = omega (arith, v .2, p .1 .1 .0 .outs) },
           (
             record { rows = omega (arith, v .3, p .1 .1 .1 .0 .rows); lists = omega (arith, v .2, v .3, p .1 .1 .1 .0 .lists) },
-            due (v .4 .going) (omega (arith, p .1 .1 .1 .1 .count-is)) refl,
+            due (v .4 .going) (omega (arith, c, p .1 .1 .1 .1 .count-is)) refl,
           ),
         ),
       ),
     )
 
 add-i : tie.Need-add-i Inv-loop μ-loop
-add-i c = omega (arith, c .before .before .before .before .before .before .before .before .before .before .before .before .before .before .before .before .before .before .before .before .before .before .before .before .before .before .before .before .before .before .before .loop .inv, c .before .before .before .before .before .before .before .before .before .before .before .before .before .before .before .before .before .before .before .before .before .before .before .before .before .before .before .before .before .before .before .before .before .before .before .before .before .before .before .before .before .before .before .fits .count)
+add-i c =
+    let at-loop : tie.At-loop Inv-loop μ-loop = search in
+    let entry : tie.Start Inv-loop μ-loop = search in
+    omega (arith, at-loop .loop .inv, entry .fits .count)
 
 loop-less : tie.Need-loop-less Inv-loop μ-loop
 loop-less c = omega arith
 
 loop-again : tie.Need-loop-again Inv-loop μ-loop
 loop-again c =
-    let s = c .before .before .before .before .before .before .before .before .before .before .before .before .before .before .before .before .before .before .before .before .before .before .before .before .before .before .before .before .before .before .before .before .before .before .before .before .before .before .before .before .before .before .before in
+    let after-put-loop : tie.After-put-loop Inv-loop μ-loop = search in
+    let in-loop : tie.In-loop Inv-loop μ-loop = search in
+    let at-loop : tie.At-loop Inv-loop μ-loop = search in
+    let after-slice-known3 : tie.After-slice-known3 Inv-loop μ-loop = search in
+    let s : tie.Start Inv-loop μ-loop = search in
     let p = s .pre in
-    let l = c .before .before .before .before .before .before .before .before .before .before .before .before .before .before .before .before .before .before .before .before .before .before .before .before .before .before .before .before .before .before .before .loop in
+    let l = at-loop .loop in
     let v = l .inv in
-    let k = c .before .before .before .before .before .before .before .before .before .before .before .before .before .before .before .before .before .before .put-loop .kept in
-    let more : l .i + 1 ≤ s .args .count = omega (arith, c .before .before .before .before .before .before .before .before .before .before .before .before .before .before .before .before .before .before .before .before .before .before .before .before .before .before .before .before .before .before .loop-test .taken) in
-    let lt : l .i < length (loops (s .args .n - 1) (standing (s .args .lines .now))) = omega (arith, c .before .before .before .before .before .before .before .before .before .before .before .before .before .before .before .before .before .before .before .before .before .before .before .before .before .before .before .before .before .before .loop-test .taken, p .1 .1 .1 .1 .count-is) in (
+    let k = after-put-loop .put-loop .kept in
+    let more : l .i + 1 ≤ s .args .count = omega (arith, in-loop .loop-test .taken) in
+    let lt : l .i < length (loops (s .args .n - 1) (standing (s .args .lines .now))) = omega (arith, in-loop .loop-test .taken, p .1 .1 .1 .1 .count-is) in (
       more,
       (omega (arith, v .1, k), omega (arith, v .1, k), omega (arith, v .1, k), omega (arith, v .1, k)),
       (omega (arith, v .2, k), omega (arith, v .2, k), omega (arith, v .2, k)),
       (omega (arith, v .3, k), omega (arith, v .3, k), omega (arith, v .3, k)),
-      lines-next (v .4) lt (c .before .before .before .before .before .before .before .before .before .before .before .before .before .before .before .before .before .before .put-loop .ensures (due (v .4 .going) lt refl)),
+      lines-next (v .4) lt (after-put-loop .put-loop .ensures (due (v .4 .going) lt refl)),
     )
 
 same-length : tie.Need-same-length Inv-loop μ-loop
@@ -99,7 +116,9 @@ same-length-10 : tie.Need-same-length-10 Inv-loop μ-loop
 same-length-10 c = omega arith
 
 returns : tie.Need-returns Inv-loop μ-loop
-returns c = lines-end (c .before .loop .inv .4) _ (c .before .before .before .before .before .before .before .before .before .before .before .before .before .pre .1 .1 .1 .1 .count-is) (omega arith)
+returns c =
+    let entry : tie.Start Inv-loop μ-loop = search in
+    lines-end (c .before .loop .inv .4) _ (entry .pre .1 .1 .1 .1 .count-is) (omega arith)
 
 pub put-loops-spec : {M : Type 1} → statement M
 put-loops-spec =

@@ -23,8 +23,9 @@ few : (c : tie.After-survey-good) → c .survey-good .result .rows * 5 ≤ 2560
 few c = few-words (c .before .before .args .book) (c .before .before .args .lines .now) (c .before .before .pre) _ _ _ refl (c .survey-good .ensures)
 
 -- the flag that the code has is the definition's comparison
-flag : (c : tie.After-differs) → (let s = c .before .before .before .before .before in c .differs .result ≡ otherReport (s .args .report .now) (fresh (s .args .book) (s .args .lines .now) (s .pre)))
-flag c = let s = c .before .before .before .before .before in
+flag : (c : tie.After-differs) → (let s : tie.Start = search in c .differs .result ≡ otherReport (s .args .report .now) (fresh (s .args .book) (s .args .lines .now) (s .pre)))
+flag c =
+    let s : tie.Start = search in
     rw (front-is (s .args .book) (s .args .lines .now) (s .pre) _ _ _ refl (c .before .before .before .survey-good .ensures)) at (c .differs .ensures)
 
 mul-words : tie.Need-mul-words
@@ -40,13 +41,16 @@ differs-requires : tie.Need-differs-requires
 differs-requires c κs = search needs
 
 returns : tie.Need-returns
-returns c = let s = c .before .before .before .before .before .before in kept-other (s .args .book) (s .args .lines .now) (s .pre) (s .args .report .now) _ (flag (c .before)) (c .if1 .taken)
+returns c =
+    let s : tie.Start = search in
+    kept-other (s .args .book) (s .args .lines .now) (s .pre) (s .args .report .now) _ (flag (c .before)) (c .if1 .taken)
 
 returns-2 : tie.Need-returns-2
 returns-2 c =
-    let s = c .before .before .before .before .before .before in
+    let after-survey-good : tie.After-survey-good = search in
+    let s : tie.Start = search in
     kept-rows (s .args .book) (s .args .lines .now) (s .pre) (s .args .report .now) _ (flag (c .before)) _
-    (count-of (s .args .book) (s .args .lines .now) (s .pre) _ _ _ refl (c .before .before .before .before .survey-good .ensures)) (c .if1 .left)
+    (count-of (s .args .book) (s .args .lines .now) (s .pre) _ _ _ refl (after-survey-good .survey-good .ensures)) (c .if1 .left)
 
 pub kept-rows-spec : {M : Type 1} → statement M
 kept-rows-spec =

@@ -35,7 +35,7 @@ flag c =
 inside : (c : tie.Else1) → (let a = c .before .before .before .args in Between 1 (lineCount (a .lines .now)) (a .number))
 inside c = between 1 _ _ (sym (flag (c .before)) ∙ c .if1 .left)
 
-size : (c : tie.After-magnitude) → c .magnitude .result ≡ natAbs (c .before .before .before .before .args .number)
+size : (c : tie.After-magnitude) → (let entry : tie.Start = search in c .magnitude .result ≡ natAbs (entry .args .number))
 size c = c .magnitude .ensures ∙ search needs
 
 returns : tie.Need-returns
@@ -64,7 +64,7 @@ same-requires : tie.Need-same-requires
 same-requires c κs = search needs
 
 -- the flag of a withdrawn line
-gone : (c : tie.After-same) → c .same .result ≡ eqZ (getD (c .before .before .before .before .before .before .args .lines .now) ((c .before .before .magnitude .result - 1) * 5 + 4) (pos 0)) (pos 0)
+gone : (c : tie.After-same) → (let entry : tie.Start = search in c .same .result ≡ eqZ (getD (entry .args .lines .now) ((c .before .before .magnitude .result - 1) * 5 + 4) (pos 0)) (pos 0))
 gone c = c .same .ensures ∙ search needs
 
 returns-2 : tie.Need-returns-2

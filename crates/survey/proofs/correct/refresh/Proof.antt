@@ -35,10 +35,12 @@ slice-aggregate-put c = let f = few (c .before .before .before) in let k = c .be
 
 put-requires : tie.Need-put-requires
 put-requires c κs =
-    let f = few (c .before .before .before .before) in
-    let w = words (c .before .before .before .before) in
-    let k = c .before .before .before .before .survey-good .kept in
-    let r = c .before .before .before .before .before .before .pre .1 in
+    let after-survey-good : tie.After-survey-good = search in
+    let entry : tie.Start = search in
+    let f = few after-survey-good in
+    let w = words after-survey-good in
+    let k = after-survey-good .survey-good .kept in
+    let r = entry .pre .1 in
     simp length-take (omega (arith, k .1 .1 .0, w, r .fewer, r .places))
 
 mul-vacate : tie.Need-mul-vacate
@@ -46,8 +48,10 @@ mul-vacate c = search needs
 
 vacate-requires : tie.Need-vacate-requires
 vacate-requires c κs =
-    let w = words (c .before .before .before .before .before .before .before) in
-    let r = c .before .before .before .before .before .before .before .before .before .pre .1 in
+    let after-survey-good : tie.After-survey-good = search in
+    let entry : tie.Start = search in
+    let w = words after-survey-good in
+    let r = entry .pre .1 in
     let k = c .before .before .put .kept in
     omega (arith, w, r .fewer, r .places, k .1 .0)
 
@@ -56,9 +60,10 @@ same-length c = search needs
 
 returns : tie.Need-returns
 returns c =
-    let s = c .before .before .before .before .before .before .before .before .before .before .before in
-    let v = c .before .before .before .before .before .before .before .before .before in
-    let p = rw (front-is (s .args .book) (s .args .lines .now) (s .pre .0) _ _ _ refl (v .survey-good .ensures)) at (c .before .before .before .before .put .ensures) in
+    let after-put : tie.After-put = search in
+    let v : tie.After-survey-good = search in
+    let s : tie.Start = search in
+    let p = rw (front-is (s .args .book) (s .args .lines .now) (s .pre .0) _ _ _ refl (v .survey-good .ensures)) at (after-put .put .ensures) in
     refreshed-is (s .args .book) (s .args .lines .now) (s .pre .0) (s .args .report .now) _ _ (s .args .before) _ (s .pre .1) (words v) p (c .before .vacate .ensures) _
     (answer-is (s .args .book) (s .args .lines .now) (s .pre .0) _ _ _ refl (v .survey-good .ensures))
 

@@ -38,7 +38,7 @@ flag c = c .no-line .ensures ∙ search needs
 stands : (c : tie.Else1) → (let a = c .before .before .before .args in Stands (a .lines .now) (a .number) (natAbs (a .number) - 1))
 stands c = stands-of _ _ (sym (flag (c .before)) ∙ c .if1 .left)
 
-size : (c : tie.After-magnitude) → c .magnitude .result ≡ natAbs (c .before .before .before .before .before .before .before .before .before .before .args .number)
+size : (c : tie.After-magnitude) → (let entry : tie.Start = search in c .magnitude .result ≡ natAbs (entry .args .number))
 size c = c .magnitude .ensures ∙ search needs
 
 returns : tie.Need-returns
@@ -66,11 +66,13 @@ same-length-3 c = search needs
 returns-2 : tie.Need-returns-2
 unfolding correctGood
 returns-2 c =
-    let s = c .before .before .before .before .before .before .before .before .before in
+    let else1 : tie.Else1 = search in
+    let after-no-line : tie.After-no-line = search in
+    let s : tie.Start = search in
     let k = c .before .before .before in
     rw (
-      ← (flag (c .before .before .before .before .before .before .before)),
-      c .before .before .before .before .before .before .if1 .left,
+      ← (flag after-no-line),
+      else1 .if1 .left,
       is-other (s .args .book) (s .args .lines .now) (s .pre) (s .args .report .now) _ (k .kept-rows .ensures) (c .before .enum-told .given .1),
       c .refuse2 .ensures,
     )
@@ -79,51 +81,64 @@ magnitude-requires : tie.Need-magnitude-requires
 magnitude-requires c κs = search needs
 
 -- the place of the number that is set
-number-is : (c : tie.After-magnitude) → (let n = natAbs (c .before .before .before .before .before .before .before .before .before .before .args .number) in n ≡ n - 1 + 1)
-number-is c = ap natAbs (stands (c .before .before .before .before .before .before .before) .its-number) ∙ omega arith
+number-is : (c : tie.After-magnitude) → (let entry : tie.Start = search in let n = natAbs (entry .args .number) in n ≡ n - 1 + 1)
+number-is c =
+    let else1 : tie.Else1 = search in
+    ap natAbs (stands else1 .its-number) ∙ omega arith
 
 sub-at : tie.Need-sub-at
 sub-at c = let m = size c in let n = number-is c in omega arith
 
 mul-at : tie.Need-mul-at
-mul-at c = let m = size c in let n = number-is c in let w = stands (c .before .before .before .before .before .before .before) .there in omega arith
+mul-at c =
+    let else1 : tie.Else1 = search in
+    let m = size c in let n = number-is c in let w = stands else1 .there in omega arith
 
 add-at : tie.Need-add-at
-add-at c = let m = size c in let n = number-is c in let w = stands (c .before .before .before .before .before .before .before) .there in omega arith
+add-at c =
+    let else1 : tie.Else1 = search in
+    let m = size c in let n = number-is c in let w = stands else1 .there in omega arith
 
 mul-lines : tie.Need-mul-lines
-mul-lines c = let m = size c in let n = number-is c in let w = stands (c .before .before .before .before .before .before .before) .there in omega arith
+mul-lines c =
+    let else1 : tie.Else1 = search in
+    let m = size c in let n = number-is c in let w = stands else1 .there in omega arith
 
 slice-set-of-lines : tie.Need-slice-set-of-lines
-slice-set-of-lines c = let m = size c in let n = number-is c in let w = stands (c .before .before .before .before .before .before .before) .there in omega arith
+slice-set-of-lines c =
+    let else1 : tie.Else1 = search in
+    let m = size c in let n = number-is c in let w = stands else1 .there in omega arith
 
 -- the lines as they now are
-new-lines : (c : tie.After-magnitude) → (let a = c .before .before .before .before .before .before .before .before .before .before .args in
+new-lines : (c : tie.After-magnitude) → (let entry : tie.Start = search in let a = entry .args in
     set (a .lines .now) ((c .magnitude .result - 1) * 5 + 4) (pos 0) ≡ withdrawLines (a .lines .now) (a .number))
 unfolding withdrawLines
 new-lines c = rw (size c)
 
 -- the report that was lent is the book's own
-kept-before : (c : tie.After-kept) → (let s = c .before .before .before .before .before .before .before .before in
-    (otherReport (s .args .report .now) (fresh (s .args .book) (s .args .lines .now) (s .pre)) ≡ false) × (c .kept .given .0 .0 ≡ length (loopsOf (s .args .book .marks) (s .args .lines .now))))
+kept-before : (c : tie.After-kept) → (let s : tie.Start = search in (otherReport (s .args .report .now) (fresh (s .args .book) (s .args .lines .now) (s .pre)) ≡ false) × (c .kept .given .0 .0 ≡ length (loopsOf (s .args .book .marks) (s .args .lines .now))))
 kept-before c =
-    let s = c .before .before .before .before .before .before .before .before in
+    let s : tie.Start = search in
     is-kept (s .args .book) (s .args .lines .now) (s .pre) (s .args .report .now) _ (c .before .before .kept-rows .ensures) _ (c .kept .given .1)
 
 -- the book with its new lines is good
-new-good : (c : tie.After-magnitude) → (let a = c .before .before .before .before .before .before .before .before .before .before .args in GoodLines (a .book) (withdrawLines (a .lines .now) (a .number)))
-new-good c = let s = c .before .before .before .before .before .before .before .before .before .before in
-    withdrawn-lines-good (s .args .book) (s .args .lines .now) (s .pre) (s .args .number) _ (stands (c .before .before .before .before .before .before .before))
+new-good : (c : tie.After-magnitude) → (let entry : tie.Start = search in let a = entry .args in GoodLines (a .book) (withdrawLines (a .lines .now) (a .number)))
+new-good c =
+    let else1 : tie.Else1 = search in
+    let s : tie.Start = search in
+    withdrawn-lines-good (s .args .book) (s .args .lines .now) (s .pre) (s .args .number) _ (stands else1)
 
 refresh-requires : tie.Need-refresh-requires
 refresh-requires c κs =
-    let s = c .before .before .before .before .before .before .before .before .before .before .before .before in
+    let after-kept : tie.After-kept = search in
+    let else1 : tie.Else1 = search in
+    let s : tie.Start = search in
     let m = c .before .before in
-    let k = kept-before (c .before .before .before .before) in
+    let k = kept-before after-kept in
     rw (new-lines m) (
       new-good m,
       refresh-of (s .args .book) (s .args .lines .now) _ (s .args .report .now) _ (s .pre) (new-good m)
-          (withdrawal-fewer (s .args .book) (s .args .lines .now) (s .pre) (s .args .number) _ (stands (c .before .before .before .before .before .before .before .before .before))) (k .0) (k .1),
+          (withdrawal-fewer (s .args .book) (s .args .lines .now) (s .pre) (s .args .number) _ (stands else1)) (k .0) (k .1),
     )
 
 same-length-4 : tie.Need-same-length-4
@@ -134,10 +149,11 @@ same-length-5 c = search needs
 
 returns-3 : tie.Need-returns-3
 returns-3 c =
-    let s = c .before .before .before .before .before .before .before .before .before .before .before .before .before .before in
-    let m = c .before .before .before .before in
-    let k = kept-before (c .before .before .before .before .before .before) in
-    let e = c .before .before .before .before .before .before .before .before .before .before .before in
+    let m : tie.After-magnitude = search in
+    let after-kept : tie.After-kept = search in
+    let e : tie.Else1 = search in
+    let s : tie.Start = search in
+    let k = kept-before after-kept in
     rw (new-lines m)
     (corrected-is (s .args .book) (s .args .lines .now) _ (s .args .report .now) _ (s .args .number) _ _ (s .pre) (sym (flag (e .before)) ∙ e .if1 .left) (k .0) (k .1)
     (rw (new-lines m) at (c .before .refresh .ensures)))

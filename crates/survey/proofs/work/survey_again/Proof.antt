@@ -46,7 +46,7 @@ slice-aggregate-survey-again-in-13 c = search needs
 
 survey-again-in-requires : tie.Need-survey-again-in-requires
 survey-again-in-requires c κs =
-    let s = c .before .before .before .before .before .before .before .before .before .before .before .before .before .before .before in (
+    let s : tie.Start = search in (
       s .pre .0,
       (
         record {

@@ -11,7 +11,7 @@ add-n c = search needs
 
 start-book-requires : tie.Need-start-book-requires
 start-book-requires c κs =
-    let s = c .before .before .before .before .before .before .before .before .before .before .before .before .before .before .before .before .before .before .before .before .before .before .before .before .before .before in
+    let s : tie.Start = search in
     let b = s .args .book in
     let l = s .args .lines .now in
     let g = s .pre .0 .0 in
@@ -20,14 +20,17 @@ start-book-requires c κs =
 
 write-rows-again-requires : tie.Need-write-rows-again-requires
 write-rows-again-requires c κs =
-    let s = c .before .before .before .before .before .before .before .before .before .before .before .before .before .before .before .before .before .before .before .before .before .before .before .before .before .before .before .before .before .before .before .before .before .before .before .before .before .before .before .before .before .before .before .before .before .before .before .before .before .before .before .before .before .before .before .before .before .before .before .before .before .before .before in
+    let after-start-book : tie.After-start-book = search in
+    let after-struct-known : tie.After-struct-known = search in
+    let after-slice-known7 : tie.After-slice-known7 = search in
+    let s : tie.Start = search in
     let b = s .args .book in
     let l = s .args .lines .now in
     let g = s .pre .0 .0 in
     let d = s .pre .1 .0 in
     let w = s .pre .1 .1 in
-    let e = c .before .before .before .before .before .before .before .before .before .before .before .before .before .before .before .before .before .before .before .before .before .before .before .before .before .before .before .before .before .before .before .before .before .before .before .before .start-book .ensures in
-    let k = c .before .before .before .before .before .before .before .before .before .before .before .before .before .before .before .before .before .before .before .before .before .before .before .before .before .before .before .before .before .before .before .before .before .before .before .before .start-book .kept in
+    let e = after-start-book .start-book .ensures in
+    let k = after-start-book .start-book .kept in
     let f = few-count b l g _ _ _ _ _ _ _ _ _ (e .started) in (
       (tables-of b l g _ (omega arith) (e .planted), s .pre .0 .1),
       (
@@ -40,40 +43,88 @@ write-rows-again-requires c κs =
     )
 
 same-length : tie.Need-same-length
-same-length c = c .before .before .before .before .before .before .before .before .before .before .before .before .before .before .before .before .before .before .before .before .before .before .before .before .before .before .before .before .before .before .before .before .before .before .before .before .before .before .before .before .before .before .before .before .before .before .before .before .before .before .before .before .before .start-book .kept .1 .0
+same-length c =
+    let after-close : tie.After-close = search in
+    let after-start-book : tie.After-start-book = search in
+    after-start-book .start-book .kept .1 .0
 
 same-length-2 : tie.Need-same-length-2
-same-length-2 c = c .before .before .before .before .before .before .before .before .before .before .before .before .before .before .before .before .before .before .before .before .before .before .before .before .before .before .before .before .before .before .before .before .before .before .before .before .before .before .before .before .before .before .before .before .before .before .before .before .before .before .before .before .before .start-book .kept .1 .1 .0
+same-length-2 c =
+    let after-close : tie.After-close = search in
+    let after-start-book : tie.After-start-book = search in
+    after-start-book .start-book .kept .1 .1 .0
 
 same-length-3 : tie.Need-same-length-3
-same-length-3 c = c .before .before .before .before .before .before .before .before .before .before .before .before .before .before .before .before .write-rows-again .kept .1 .1 .1 .1 .1 .0 ∙ c .before .before .before .before .before .before .before .before .before .before .before .before .before .before .before .before .before .before .before .before .before .before .before .before .before .before .before .before .before .before .before .before .before .before .before .before .before .before .before .before .before .before .before .before .before .before .before .before .before .before .before .before .before .start-book .kept .1 .1 .1 .0
+same-length-3 c =
+    let after-write-rows-again : tie.After-write-rows-again = search in
+    let after-rank : tie.After-rank = search in
+    let after-add : tie.After-add = search in
+    let after-start-book : tie.After-start-book = search in
+    after-write-rows-again .write-rows-again .kept .1 .1 .1 .1 .1 .0 ∙ after-start-book .start-book .kept .1 .1 .1 .0
 
 same-length-4 : tie.Need-same-length-4
-same-length-4 c = c .before .before .before .before .before .before .before .before .before .before .before .before .before .before .before .before .write-rows-again .kept .1 .1 .1 .1 .1 .1 .0 ∙ c .before .before .before .before .before .before .before .before .before .before .before .before .before .before .before .before .before .before .before .before .before .before .before .before .before .before .before .before .before .before .before .before .before .before .before .before .before .before .before .before .before .before .before .before .before .before .before .before .before .before .before .before .before .start-book .kept .1 .1 .1 .1 .0
+same-length-4 c =
+    let after-write-rows-again : tie.After-write-rows-again = search in
+    let after-rank : tie.After-rank = search in
+    let after-add : tie.After-add = search in
+    let after-start-book : tie.After-start-book = search in
+    after-write-rows-again .write-rows-again .kept .1 .1 .1 .1 .1 .1 .0 ∙ after-start-book .start-book .kept .1 .1 .1 .1 .0
 
 same-length-5 : tie.Need-same-length-5
-same-length-5 c = c .before .before .before .before .before .before .before .before .before .before .before .before .before .before .before .before .write-rows-again .kept .1 .1 .1 .1 .1 .1 .1 .0 ∙ c .before .before .before .before .before .before .before .before .before .before .before .before .before .before .before .before .before .before .before .before .before .before .before .before .before .before .before .before .before .before .before .before .before .before .before .before .before .before .before .before .before .before .before .before .before .before .before .before .before .before .before .before .before .start-book .kept .1 .1 .1 .1 .1 .0
+same-length-5 c =
+    let after-write-rows-again : tie.After-write-rows-again = search in
+    let after-rank : tie.After-rank = search in
+    let after-add : tie.After-add = search in
+    let after-start-book : tie.After-start-book = search in
+    after-write-rows-again .write-rows-again .kept .1 .1 .1 .1 .1 .1 .1 .0 ∙ after-start-book .start-book .kept .1 .1 .1 .1 .1 .0
 
 same-length-6 : tie.Need-same-length-6
-same-length-6 c = c .before .before .before .before .before .before .before .before .before .before .before .before .before .before .before .before .write-rows-again .kept .1 .1 .1 .1 .1 .1 .1 .1 .0 ∙ c .before .before .before .before .before .before .before .before .before .before .before .before .before .before .before .before .before .before .before .before .before .before .before .before .before .before .before .before .before .before .before .before .before .before .before .before .before .before .before .before .before .before .before .before .before .before .before .before .before .before .before .before .before .start-book .kept .1 .1 .1 .1 .1 .1 .0
+same-length-6 c =
+    let after-write-rows-again : tie.After-write-rows-again = search in
+    let after-rank : tie.After-rank = search in
+    let after-add : tie.After-add = search in
+    let after-start-book : tie.After-start-book = search in
+    after-write-rows-again .write-rows-again .kept .1 .1 .1 .1 .1 .1 .1 .1 .0 ∙ after-start-book .start-book .kept .1 .1 .1 .1 .1 .1 .0
 
 same-length-7 : tie.Need-same-length-7
-same-length-7 c = c .before .before .before .before .before .before .before .before .before .before .before .before .before .before .before .before .write-rows-again .kept .1 .1 .1 .1 .1 .1 .1 .1 .1 .0 ∙ c .before .before .before .before .before .before .before .before .before .before .before .before .before .before .before .before .before .before .before .before .before .before .before .before .before .before .before .before .before .before .before .before .before .before .before .before .before .before .before .before .before .before .before .before .before .before .before .before .before .before .before .before .before .start-book .kept .1 .1 .1 .1 .1 .1 .1 .0
+same-length-7 c =
+    let after-write-rows-again : tie.After-write-rows-again = search in
+    let after-rank : tie.After-rank = search in
+    let after-add : tie.After-add = search in
+    let after-start-book : tie.After-start-book = search in
+    after-write-rows-again .write-rows-again .kept .1 .1 .1 .1 .1 .1 .1 .1 .1 .0 ∙ after-start-book .start-book .kept .1 .1 .1 .1 .1 .1 .1 .0
 
 same-length-8 : tie.Need-same-length-8
-same-length-8 c = c .before .before .before .before .before .before .before .before .before .before .before .before .before .before .before .before .write-rows-again .kept .1 .1 .1 .1 .1 .1 .1 .1 .1 .1 .0 ∙ c .before .before .before .before .before .before .before .before .before .before .before .before .before .before .before .before .before .before .before .before .before .before .before .before .before .before .before .before .before .before .before .before .before .before .before .before .before .before .before .before .before .before .before .before .before .before .before .before .before .before .before .before .before .start-book .kept .1 .1 .1 .1 .1 .1 .1 .1 .0
+same-length-8 c =
+    let after-write-rows-again : tie.After-write-rows-again = search in
+    let after-rank : tie.After-rank = search in
+    let after-add : tie.After-add = search in
+    let after-start-book : tie.After-start-book = search in
+    after-write-rows-again .write-rows-again .kept .1 .1 .1 .1 .1 .1 .1 .1 .1 .1 .0 ∙ after-start-book .start-book .kept .1 .1 .1 .1 .1 .1 .1 .1 .0
 
 same-length-9 : tie.Need-same-length-9
-same-length-9 c = c .before .before .before .before .before .before .before .before .before .before .before .before .before .before .before .before .before .before .before .before .before .before .before .before .before .before .before .before .before .before .before .before .before .before .before .before .before .before .before .before .before .before .before .before .before .before .before .before .before .before .before .before .before .start-book .kept .1 .1 .1 .1 .1 .1 .1 .1 .1 .0
+same-length-9 c =
+    let after-close : tie.After-close = search in
+    let after-start-book : tie.After-start-book = search in
+    after-start-book .start-book .kept .1 .1 .1 .1 .1 .1 .1 .1 .1 .0
 
 same-length-10 : tie.Need-same-length-10
-same-length-10 c = c .before .before .before .before .before .before .before .before .before .before .before .before .before .before .before .before .before .before .before .before .before .before .before .before .before .before .before .before .before .before .before .before .before .before .before .before .before .before .before .before .before .before .before .before .before .before .before .before .before .before .before .before .before .start-book .kept .1 .1 .1 .1 .1 .1 .1 .1 .1 .1 .0
+same-length-10 c =
+    let after-close : tie.After-close = search in
+    let after-start-book : tie.After-start-book = search in
+    after-start-book .start-book .kept .1 .1 .1 .1 .1 .1 .1 .1 .1 .1 .0
 
 same-length-11 : tie.Need-same-length-11
-same-length-11 c = c .before .before .before .before .before .before .before .before .before .before .before .before .before .before .before .before .before .before .before .before .before .before .before .before .before .before .before .before .before .before .before .before .before .before .before .before .before .before .before .before .before .before .before .before .before .before .before .before .before .before .before .before .before .start-book .kept .1 .1 .1 .1 .1 .1 .1 .1 .1 .1 .1 .0
+same-length-11 c =
+    let after-close : tie.After-close = search in
+    let after-start-book : tie.After-start-book = search in
+    after-start-book .start-book .kept .1 .1 .1 .1 .1 .1 .1 .1 .1 .1 .1 .0
 
 same-length-12 : tie.Need-same-length-12
-same-length-12 c = c .before .before .before .before .before .before .before .before .before .before .before .before .before .before .before .before .before .before .before .before .before .before .before .before .before .before .before .before .before .before .before .before .before .before .before .before .before .before .before .before .before .before .before .before .before .before .before .before .before .before .before .before .before .start-book .kept .1 .1 .1 .1 .1 .1 .1 .1 .1 .1 .1 .1 .0
+same-length-12 c =
+    let after-close : tie.After-close = search in
+    let after-start-book : tie.After-start-book = search in
+    after-start-book .start-book .kept .1 .1 .1 .1 .1 .1 .1 .1 .1 .1 .1 .1 .0
 
 same-length-13 : tie.Need-same-length-13
 same-length-13 c = search needs
@@ -86,13 +137,17 @@ same-length-15 c = search needs
 
 returns : tie.Need-returns
 returns c =
-    let s = c .before .before .before .before .before .before .before .before .before .before .before .before .before .before .before .before .before .before .before .before .before .before .before .before .before .before .before .before .before .before .before .before .before .before .before .before .before .before .before .before .before .before .before .before .before .before .before .before .before .before .before .before .before .before .before .before .before .before .before .before .before .before .before .before .before .before .before .before .before .before .before .before .before .before .before .before .before .before .before .before in
+    let after-write-rows-again : tie.After-write-rows-again = search in
+    let after-rank : tie.After-rank = search in
+    let after-add : tie.After-add = search in
+    let after-start-book : tie.After-start-book = search in
+    let s = after-start-book .before .before .before .before .before .before .before .before .before .before .before .before .before .before .before .before .before .before .before .before .before .before .before .before .before .before .before in
     let b = s .args .book in
     let l = s .args .lines .now in
     let g = s .pre .0 .0 in
-    let st = c .before .before .before .before .before .before .before .before .before .before .before .before .before .before .before .before .before .before .before .before .before .before .before .before .before .before .before .before .before .before .before .before .before .before .before .before .before .before .before .before .before .before .before .before .before .before .before .before .before .before .before .before .before .start-book .ensures .started in
+    let st = after-start-book .start-book .ensures .started in
     let f = few-count b l g _ _ _ _ _ _ _ _ _ st in
-    let w = c .before .before .before .before .before .before .before .before .before .before .before .before .before .before .before .before .write-rows-again .ensures in (
+    let w = after-write-rows-again .write-rows-again .ensures in (
       survey-is b l g _ _ _ _ _ _ _ _ _ st (s .args .rows .now) _ (omega (arith, f, s .pre .1 .1 .0)) (w .0),
       again-is b l (s .args .again .now) g (s .pre .0 .1) _ _ (count-is b l g _ _ _ _ _ _ _ _ _ st) (parts-are b l g _ _ _ _ _ _ _ _ _ st) (s .args .fresh .now) _ (omega (arith, f, s .pre .1 .1 .1)) (w .1),
     )

@@ -46,24 +46,25 @@ slice-aggregate-survey-in-13 : tie.Need-slice-aggregate-survey-in-13
 slice-aggregate-survey-in-13 c = search needs
 
 survey-in-requires : tie.Need-survey-in-requires
-survey-in-requires c κs = (
-  c .before .before .before .before .before .before .before .before .before .before .before .before .before .before .pre,
-  record {
-    tips = search needs;
-    longs = search needs;
-    heads = search needs;
-    nexts = search needs;
-    fars = search needs;
-    adds = search needs;
-    bests = search needs;
-    segs = search needs;
-    orders = search needs;
-    ranks = search needs;
-    sorts = search needs;
-    closes = search needs;
-    paths = search needs;
-  },
-)
+survey-in-requires c κs =
+    let entry : tie.Start = search in (
+      entry .pre,
+      record {
+        tips = search needs;
+        longs = search needs;
+        heads = search needs;
+        nexts = search needs;
+        fars = search needs;
+        adds = search needs;
+        bests = search needs;
+        segs = search needs;
+        orders = search needs;
+        ranks = search needs;
+        sorts = search needs;
+        closes = search needs;
+        paths = search needs;
+      },
+    )
 
 same-length : tie.Need-same-length
 same-length c = search needs

@@ -10,7 +10,7 @@ add-n c = search needs
 
 start-book-requires : tie.Need-start-book-requires
 start-book-requires c κs =
-    let s = c .before .before .before .before .before .before .before .before .before .before .before .before .before .before .before .before .before .before .before .before .before .before .before .before .before .before in
+    let s : tie.Start = search in
     let b = s .args .book in
     let l = s .args .lines .now in
     let g = s .pre .0 in
@@ -19,8 +19,11 @@ start-book-requires c κs =
 
 mul-if1 : tie.Need-mul-if1
 mul-if1 c =
-    let s = c .before .before .before .before .before .before .before .before .before .before .before .before .before .before .before .before .before .before .before .before .before .before .before .before .before .before .before .before .before .before .before .before .before .before .before .before .before .before .before .before .before .before .before .before .before .before .before .before .before .before .before in
-    omega (arith, few-count (s .args .book) (s .args .lines .now) (s .pre .0) _ _ _ _ _ _ _ _ _ (c .before .before .before .before .before .before .before .before .before .before .before .before .before .before .before .before .before .before .before .before .before .before .before .before .start-book .ensures .started))
+    let after-start-book : tie.After-start-book = search in
+    let after-struct-known : tie.After-struct-known = search in
+    let after-slice-known7 : tie.After-slice-known7 = search in
+    let s : tie.Start = search in
+    omega (arith, few-count (s .args .book) (s .args .lines .now) (s .pre .0) _ _ _ _ _ _ _ _ _ (after-start-book .start-book .ensures .started))
 
 refuse-requires : tie.Need-refuse-requires
 refuse-requires c κs = search needs
@@ -63,61 +66,113 @@ same-length-12 c = search needs
 
 returns : tie.Need-returns
 returns c =
-    let s = c .before .before .before .before .before .before .before .before .before .before .before .before .before .before .before .before .before .before .before .before .before .before .before .before .before .before .before .before .before .before .before .before .before .before .before .before .before .before .before .before .before .before .before .before .before .before .before .before .before .before .before .before .before in
-    rw (c .refuse .ensures) (ten-is (s .args .book) (s .args .lines .now) (s .pre .0) _ _ _ _ _ _ _ _ _ (c .before .before .before .before .before .before .before .before .before .before .before .before .before .before .before .before .before .before .before .before .before .before .before .before .before .before .start-book .ensures .started) (s .args .rows .now) (c .before .if1 .taken))
+    let after-start-book : tie.After-start-book = search in
+    let after-struct-known : tie.After-struct-known = search in
+    let after-slice-known7 : tie.After-slice-known7 = search in
+    let s : tie.Start = search in
+    rw (c .refuse .ensures) (ten-is (s .args .book) (s .args .lines .now) (s .pre .0) _ _ _ _ _ _ _ _ _ (after-start-book .start-book .ensures .started) (s .args .rows .now) (c .before .if1 .taken))
 
 write-rows-requires : tie.Need-write-rows-requires
 write-rows-requires c κs =
-    let s = c .before .before .before .before .before .before .before .before .before .before .before .before .before .before .before .before .before .before .before .before .before .before .before .before .before .before .before .before .before .before .before .before .before .before .before .before .before .before .before .before .before .before .before .before .before .before .before .before .before .before .before .before .before .before .before .before .before .before .before .before .before .before .before in
+    let else1 : tie.Else1 = search in
+    let after-start-book : tie.After-start-book = search in
+    let after-start-book-arg7 : tie.After-start-book-arg7 = search in
+    let after-struct-known : tie.After-struct-known = search in
+    let s = after-struct-known .before .before .before .before .before .before .before .before .before .before .before .before .before .before in
     let b = s .args .book in
     let l = s .args .lines .now in
     let g = s .pre .0 in
     let d = s .pre .1 in
-    let e = c .before .before .before .before .before .before .before .before .before .before .before .before .before .before .before .before .before .before .before .before .before .before .before .before .before .before .before .before .before .before .before .before .before .before .before .before .start-book .ensures in
-    let k = c .before .before .before .before .before .before .before .before .before .before .before .before .before .before .before .before .before .before .before .before .before .before .before .before .before .before .before .before .before .before .before .before .before .before .before .before .start-book .kept in
+    let e = after-start-book .start-book .ensures in
+    let k = after-start-book .start-book .kept in
     let f = few-count b l g _ _ _ _ _ _ _ _ _ (e .started) in (
       tables-of b l g _ (omega arith) (e .planted),
       (
         nodes-of b l g _ _ _ _ _ _ _ _ _ _ _ _ _ d _ _ _ (k .1 .1 .1 .1 .0) (k .1 .1 .1 .1 .1 .0) (k .1 .1 .1 .1 .1 .1 .0),
         (
           rooms-of b l g _ _ _ _ _ _ _ _ _ _ _ _ _ d _ _ (k .1 .1 .1 .1 .1 .1 .1 .0) (k .1 .1 .1 .1 .1 .1 .1 .1 .0),
-          record { going = e .started .going; count-is = e .started .count-is; closes = omega (arith, f, d .closes, k .1 .1 .1 .1 .1 .1 .1 .1 .1 .1 .1 .1 .0); outs = c .before .before .before .before .before .before .before .before .before .before .before .if1 .left },
+          record { going = e .started .going; count-is = e .started .count-is; closes = omega (arith, f, d .closes, k .1 .1 .1 .1 .1 .1 .1 .1 .1 .1 .1 .1 .0); outs = else1 .if1 .left },
         ),
       ),
     )
 
 same-length-13 : tie.Need-same-length-13
-same-length-13 c = c .before .before .before .before .before .before .before .before .before .before .before .before .before .before .before .before .before .before .before .before .before .before .before .before .before .before .before .before .before .before .before .before .before .before .before .before .before .before .before .before .before .before .before .before .before .before .before .before .before .before .before .before .start-book .kept .1 .0
+same-length-13 c =
+    let else1 : tie.Else1 = search in
+    let after-start-book : tie.After-start-book = search in
+    after-start-book .start-book .kept .1 .0
 
 same-length-14 : tie.Need-same-length-14
-same-length-14 c = c .before .before .before .before .before .before .before .before .before .before .before .before .before .before .before .before .before .before .before .before .before .before .before .before .before .before .before .before .before .before .before .before .before .before .before .before .before .before .before .before .before .before .before .before .before .before .before .before .before .before .before .before .start-book .kept .1 .1 .0
+same-length-14 c =
+    let else1 : tie.Else1 = search in
+    let after-start-book : tie.After-start-book = search in
+    after-start-book .start-book .kept .1 .1 .0
 
 same-length-15 : tie.Need-same-length-15
-same-length-15 c = c .before .before .before .before .before .before .before .before .before .before .before .before .before .before .before .write-rows .kept .1 .1 .1 .1 .0 ∙ c .before .before .before .before .before .before .before .before .before .before .before .before .before .before .before .before .before .before .before .before .before .before .before .before .before .before .before .before .before .before .before .before .before .before .before .before .before .before .before .before .before .before .before .before .before .before .before .before .before .before .before .before .start-book .kept .1 .1 .1 .0
+same-length-15 c =
+    let after-write-rows : tie.After-write-rows = search in
+    let after-rank : tie.After-rank = search in
+    let after-add : tie.After-add = search in
+    let after-start-book : tie.After-start-book = search in
+    after-write-rows .write-rows .kept .1 .1 .1 .1 .0 ∙ after-start-book .start-book .kept .1 .1 .1 .0
 
 same-length-16 : tie.Need-same-length-16
-same-length-16 c = c .before .before .before .before .before .before .before .before .before .before .before .before .before .before .before .write-rows .kept .1 .1 .1 .1 .1 .0 ∙ c .before .before .before .before .before .before .before .before .before .before .before .before .before .before .before .before .before .before .before .before .before .before .before .before .before .before .before .before .before .before .before .before .before .before .before .before .before .before .before .before .before .before .before .before .before .before .before .before .before .before .before .before .start-book .kept .1 .1 .1 .1 .0
+same-length-16 c =
+    let after-write-rows : tie.After-write-rows = search in
+    let after-rank : tie.After-rank = search in
+    let after-add : tie.After-add = search in
+    let after-start-book : tie.After-start-book = search in
+    after-write-rows .write-rows .kept .1 .1 .1 .1 .1 .0 ∙ after-start-book .start-book .kept .1 .1 .1 .1 .0
 
 same-length-17 : tie.Need-same-length-17
-same-length-17 c = c .before .before .before .before .before .before .before .before .before .before .before .before .before .before .before .write-rows .kept .1 .1 .1 .1 .1 .1 .0 ∙ c .before .before .before .before .before .before .before .before .before .before .before .before .before .before .before .before .before .before .before .before .before .before .before .before .before .before .before .before .before .before .before .before .before .before .before .before .before .before .before .before .before .before .before .before .before .before .before .before .before .before .before .before .start-book .kept .1 .1 .1 .1 .1 .0
+same-length-17 c =
+    let after-write-rows : tie.After-write-rows = search in
+    let after-rank : tie.After-rank = search in
+    let after-add : tie.After-add = search in
+    let after-start-book : tie.After-start-book = search in
+    after-write-rows .write-rows .kept .1 .1 .1 .1 .1 .1 .0 ∙ after-start-book .start-book .kept .1 .1 .1 .1 .1 .0
 
 same-length-18 : tie.Need-same-length-18
-same-length-18 c = c .before .before .before .before .before .before .before .before .before .before .before .before .before .before .before .write-rows .kept .1 .1 .1 .1 .1 .1 .1 .0 ∙ c .before .before .before .before .before .before .before .before .before .before .before .before .before .before .before .before .before .before .before .before .before .before .before .before .before .before .before .before .before .before .before .before .before .before .before .before .before .before .before .before .before .before .before .before .before .before .before .before .before .before .before .before .start-book .kept .1 .1 .1 .1 .1 .1 .0
+same-length-18 c =
+    let after-write-rows : tie.After-write-rows = search in
+    let after-rank : tie.After-rank = search in
+    let after-add : tie.After-add = search in
+    let after-start-book : tie.After-start-book = search in
+    after-write-rows .write-rows .kept .1 .1 .1 .1 .1 .1 .1 .0 ∙ after-start-book .start-book .kept .1 .1 .1 .1 .1 .1 .0
 
 same-length-19 : tie.Need-same-length-19
-same-length-19 c = c .before .before .before .before .before .before .before .before .before .before .before .before .before .before .before .write-rows .kept .1 .1 .1 .1 .1 .1 .1 .1 .0 ∙ c .before .before .before .before .before .before .before .before .before .before .before .before .before .before .before .before .before .before .before .before .before .before .before .before .before .before .before .before .before .before .before .before .before .before .before .before .before .before .before .before .before .before .before .before .before .before .before .before .before .before .before .before .start-book .kept .1 .1 .1 .1 .1 .1 .1 .0
+same-length-19 c =
+    let after-write-rows : tie.After-write-rows = search in
+    let after-rank : tie.After-rank = search in
+    let after-add : tie.After-add = search in
+    let after-start-book : tie.After-start-book = search in
+    after-write-rows .write-rows .kept .1 .1 .1 .1 .1 .1 .1 .1 .0 ∙ after-start-book .start-book .kept .1 .1 .1 .1 .1 .1 .1 .0
 
 same-length-20 : tie.Need-same-length-20
-same-length-20 c = c .before .before .before .before .before .before .before .before .before .before .before .before .before .before .before .write-rows .kept .1 .1 .1 .1 .1 .1 .1 .1 .1 .0 ∙ c .before .before .before .before .before .before .before .before .before .before .before .before .before .before .before .before .before .before .before .before .before .before .before .before .before .before .before .before .before .before .before .before .before .before .before .before .before .before .before .before .before .before .before .before .before .before .before .before .before .before .before .before .start-book .kept .1 .1 .1 .1 .1 .1 .1 .1 .0
+same-length-20 c =
+    let after-write-rows : tie.After-write-rows = search in
+    let after-rank : tie.After-rank = search in
+    let after-add : tie.After-add = search in
+    let after-start-book : tie.After-start-book = search in
+    after-write-rows .write-rows .kept .1 .1 .1 .1 .1 .1 .1 .1 .1 .0 ∙ after-start-book .start-book .kept .1 .1 .1 .1 .1 .1 .1 .1 .0
 
 same-length-21 : tie.Need-same-length-21
-same-length-21 c = c .before .before .before .before .before .before .before .before .before .before .before .before .before .before .before .before .before .before .before .before .before .before .before .before .before .before .before .before .before .before .before .before .before .before .before .before .before .before .before .before .before .before .before .before .before .before .before .before .before .before .before .before .start-book .kept .1 .1 .1 .1 .1 .1 .1 .1 .1 .0
+same-length-21 c =
+    let else1 : tie.Else1 = search in
+    let after-start-book : tie.After-start-book = search in
+    after-start-book .start-book .kept .1 .1 .1 .1 .1 .1 .1 .1 .1 .0
 
 same-length-22 : tie.Need-same-length-22
-same-length-22 c = c .before .before .before .before .before .before .before .before .before .before .before .before .before .before .before .before .before .before .before .before .before .before .before .before .before .before .before .before .before .before .before .before .before .before .before .before .before .before .before .before .before .before .before .before .before .before .before .before .before .before .before .before .start-book .kept .1 .1 .1 .1 .1 .1 .1 .1 .1 .1 .0
+same-length-22 c =
+    let else1 : tie.Else1 = search in
+    let after-start-book : tie.After-start-book = search in
+    after-start-book .start-book .kept .1 .1 .1 .1 .1 .1 .1 .1 .1 .1 .0
 
 same-length-23 : tie.Need-same-length-23
-same-length-23 c = c .before .before .before .before .before .before .before .before .before .before .before .before .before .before .before .before .before .before .before .before .before .before .before .before .before .before .before .before .before .before .before .before .before .before .before .before .before .before .before .before .before .before .before .before .before .before .before .before .before .before .before .before .start-book .kept .1 .1 .1 .1 .1 .1 .1 .1 .1 .1 .1 .0
+same-length-23 c =
+    let else1 : tie.Else1 = search in
+    let after-start-book : tie.After-start-book = search in
+    after-start-book .start-book .kept .1 .1 .1 .1 .1 .1 .1 .1 .1 .1 .1 .0
 
 same-length-24 : tie.Need-same-length-24
 same-length-24 c = search needs
@@ -130,8 +185,13 @@ same-length-26 c = search needs
 
 returns-2 : tie.Need-returns-2
 returns-2 c =
-    let s = c .before .before .before .before .before .before .before .before .before .before .before .before .before .before .before .before .before .before .before .before .before .before .before .before .before .before .before .before .before .before .before .before .before .before .before .before .before .before .before .before .before .before .before .before .before .before .before .before .before .before .before .before .before .before .before .before .before .before .before .before .before .before .before .before .before .before .before .before .before .before .before .before .before .before .before .before .before .before .before in
-    survey-is (s .args .book) (s .args .lines .now) (s .pre .0) _ _ _ _ _ _ _ _ _ (c .before .before .before .before .before .before .before .before .before .before .before .before .before .before .before .before .before .before .before .before .before .before .before .before .before .before .before .before .before .before .before .before .before .before .before .before .before .before .before .before .before .before .before .before .before .before .before .before .before .before .before .before .start-book .ensures .started) (s .args .rows .now) _ (c .before .before .before .before .before .before .before .before .before .before .before .before .before .before .before .before .before .before .before .before .before .before .before .before .before .before .before .if1 .left) (c .before .before .before .before .before .before .before .before .before .before .before .before .before .before .before .write-rows .ensures)
+    let after-write-rows : tie.After-write-rows = search in
+    let else1 : tie.Else1 = search in
+    let after-best : tie.After-best = search in
+    let after-start-book : tie.After-start-book = search in
+    let after-struct-known = after-start-book .before .before .before .before .before .before .before .before .before .before .before .before .before in
+    let s = after-struct-known .before .before .before .before .before .before .before .before .before .before .before .before .before .before in
+    survey-is (s .args .book) (s .args .lines .now) (s .pre .0) _ _ _ _ _ _ _ _ _ (after-start-book .start-book .ensures .started) (s .args .rows .now) _ (else1 .if1 .left) (after-write-rows .write-rows .ensures)
 
 pub survey-in-spec : {M : Type 1} → statement M
 survey-in-spec =
