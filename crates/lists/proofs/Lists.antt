@@ -6,14 +6,13 @@ use mathlib.Core.Path.{_≡_, refl, sym, _∙_, ap, ap₂, subst}
 use mathlib.Core.Bool.{Bool, true, false, cond}
 use mathlib.Core.List.{List, [], _∷_, _++_, map, List·Memᴰ, List·Memᴰ·head, List·Memᴰ·tail}
 use lib.IntN.{ℤ, pos, natAbs}
-use lib.ListN.{length, take, drop, getD, length-map, length-take}
+use lib.ListN.{length, take, drop, getD, length-map, length-take, List·getD-map}
 use lib.Seq.{length-sets, sets-eq, take-at}
 use borrow.Author.Tests.{lt-ltb, le-ltb}
 use Rattle.laws.specs.Tests.{outZ}
 use Rattle.laws.proofs.Size.{Between}
 use Rattle.book.specs.declared.Book.{Book}
 use Rattle.network.specs.Standing.{Line, standing}
-use Rattle.network.proofs.Corrected.{of-standing}
 use Rattle.loops.specs.Loops.{Loop, loops, loopAt}
 use Rattle.loops.specs.Checked.{checked, notChecked}
 use Rattle.chains.specs.Chains.{numberLimit}
@@ -23,7 +22,7 @@ use Rattle.listing.specs.Turns.{LoopFound}
 use Rattle.unchecked.specs.Book.{Shelf, BookListed}
 use Rattle.survey.specs.GoodLines.{GoodLines}
 use Rattle.survey.specs.Report.{loopsOf}
-use Rattle.survey.proofs.Sounding.{few-standing}
+use Rattle.survey.proofs.Sounding.{few-standing, line-limits}
 use Rattle.survey.proofs.Working.{lines-are, count-is}
 use Rattle.lists.specs.Listing.{listing, unlisted, entered, listOf, listingGood}
 use Rattle.lists.specs.NotChecked.{uncheckedOf}
@@ -106,15 +105,21 @@ module _ (k : Book) (ls : List ℤ) (g : GoodLines k ls) where
       )
 
   numbers-low : (l : Line) → List·Memᴰ l (standing ls) → l .number < numberLimit
-  numbers-low l m =
-      let w = of-standing ls l m in
-      omega (arith, ap (λ (x : Line). x .number) (w .1 .its), w .1 .isThere, g .whole, g .few)
+  numbers-low l m = omega (arith, line-limits k ls g l m .number)
 
   pub few-listed : length (uncheckedOf (k .marks) ls) ≤ 512
   unfolding uncheckedOf
   few-listed =
       let open-lines = notChecked (loopsOf (k .marks) ls) (standing ls) in
       omega (arith, length-map open-lines pos, few-unchecked (loopsOf (k .marks) ls) (standing ls), few-standing ls, g .whole, g .few)
+
+  -- each entry is the number of a line
+  pub listed-numbers : (i : ℕ) → i < length (uncheckedOf (k .marks) ls) → natAbs (getD (uncheckedOf (k .marks) ls) i (pos 0)) ≤ 512
+  unfolding uncheckedOf
+  listed-numbers i h =
+      let open-lines = notChecked (loopsOf (k .marks) ls) (standing ls) in
+      let low = low-unchecked 513 (loopsOf (k .marks) ls) (standing ls) (λ l m. omega (arith, line-limits k ls g l m .number)) in
+      rw (List·getD-map pos open-lines i 0) (omega (arith, low i (omega (arith, length-map open-lines pos))))
 
   module _ {list list′ : List ℕ} {a : ℕ} (room : 512 ≤ length list) (put : BookListed (k .marks + 1) ls list list′ a) where
     abbrev open-lines : List ℕ

@@ -1,5 +1,7 @@
--- Each loop has its closing line once, forward and first, is closed, runs no line twice, and no earlier loop runs its closing line. Assumes nothing.
-use Prim.Native.Nat.{ℕ, _+_}
+-- Each loop has its closing line once, forward and first, is closed, runs no line twice and no more lines than there are marks, and no earlier loop runs its
+-- closing line. Assumes nothing.
+use Prim.Native.Nat.{ℕ, _+_, _≤_}
+use native.Mathlib.Omega.{arith}
 use mathlib.Core.Path.{_≡_, refl, sym, _∙_, ap, subst}
 use mathlib.Core.Logic.{_⊎_, inl, inr}
 use mathlib.Core.Bool.{true, false}
@@ -18,6 +20,7 @@ use Rattle.network.specs.ClosingOrder.{Distinct}
 use Rattle.network.proofs.Pairwise.{pairwise-first, pairwise-rest}
 use Rattle.network.proofs.ClosingLines.{closing-line-stands, never-tree-line-and-closing-line, each-line-closes-once}
 use Rattle.network.proofs.ShortestPath.{pass-line, shortest-no-mark-twice, shortest-no-line-twice}
+use Rattle.network.proofs.FewLines.{fewer-lines-than-marks}
 use Rattle.network.proofs.Subgraph.{of-only, isIn-numbers, not-in}
 use Rattle.network.proofs.Walks.{walk-wider}
 use Rattle.loops.specs.Loops.{Loop, loops}
@@ -119,6 +122,18 @@ module _ (b : ℕ) (lines : List Line) (sound : Sound b lines) where
   -- so each loop belongs to a closing line
   pub loop-has-closing-line : (lp : Loop) → List·Memᴰ lp (loops b lines) → (c : Line) × List·Memᴰ c (closing lines (tree b lines)) × IsLoopOf lines c lp
   loop-has-closing-line lp i = one-of each-loop-is lp i
+
+  -- a loop runs no more lines than the book has marks, since its path comes through none twice
+  pub loop-has-few-lines : (lp : Loop) → List·Memᴰ lp (loops b lines) → length lp ≤ b
+  loop-has-few-lines lp i = let k = loop-has-closing-line lp i in few (k .0) (k .2)
+    where
+      few : (c : Line) → IsLoopOf lines c lp → length lp ≤ b
+      few c x = go (subst (Walk lines (c .from) (c .from)) (x .closingFirst) (x .closed))
+        where
+          go : Walk lines (c .from) (c .from) (pass c true ∷ x .path) → length lp ≤ b
+          go (step s m w) =
+              let p = sound .placed c m in
+              omega (arith, ap length (x .closingFirst), fewer-lines-than-marks b lines (sound .placed) w (p .to-low, p .to-high) (x .noMarkTwice))
 
   -- no earlier loop runs a loop's closing line
   pub no-earlier-loop-runs-it : Pairwise (λ (lp later : Loop). runs (closingNumber later) lp ≡ false) (loops b lines)

@@ -8,5 +8,6 @@ pub mod Checked
 pub mod Ways
 pub mod Crossed
 pub mod Row
+pub mod Sizes
 pub mod Rerun
 pub mod Withdrawal

@@ -11,6 +11,7 @@ pub mod Shortest
 pub mod Descent
 pub mod Enough
 pub mod ShortestPath
+pub mod FewLines
 pub mod Count
 pub mod Flow
 pub mod ClosingOrder

@@ -1,3 +1,4 @@
 pub mod Turning
 pub mod Book
 pub mod Filed
+pub mod Fits

@@ -1,18 +1,19 @@
--- The standing lines of a tested book are sound, which is what the theorems on tree, paths and loops ask for; and there are few loops.
+-- The standing lines of a tested book are sound, which is what the theorems on tree, paths and loops ask for, and within the limits; and there are few loops.
 -- Assumes nothing.
 use native.Mathlib.Omega.{arith}
-use mathlib.Core.Path.{_≡_, sym, _∙_, ap}
-use mathlib.Core.List.{List, [], _∷_}
+use mathlib.Core.Path.{_≡_, sym, _∙_, ap, subst}
+use mathlib.Core.List.{List, [], _∷_, List·Memᴰ}
 use Prim.Native.Nat.{ℕ, zero, suc, _+_, _*_, _≤_}
 use lib.IntN.{ℤ, pos, negsuc, natAbs}
 use lib.ListN.{length}
 use Rattle.laws.proofs.Size.{Between}
+use Rattle.book.specs.Limits.{mostLines, mostDifference, mostLength}
 use Rattle.book.specs.Good.{GoodLine, GoodBook}
 use Rattle.book.specs.declared.Book.{Book}
 use Rattle.network.specs.Standing.{Line, line, keep, standingFrom, standing}
 use Rattle.network.specs.Sound.{Sound}
 use Rattle.network.specs.Field.{HasLine}
-use Rattle.network.proofs.Corrected.{standing-sound}
+use Rattle.network.proofs.Corrected.{of-standing, standing-sound}
 use Rattle.network.proofs.Entries.{tree-lines-count}
 use Rattle.loops.specs.Loops.{loops}
 use Rattle.loops.proofs.EachLoop.{loops-are-counted}
@@ -55,6 +56,12 @@ pub few-standing : (lines : List ℤ) → 5 * length (standing lines) ≤ length
 unfolding standing
 few-standing lines = few-stand 1 lines
 
+-- the numbers of a line that the table limits
+pub record LineLimits (l : Line) : Type 0 where
+  pub number : l .number ≤ mostLines
+  pub difference : natAbs (l .difference) ≤ mostDifference
+  pub length : l .length ≤ mostLength
+
 module _ (k : Book) (lines : List ℤ) (good : GoodLines k lines) where
   there : (i : ℕ) → HasLine lines i → GoodLine (k .marks) lines i
   there i h = good .each i (omega (arith, h, good .whole))
@@ -65,6 +72,12 @@ module _ (k : Book) (lines : List ℤ) (good : GoodLines k lines) where
     λ e. g .apart (natural (g .from) (g .to) e),
     g .long .low,
   ))
+
+  pub line-limits : (l : Line) → List·Memᴰ l (standing lines) → LineLimits l
+  line-limits l m =
+      let w = of-standing lines l m in
+      let g = there (w .0) (w .1 .isThere) in
+      subst LineLimits (sym (w .1 .its)) (record { number = omega (arith, w .1 .isThere, good .whole, good .few); difference = g .difference; length = g .long .high })
 
   -- no more loops than lines
   pub few-loops : length (loopsOf (k .marks) lines) ≤ k .lines

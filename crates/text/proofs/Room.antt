@@ -68,7 +68,7 @@ not-checked-room list few h =
 
 -- the numbers of a loop in a book within its limits
 pub record LoopNumbers (number : ℕ) (len misclosure : ℤ) (listing : List ℤ) : Type 0 where
-  pub few-loops : number ≤ 511
+  pub few-loops : number ≤ 512
   pub short : natAbs len ≤ 51200000
   pub small : natAbs misclosure ≤ 51200000000
   pub few-lines : length listing ≤ 257
