@@ -1,4 +1,4 @@
--- No report is longer than the room that the report program lends: 512 loops of at most 1,343 bytes, a head of 122 and 2,577 for the last line are 690,315.
+-- No report is longer than the room that the report program lends: 512 loops of at most 1,338 bytes, a head of 122 and 2,577 for the last line are 687,755.
 -- Assumes nothing.
 use Prim.Native.Nat.{ℕ, suc, _+_, _*_, _≤_}
 use native.Mathlib.Nat.{le-of-eq, le-trans}
@@ -33,7 +33,7 @@ use Rattle.page.specs.Page.{loopLine, loopLines, loopsPage, bookPage, pa
 use Rattle.page.proofs.Filed.{refused-page, good-read, book-page}
 
 abbrev Fits : List ℕ → Type 0
-Fits page = length page ≤ 700000
+Fits page = length page ≤ 690000
 
 -- three texts, one after the other
 together : (a b c : List ℕ) {x y z : ℕ} → length a ≤ x → length b ≤ y → length c ≤ z → length ((a ++ b) ++ c) ≤ x + y + z
@@ -62,7 +62,7 @@ module _ (k : Book) (ls : List ℤ) (g : GoodLines k ls) where
 
   -- the lines of loops of the book, the first of them under this number
   loops-room : (number : ℕ) (lps : List Loop) → ((lp : Loop) → List·Memᴰ lp lps → List·Memᴰ lp (loopsOf (k .marks) ls)) → number + length lps ≤ 513
-      → length (loopLines (k .tolerance) number lps) ≤ length lps * 1343
+      → length (loopLines (k .tolerance) number lps) ≤ length lps * 1338
   unfolding loopLines loopLine
   loops-room number [] h few = omega arith
   loops-room number (lp ∷ lps) h few =
@@ -101,7 +101,7 @@ module _ (file : List ℕ) (held lines : List ℤ) (held-room : 512 ≤ length h
       let r = refused-room (o .answer .number) (o .answer .place) (omega (arith, f .high)) (omega (arith, f .near)) in
       subst Fits (refused-page file held lines held-room lines-room o refl (λ z. omega (arith, f .low))) (omega arith)
 
-pub page-fits : (file : List ℕ) → length (pageOf file) ≤ 700000
+pub page-fits : (file : List ℕ) → length (pageOf file) ≤ 690000
 page-fits file =
     let held = replicate 512 (pos 0) in
     let lines = replicate 2560 (pos 0) in

@@ -7,10 +7,10 @@ const STDIN: i32 = 0;
 const STDOUT: i32 = 1;
 
 // Room for the longest report.
-fn blank() -> [u8; 700000]
-    ensures { λ r. ⌜ 700000 ≡ length r ⌝ }
+fn blank() -> [u8; 690000]
+    ensures { λ r. ⌜ 690000 ≡ length r ⌝ }
 {
-    [0; 700000]
+    [0; 690000]
 }
 
 // A write that fails ends the program: there is nobody to tell.

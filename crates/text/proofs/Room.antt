@@ -71,10 +71,10 @@ pub record LoopNumbers (number : ℕ) (len misclosure : ℤ) (listing : List ℤ
   pub few-loops : number ≤ 512
   pub short : natAbs len ≤ 51200000
   pub small : natAbs misclosure ≤ 51200000000
-  pub few-lines : length listing ≤ 257
+  pub few-lines : length listing ≤ 256
   pub lines : LineNumbers listing
 
-pub loop-room : (number : ℕ) (len misclosure verdict : ℤ) (listing : List ℤ) → LoopNumbers number len misclosure listing → length (loopText number len misclosure verdict listing) ≤ 1343
+pub loop-room : (number : ℕ) (len misclosure verdict : ℤ) (listing : List ℤ) → LoopNumbers number len misclosure listing → length (loopText number len misclosure verdict listing) ≤ 1338
 unfolding loopText bytes
 loop-room number len misclosure verdict listing h =
     let n = h .few-loops in

@@ -5,7 +5,7 @@ use Rattle.report.proofs.blank.Statement.{statement}
 use Rattle.report.proofs.blank.Tie as tie
 
 returns : tie.Need-returns
-returns c = sym (length-replicate {0} {A = ℕ} 700000 0)
+returns c = sym (length-replicate {0} {A = ℕ} 690000 0)
 
 pub blank-spec : {M : Type 1} → statement M
 blank-spec = tie.close (tie.spec returns)
