@@ -73,16 +73,31 @@ same-length-11 c = search needs
 same-length-12 : tie.Need-same-length-12
 same-length-12 c = search needs
 
+-- the entry and the call of start_book, which are further back than one search goes
+abbrev entry-of : tie.After-start-book → tie.Start
+entry-of c =
+    let after-struct-known : tie.After-struct-known = search in
+    let after-slice-known7 : tie.After-slice-known7 = search in
+    search
+
+abbrev begun : tie.After-outside → tie.After-start-book
+begun c = search
+
+abbrev started : tie.After-magnitude → tie.After-start-book
+started c =
+    let after-seg : tie.After-seg = search in
+    search
+
 -- the flag that the code has is the definition's test
-flag : (c : tie.After-outside) → c .outside .result ≡ outZ (pos 1) (pos (c .before .before .before .before .before .before .before .before .before .before .before .before .before .before .before .before .before .before .before .before .before .before .before .before .before .before .start-book .result .count)) (c .before .before .before .before .before .before .before .before .before .before .before .before .before .before .before .before .before .before .before .before .before .before .before .before .before .before .before .before .before .before .before .before .before .before .before .before .before .before .before .before .before .before .before .before .before .before .before .before .before .before .before .before .before .args .number)
-flag c = simp (toZ-ofZ (c .before .before .before .before .before .before .before .before .before .before .before .before .before .before .before .before .before .before .before .before .before .before .before .before .before .before .before .before .before .before .before .before .before .before .before .before .before .before .before .before .before .before .before .before .before .before .before .before .before .before .before .before .before .fits .number)) at (rw (stored _ (c .before .signed-count .ok) (c .before .signed-count .ensures)) at (c .outside .ensures))
+flag : (c : tie.After-outside) → c .outside .result ≡ outZ (pos 1) (pos (begun c .start-book .result .count)) (entry-of (begun c) .args .number)
+flag c = simp (toZ-ofZ (entry-of (begun c) .fits .number)) at (rw (stored _ (c .before .signed-count .ok) (c .before .signed-count .ensures)) at (c .outside .ensures))
 
 -- there is a loop of this number
-inside : (c : tie.Else1) → Between 1 (c .before .before .before .before .before .before .before .before .before .before .before .before .before .before .before .before .before .before .before .before .before .before .before .before .before .before .before .start-book .result .count) (c .before .before .before .before .before .before .before .before .before .before .before .before .before .before .before .before .before .before .before .before .before .before .before .before .before .before .before .before .before .before .before .before .before .before .before .before .before .before .before .before .before .before .before .before .before .before .before .before .before .before .before .before .before .before .args .number)
+inside : (c : tie.Else1) → Between 1 (begun (c .before) .start-book .result .count) (entry-of (begun (c .before)) .args .number)
 inside c = between 1 _ _ (sym (flag (c .before)) ∙ c .if1 .left)
 
-size : (c : tie.After-magnitude) → c .magnitude .result ≡ natAbs (c .before .before .before .before .before .before .before .before .before .before .before .before .before .before .before .before .before .before .before .before .before .before .before .before .before .before .before .before .before .before .before .before .before .before .before .before .before .before .before .before .before .before .before .before .before .before .before .before .before .before .before .before .before .before .before .args .number)
-size c = simp (toZ-ofZ (c .before .before .before .before .before .before .before .before .before .before .before .before .before .before .before .before .before .before .before .before .before .before .before .before .before .before .before .before .before .before .before .before .before .before .before .before .before .before .before .before .before .before .before .before .before .before .before .before .before .before .before .before .before .before .before .fits .number)) at (c .magnitude .ensures)
+size : (c : tie.After-magnitude) → c .magnitude .result ≡ natAbs (entry-of (started c) .args .number)
+size c = simp (toZ-ofZ (entry-of (started c) .fits .number)) at (c .magnitude .ensures)
 
 returns : tie.Need-returns
 returns c =
@@ -105,7 +120,7 @@ find-loop-requires c κs =
     let after-seg : tie.After-seg = search in
     let after-far : tie.After-far = search in
     let after-start-book : tie.After-start-book = search in
-    let s = after-start-book .before .before .before .before .before .before .before .before .before .before .before .before .before .before .before .before .before .before .before .before .before .before .before .before .before .before .before in
+    let s = entry-of after-start-book in
     let b = s .args .book in
     let l = s .args .lines .now in
     let g = s .pre .0 in
@@ -134,8 +149,7 @@ mul-write-loop c =
     let else1 : tie.Else1 = search in
     let after-seg : tie.After-seg = search in
     let after-start-book : tie.After-start-book = search in
-    let after-struct-known = after-start-book .before .before .before .before .before .before .before .before .before .before .before .before .before in
-    let s = after-struct-known .before .before .before .before .before .before .before .before .before .before .before .before .before .before in
+    let s = entry-of after-start-book in
     omega (arith, size after-magnitude, inside else1 .high, few-count (s .args .book) (s .args .lines .now) (s .pre .0) _ _ _ _ _ _ _ _ _ (after-start-book .start-book .ensures .started))
 
 slice-read-write-loop : tie.Need-slice-read-write-loop
@@ -144,8 +158,7 @@ slice-read-write-loop c =
     let else1 : tie.Else1 = search in
     let after-seg : tie.After-seg = search in
     let after-start-book : tie.After-start-book = search in
-    let after-struct-known = after-start-book .before .before .before .before .before .before .before .before .before .before .before .before .before in
-    let s = after-struct-known .before .before .before .before .before .before .before .before .before .before .before .before .before .before in
+    let s = entry-of after-start-book in
     let w = inside else1 in
     omega (arith, size after-magnitude, w .low, w .high, few-count (s .args .book) (s .args .lines .now) (s .pre .0) _ _ _ _ _ _ _ _ _ (after-start-book .start-book .ensures .started), s .pre .1 .closes, after-start-book .start-book .kept .1 .1 .1 .1 .1 .1 .1 .1 .1 .1 .1 .1 .0)
 
@@ -170,48 +183,42 @@ same-length-15 : tie.Need-same-length-15
 same-length-15 c =
     let after-find-loop : tie.After-find-loop = search in
     let after-magnitude : tie.After-magnitude = search in
-    let after-sort : tie.After-sort = search in
-    let after-start-book = after-sort .before .before .before .before .before .before .before .before .before .before .before .before .before .before .before .before .before .before .before .before .before in
+    let after-start-book = started after-magnitude in
     after-find-loop .find-loop .kept .1 .1 .1 .1 .0 ∙ after-start-book .start-book .kept .1 .1 .1 .0
 
 same-length-16 : tie.Need-same-length-16
 same-length-16 c =
     let after-find-loop : tie.After-find-loop = search in
     let after-magnitude : tie.After-magnitude = search in
-    let after-sort : tie.After-sort = search in
-    let after-start-book = after-sort .before .before .before .before .before .before .before .before .before .before .before .before .before .before .before .before .before .before .before .before .before in
+    let after-start-book = started after-magnitude in
     after-find-loop .find-loop .kept .1 .1 .1 .1 .1 .0 ∙ after-start-book .start-book .kept .1 .1 .1 .1 .0
 
 same-length-17 : tie.Need-same-length-17
 same-length-17 c =
     let after-find-loop : tie.After-find-loop = search in
     let after-magnitude : tie.After-magnitude = search in
-    let after-sort : tie.After-sort = search in
-    let after-start-book = after-sort .before .before .before .before .before .before .before .before .before .before .before .before .before .before .before .before .before .before .before .before .before in
+    let after-start-book = started after-magnitude in
     after-find-loop .find-loop .kept .1 .1 .1 .1 .1 .1 .0 ∙ after-start-book .start-book .kept .1 .1 .1 .1 .1 .0
 
 same-length-18 : tie.Need-same-length-18
 same-length-18 c =
     let after-find-loop : tie.After-find-loop = search in
     let after-magnitude : tie.After-magnitude = search in
-    let after-sort : tie.After-sort = search in
-    let after-start-book = after-sort .before .before .before .before .before .before .before .before .before .before .before .before .before .before .before .before .before .before .before .before .before in
+    let after-start-book = started after-magnitude in
     after-find-loop .find-loop .kept .1 .1 .1 .1 .1 .1 .1 .0 ∙ after-start-book .start-book .kept .1 .1 .1 .1 .1 .1 .0
 
 same-length-19 : tie.Need-same-length-19
 same-length-19 c =
     let after-find-loop : tie.After-find-loop = search in
     let after-magnitude : tie.After-magnitude = search in
-    let after-sort : tie.After-sort = search in
-    let after-start-book = after-sort .before .before .before .before .before .before .before .before .before .before .before .before .before .before .before .before .before .before .before .before .before in
+    let after-start-book = started after-magnitude in
     after-find-loop .find-loop .kept .1 .1 .1 .1 .1 .1 .1 .1 .0 ∙ after-start-book .start-book .kept .1 .1 .1 .1 .1 .1 .1 .0
 
 same-length-20 : tie.Need-same-length-20
 same-length-20 c =
     let after-find-loop : tie.After-find-loop = search in
     let after-magnitude : tie.After-magnitude = search in
-    let after-sort : tie.After-sort = search in
-    let after-start-book = after-sort .before .before .before .before .before .before .before .before .before .before .before .before .before .before .before .before .before .before .before .before .before in
+    let after-start-book = started after-magnitude in
     after-find-loop .find-loop .kept .1 .1 .1 .1 .1 .1 .1 .1 .1 .0 ∙ after-start-book .start-book .kept .1 .1 .1 .1 .1 .1 .1 .1 .0
 
 same-length-21 : tie.Need-same-length-21
@@ -254,10 +261,8 @@ returns-2 c =
     let after-magnitude : tie.After-magnitude = search in
     let else1 : tie.Else1 = search in
     let after-outside : tie.After-outside = search in
-    let after-sort : tie.After-sort = search in
-    let after-best = after-sort .before .before .before .before .before .before .before .before in
-    let after-start-book = after-best .before .before .before .before .before .before .before .before .before .before .before .before .before in
-    let s = after-start-book .before .before .before .before .before .before .before .before .before .before .before .before .before .before .before .before .before .before .before .before .before .before .before .before .before .before .before in
+    let after-start-book = started after-magnitude in
+    let s = entry-of after-start-book in
     let f = rw (size after-magnitude) at (after-find-loop .find-loop .ensures) in
     (rw (size after-magnitude) at (c .before .write-loop .ensures))
     ∙ loop-listed (s .args .book) (s .args .lines .now) (s .pre .0) _ _ _ _ _ _ _ _ _ (after-start-book .start-book .ensures .started) (s .args .number) _ _ (s .args .out .now) (sym (flag after-outside) ∙ else1 .if1 .left) f

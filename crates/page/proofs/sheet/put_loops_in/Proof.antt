@@ -9,6 +9,18 @@ use Rattle.page.proofs.sheet.put_loops_in.Tie as tie
 add-n : tie.Need-add-n
 add-n c = search needs
 
+-- the entry and the call of start_book, which are further back than one search goes
+abbrev entry-of : tie.After-start-book → tie.Start
+entry-of c =
+    let after-struct-known : tie.After-struct-known = search in
+    let after-slice-known7 : tie.After-slice-known7 = search in
+    search
+
+abbrev started : tie.After-out → tie.After-start-book
+started c =
+    let after-seg : tie.After-seg = search in
+    search
+
 start-book-requires : tie.Need-start-book-requires
 start-book-requires c κs =
     let s : tie.Start = search in
@@ -61,48 +73,42 @@ same-length-3 : tie.Need-same-length-3
 same-length-3 c =
     let after-put-loops : tie.After-put-loops = search in
     let after-out : tie.After-out = search in
-    let after-sort : tie.After-sort = search in
-    let after-start-book = after-sort .before .before .before .before .before .before .before .before .before .before .before .before .before .before .before .before .before .before .before .before .before in
+    let after-start-book = started after-out in
     after-put-loops .put-loops .kept .1 .1 .1 .1 .0 ∙ after-start-book .start-book .kept .1 .1 .1 .0
 
 same-length-4 : tie.Need-same-length-4
 same-length-4 c =
     let after-put-loops : tie.After-put-loops = search in
     let after-out : tie.After-out = search in
-    let after-sort : tie.After-sort = search in
-    let after-start-book = after-sort .before .before .before .before .before .before .before .before .before .before .before .before .before .before .before .before .before .before .before .before .before in
+    let after-start-book = started after-out in
     after-put-loops .put-loops .kept .1 .1 .1 .1 .1 .0 ∙ after-start-book .start-book .kept .1 .1 .1 .1 .0
 
 same-length-5 : tie.Need-same-length-5
 same-length-5 c =
     let after-put-loops : tie.After-put-loops = search in
     let after-out : tie.After-out = search in
-    let after-sort : tie.After-sort = search in
-    let after-start-book = after-sort .before .before .before .before .before .before .before .before .before .before .before .before .before .before .before .before .before .before .before .before .before in
+    let after-start-book = started after-out in
     after-put-loops .put-loops .kept .1 .1 .1 .1 .1 .1 .0 ∙ after-start-book .start-book .kept .1 .1 .1 .1 .1 .0
 
 same-length-6 : tie.Need-same-length-6
 same-length-6 c =
     let after-put-loops : tie.After-put-loops = search in
     let after-out : tie.After-out = search in
-    let after-sort : tie.After-sort = search in
-    let after-start-book = after-sort .before .before .before .before .before .before .before .before .before .before .before .before .before .before .before .before .before .before .before .before .before in
+    let after-start-book = started after-out in
     after-put-loops .put-loops .kept .1 .1 .1 .1 .1 .1 .1 .0 ∙ after-start-book .start-book .kept .1 .1 .1 .1 .1 .1 .0
 
 same-length-7 : tie.Need-same-length-7
 same-length-7 c =
     let after-put-loops : tie.After-put-loops = search in
     let after-out : tie.After-out = search in
-    let after-sort : tie.After-sort = search in
-    let after-start-book = after-sort .before .before .before .before .before .before .before .before .before .before .before .before .before .before .before .before .before .before .before .before .before in
+    let after-start-book = started after-out in
     after-put-loops .put-loops .kept .1 .1 .1 .1 .1 .1 .1 .1 .0 ∙ after-start-book .start-book .kept .1 .1 .1 .1 .1 .1 .1 .0
 
 same-length-8 : tie.Need-same-length-8
 same-length-8 c =
     let after-put-loops : tie.After-put-loops = search in
     let after-out : tie.After-out = search in
-    let after-sort : tie.After-sort = search in
-    let after-start-book = after-sort .before .before .before .before .before .before .before .before .before .before .before .before .before .before .before .before .before .before .before .before .before in
+    let after-start-book = started after-out in
     after-put-loops .put-loops .kept .1 .1 .1 .1 .1 .1 .1 .1 .1 .0 ∙ after-start-book .start-book .kept .1 .1 .1 .1 .1 .1 .1 .1 .0
 
 same-length-9 : tie.Need-same-length-9
@@ -155,7 +161,7 @@ returns c =
     let after-best : tie.After-best = search in
     let after-next : tie.After-next = search in
     let after-start-book : tie.After-start-book = search in
-    let s = after-start-book .before .before .before .before .before .before .before .before .before .before .before .before .before .before .before .before .before .before .before .before .before .before .before .before .before .before .before .before in
+    let s = entry-of after-start-book in
     loops-put (s .args .book) (s .args .lines .now) (s .pre .0) (after-start-book .start-book .ensures .started) (after-head-text .head-text .ensures) (after-put-loops .put-loops .ensures)
 
 pub put-loops-in-spec : {M : Type 1} → statement M

@@ -9,6 +9,10 @@ use borrow.Author.Needs.{needs}
 use Rattle.page.proofs.turns.put_loop.Statement.{statement}
 use Rattle.page.proofs.turns.put_loop.Tie as tie
 
+-- the entry, which is further back than one search goes
+abbrev entry-of : tie.After-take-loop → tie.Start
+entry-of c = search
+
 take-loop-requires : tie.Need-take-loop-requires
 take-loop-requires c κs =
     let entry : tie.Start = search in
@@ -126,7 +130,7 @@ returns c =
     let after-best : tie.After-best = search in
     let after-far : tie.After-far = search in
     let after-take-loop : tie.After-take-loop = search in
-    let entry = after-take-loop .before .before .before .before .before .before .before .before .before .before .before .before .before .before .before .before .before .before in
+    let entry = entry-of after-take-loop in
     λ d.
     let p = entry .pre in
     line-put (p .0) d (p .1 .1 .0 .outs) (after-take-loop .take-loop .ensures) (entry .args .numbered) _ _ (after-row-of .row-of .ensures)

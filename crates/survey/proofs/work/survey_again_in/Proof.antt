@@ -9,6 +9,13 @@ use Rattle.survey.proofs.work.survey_again_in.Tie as tie
 add-n : tie.Need-add-n
 add-n c = search needs
 
+-- the entry, which is further back than one search goes
+abbrev entry-of : tie.After-start-book → tie.Start
+entry-of c =
+    let after-struct-known : tie.After-struct-known = search in
+    let after-slice-known7 : tie.After-slice-known7 = search in
+    search
+
 start-book-requires : tie.Need-start-book-requires
 start-book-requires c κs =
     let s : tie.Start = search in
@@ -21,9 +28,7 @@ start-book-requires c κs =
 write-rows-again-requires : tie.Need-write-rows-again-requires
 write-rows-again-requires c κs =
     let after-start-book : tie.After-start-book = search in
-    let after-struct-known : tie.After-struct-known = search in
-    let after-slice-known7 : tie.After-slice-known7 = search in
-    let s : tie.Start = search in
+    let s = entry-of after-start-book in
     let b = s .args .book in
     let l = s .args .lines .now in
     let g = s .pre .0 .0 in
@@ -141,7 +146,7 @@ returns c =
     let after-rank : tie.After-rank = search in
     let after-add : tie.After-add = search in
     let after-start-book : tie.After-start-book = search in
-    let s = after-start-book .before .before .before .before .before .before .before .before .before .before .before .before .before .before .before .before .before .before .before .before .before .before .before .before .before .before .before in
+    let s = entry-of after-start-book in
     let b = s .args .book in
     let l = s .args .lines .now in
     let g = s .pre .0 .0 in

@@ -17,12 +17,17 @@ start-book-requires c κs =
     let d = s .pre .1 in
     (good-of b l g, (chained-of b l g _ _ _ _ _ _ _ _ _ _ _ _ _ d, (soil-of b l g _ _ _ _ _ _ _ _ _ _ _ _ _ d, seats-of b l g _ _ _ _ _ _ _ _ _ _ _ _ _ d)))
 
+-- the entry, which is further back than one search goes
+abbrev entry-of : tie.After-start-book → tie.Start
+entry-of c =
+    let after-struct-known : tie.After-struct-known = search in
+    let after-slice-known7 : tie.After-slice-known7 = search in
+    search
+
 mul-if1 : tie.Need-mul-if1
 mul-if1 c =
     let after-start-book : tie.After-start-book = search in
-    let after-struct-known : tie.After-struct-known = search in
-    let after-slice-known7 : tie.After-slice-known7 = search in
-    let s : tie.Start = search in
+    let s = entry-of after-start-book in
     omega (arith, few-count (s .args .book) (s .args .lines .now) (s .pre .0) _ _ _ _ _ _ _ _ _ (after-start-book .start-book .ensures .started))
 
 refuse-requires : tie.Need-refuse-requires
@@ -67,18 +72,14 @@ same-length-12 c = search needs
 returns : tie.Need-returns
 returns c =
     let after-start-book : tie.After-start-book = search in
-    let after-struct-known : tie.After-struct-known = search in
-    let after-slice-known7 : tie.After-slice-known7 = search in
-    let s : tie.Start = search in
+    let s = entry-of after-start-book in
     rw (c .refuse .ensures) (ten-is (s .args .book) (s .args .lines .now) (s .pre .0) _ _ _ _ _ _ _ _ _ (after-start-book .start-book .ensures .started) (s .args .rows .now) (c .before .if1 .taken))
 
 write-rows-requires : tie.Need-write-rows-requires
 write-rows-requires c κs =
     let else1 : tie.Else1 = search in
     let after-start-book : tie.After-start-book = search in
-    let after-start-book-arg7 : tie.After-start-book-arg7 = search in
-    let after-struct-known : tie.After-struct-known = search in
-    let s = after-struct-known .before .before .before .before .before .before .before .before .before .before .before .before .before .before in
+    let s = entry-of after-start-book in
     let b = s .args .book in
     let l = s .args .lines .now in
     let g = s .pre .0 in
@@ -189,8 +190,7 @@ returns-2 c =
     let else1 : tie.Else1 = search in
     let after-best : tie.After-best = search in
     let after-start-book : tie.After-start-book = search in
-    let after-struct-known = after-start-book .before .before .before .before .before .before .before .before .before .before .before .before .before in
-    let s = after-struct-known .before .before .before .before .before .before .before .before .before .before .before .before .before .before in
+    let s = entry-of after-start-book in
     survey-is (s .args .book) (s .args .lines .now) (s .pre .0) _ _ _ _ _ _ _ _ _ (after-start-book .start-book .ensures .started) (s .args .rows .now) _ (else1 .if1 .left) (after-write-rows .write-rows .ensures)
 
 pub survey-in-spec : {M : Type 1} → statement M
