@@ -26,7 +26,7 @@ fn answer_of(e: End) -> Adjusted
 }
 
 // Of n lines and h held entries of b marks, on arrays of b zeros; the heights are left in z.
-pub fn adjust_along(
+pub(crate) fn adjust_along(
     lines: &[i64],
     held: &[i64],
     order: &[usize],

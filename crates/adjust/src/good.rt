@@ -62,7 +62,7 @@ fn adjust_by(
 }
 
 // 10, or the adjustment.
-pub fn adjust_good(book: Book, held: &[i64], lines: &[i64], heights: &mut [i64]) -> Adjusted
+pub(crate) fn adjust_good(book: Book, held: &[i64], lines: &[i64], heights: &mut [i64]) -> Adjusted
     requires { ⌜ GoodEntries book (now held) (now lines) ⌝ }
     ensures { λ r. ⌜ adjusted r (now (heights .exit)) ≡ adjustGood book (now (held .entry)) (now (lines .entry)) (now (heights .entry)) ⌝ }
 {

@@ -24,7 +24,7 @@ pub fn zero(a: &mut [u64], n: usize)
 }
 
 // Node j, to the mark o with the sum a, goes in front of the chain of m.
-pub fn link(
+fn link(
     head: &mut [u64],
     next: &mut [u64],
     far: &mut [u64],

@@ -3,7 +3,7 @@ ghost use Rattle.draw.specs.Book.{Entry, Drew, Sheet, BookDrawn};
 use book::line::Line;
 
 // The line of this number is drawn, if it stands. The answer is the count of nodes.
-pub fn draw_line(
+fn draw_line(
     e: &[i64],
     tip: &mut [u64],
     long: &mut [u64],

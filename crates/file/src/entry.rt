@@ -79,7 +79,7 @@ fn read_entry(kind: Kind, e: &[u8], out: &mut [i64])
 }
 
 // The n entries from place a of the file on.
-pub fn read_entries(kind: Kind, file: &[u8], a: usize, n: usize, out: &mut [i64])
+pub(crate) fn read_entries(kind: Kind, file: &[u8], a: usize, n: usize, out: &mut [i64])
     requires { ⌜ (a + n * entryBytes kind ≤ length (now file)) × (n * entryWords kind ≤ length (now out)) ⌝ }
     ensures { λ _. ⌜ now (out .exit) ≡ entries kind (now (file .entry)) a n ++ drop (n * entryWords kind) (now (out .entry)) ⌝ }
 {

@@ -14,7 +14,7 @@ fn wide(x: u8) -> u64
 }
 
 // The number in the two bytes from place a on.
-pub fn be2(s: &[u8], a: usize) -> u64
+pub(crate) fn be2(s: &[u8], a: usize) -> u64
     requires { ⌜ a + 2 ≤ length (now s) ⌝ }
     ensures { λ r. ⌜ (r ≡ be 2 (now (s .entry)) a) × (r < 2 ^ 16) ⌝ }
 {
@@ -22,7 +22,7 @@ pub fn be2(s: &[u8], a: usize) -> u64
 }
 
 // In four bytes.
-pub fn be4(s: &[u8], a: usize) -> u64
+pub(crate) fn be4(s: &[u8], a: usize) -> u64
     requires { ⌜ a + 4 ≤ length (now s) ⌝ }
     ensures { λ r. ⌜ (r ≡ be 4 (now (s .entry)) a) × (r < 2 ^ 32) ⌝ }
 {
@@ -30,7 +30,7 @@ pub fn be4(s: &[u8], a: usize) -> u64
 }
 
 // In eight.
-pub fn be8(s: &[u8], a: usize) -> u64
+pub(crate) fn be8(s: &[u8], a: usize) -> u64
     requires { ⌜ a + 8 ≤ length (now s) ⌝ }
     ensures { λ r. ⌜ r ≡ be 8 (now (s .entry)) a ⌝ }
 {
@@ -38,7 +38,7 @@ pub fn be8(s: &[u8], a: usize) -> u64
 }
 
 // The number x, as a signed one.
-pub fn plain(x: u64) -> i64
+pub(crate) fn plain(x: u64) -> i64
     requires { ⌜ x < 2 ^ 32 ⌝ }
     ensures { λ r. ⌜ r ≡ pos x ⌝ }
 {
@@ -46,7 +46,7 @@ pub fn plain(x: u64) -> i64
 }
 
 // The signed number with the 32 bits x.
-pub fn signed4(x: u64) -> i64
+pub(crate) fn signed4(x: u64) -> i64
     requires { ⌜ x < 2 ^ 32 ⌝ }
     ensures { λ r. ⌜ r ≡ toZ w32 x ⌝ }
 {

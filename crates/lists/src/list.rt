@@ -85,7 +85,7 @@ fn listing_in(
 }
 
 // The listing of a loop of a tested book.
-pub fn listing_good(book: Book, lines: &[i64], number: i64, out: &mut [i64]) -> Listed
+pub(crate) fn listing_good(book: Book, lines: &[i64], number: i64, out: &mut [i64]) -> Listed
     requires { ⌜ GoodLines book (now lines) ⌝ }
     ensures { λ r. ⌜ listing r (now (out .exit)) ≡ listingGood book (now (lines .entry)) number (now (out .entry)) ⌝ }
 {

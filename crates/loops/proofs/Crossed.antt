@@ -6,6 +6,7 @@ use mathlib.Core.Bool.{Bool, true, false, _||_, false≢true}
 use mathlib.Core.List.{List, [], _∷_, List·Memᴰ, List·Memᴰ·head, List·Memᴰ·tail, List·Memᴰ·not-nil}
 use lib.Dec.{eqb}
 use borrow.Author.Tests.{eqb-true, eq-eqb, ne-eqb}
+use Rattle.laws.proofs.Tests.{same-test}
 use Rattle.network.specs.Standing.{Line}
 use Rattle.network.specs.Sound.{Sound, Rising}
 use Rattle.network.specs.Pairwise.{pairs}
@@ -72,6 +73,18 @@ module _ (es : Tree) (n : ℕ) where
 
 -- ---- what is crossed
 
+-- line c checks line n: it is that line, or it crosses it
+pub checks-one : (es : Tree) (n : ℕ) (c : Line) → (eqb (c .number) n || crosses es n c) ≡ true → (c .number ≡ n) ⊎ (crosses es n c ≡ true)
+checks-one es n c h = go (or-true (eqb (c .number) n) (crosses es n c) h)
+  where
+    go : (eqb (c .number) n ≡ true) ⊎ (crosses es n c ≡ true) → (c .number ≡ n) ⊎ (crosses es n c ≡ true)
+    go (inl x) = inl (eqb-true (c .number) n x)
+    go (inr x) = inr x
+
+pub one-checks : (es : Tree) (n : ℕ) (c : Line) → (c .number ≡ n) ⊎ (crosses es n c ≡ true) → (eqb (c .number) n || crosses es n c) ≡ true
+one-checks es n c (inl x) = rw (eq-eqb (c .number) n x)
+one-checks es n c (inr x) = or-right (eqb (c .number) n) (crosses es n c) x
+
 -- what is crossed is one of the lines or is crossed by one
 pub crossed-by : (es : Tree) (n : ℕ) (cs : List Line) → crossed es n cs ≡ true
     → (c : Line) × List·Memᴰ c cs × ((c .number ≡ n) ⊎ (crosses es n c ≡ true))
@@ -79,24 +92,16 @@ unfolding crossed
 crossed-by es n [] h = absurd (false≢true h)
 crossed-by es n (c ∷ cs) h = go (or-true (eqb (c .number) n || crosses es n c) (crossed es n cs) h) (crossed-by es n cs)
   where
-    own : (eqb (c .number) n ≡ true) ⊎ (crosses es n c ≡ true) → (c .number ≡ n) ⊎ (crosses es n c ≡ true)
-    own (inl x) = inl (eqb-true (c .number) n x)
-    own (inr x) = inr x
-
     go : ((eqb (c .number) n || crosses es n c) ≡ true) ⊎ (crossed es n cs ≡ true)
         → (crossed es n cs ≡ true → (d : Line) × List·Memᴰ d cs × ((d .number ≡ n) ⊎ (crosses es n d ≡ true)))
         → (d : Line) × List·Memᴰ d (c ∷ cs) × ((d .number ≡ n) ⊎ (crosses es n d ≡ true))
-    go (inl x) ih = (c, List·Memᴰ·head refl, own (or-true (eqb (c .number) n) (crosses es n c) x))
+    go (inl x) ih = (c, List·Memᴰ·head refl, checks-one es n c x)
     go (inr x) ih = let k = ih x in (k .0, List·Memᴰ·tail (k .1), k .2)
 
 -- and the other way
 pub in-crossed : (es : Tree) (n : ℕ) (cs : List Line) (c : Line) → List·Memᴰ c cs → (c .number ≡ n) ⊎ (crosses es n c ≡ true) → crossed es n cs ≡ true
 unfolding crossed
-in-crossed es n (k ∷ cs) c (List·Memᴰ·head e) h = rw (go (subst (λ (x : Line). (x .number ≡ n) ⊎ (crosses es n x ≡ true)) e h))
-  where
-    go : (k .number ≡ n) ⊎ (crosses es n k ≡ true) → (eqb (k .number) n || crosses es n k) ≡ true
-    go (inl x) = rw (eq-eqb (k .number) n x)
-    go (inr x) = or-right (eqb (k .number) n) (crosses es n k) x
+in-crossed es n (k ∷ cs) c (List·Memᴰ·head e) h = rw (one-checks es n k (subst (λ (x : Line). (x .number ≡ n) ⊎ (crosses es n x ≡ true)) e h))
 in-crossed es n (k ∷ cs) c (List·Memᴰ·tail i) h = or-right (eqb (k .number) n || crosses es n k) (crossed es n cs) (in-crossed es n cs c i h)
 
 -- ---- the loop of the first closing line that crosses line n runs over it
@@ -216,13 +221,8 @@ module _ (b : ℕ) (lines : List Line) (sound : Sound b lines) where
 
   -- the same as an equation: what is checked is worked out from the tree and the closing lines, without the loops
   pub checked-is-crossed : (l : Line) → List·Memᴰ l lines → checked (l .number) (loops b lines) ≡ crossed (tree b lines) (l .number) (closing lines (tree b lines))
-  checked-is-crossed l m = both (checked (l .number) (loops b lines)) (crossed es (l .number) (closing lines es)) to back
+  checked-is-crossed l m = same-test (checked (l .number) (loops b lines)) (crossed es (l .number) (closing lines es)) to back
     where
-      both : (s t : Bool) → (s ≡ true → t ≡ true) → (t ≡ true → s ≡ true) → s ≡ t
-      both true t f g = sym (f refl)
-      both false true f g = g refl
-      both false false f g = refl
-
       to : checked (l .number) (loops b lines) ≡ true → crossed es (l .number) (closing lines es) ≡ true
       to h = go (checked-iff-crossed l m .0 h)
         where

@@ -132,7 +132,7 @@ fn put_unchecked(book: Book, lines: &[i64], out: &mut [u8], at: usize) -> usize
 }
 
 // The whole report.
-pub fn put_book(book: Book, lines: &[i64], out: &mut [u8]) -> usize
+pub(crate) fn put_book(book: Book, lines: &[i64], out: &mut [u8]) -> usize
     requires { ⌜ GoodLines book (now lines) ⌝ }
     ensures { λ r. ⌜ Put (now (out .entry)) (now (out .exit)) 0 r (bookPage (book .marks) (book .tolerance) (book .lines) (now (lines .entry))) ⌝ }
 {

@@ -73,7 +73,7 @@ fn put_loop(
 }
 
 // The lines of all loops, from place at on. The answer is the place after them.
-pub fn put_loops(
+pub(crate) fn put_loops(
     lines: &[i64],
     tip: &[u64],
     long: &[u64],

@@ -31,7 +31,7 @@ pub fn plant_book(
 }
 
 // The closing lines are put in order, and the subgraph begins as the tree. Line numbers are below q.
-pub fn order_loops(
+fn order_loops(
     tip: &[u64],
     long: &[u64],
     head: &mut [u64],

@@ -11,7 +11,7 @@ ghost use Rattle.rows.specs.Turns.{Tables, NodesRoom, Due, RowsAsked};
 ghost use Rattle.reruns.specs.Again.{Again, BothTaken};
 
 // A loop takes its turn and its row is written twice: by the book, and with one line run again. The answer is the count of the subgraph's nodes.
-pub fn row_turn_again(
+fn row_turn_again(
     lines: &[i64],
     again: &[i64],
     tip: &[u64],

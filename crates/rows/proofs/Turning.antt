@@ -14,6 +14,7 @@ use Rattle.network.specs.Subgraph.{only}
 use Rattle.loops.specs.Loops.{Loop, loops}
 use Rattle.loops.specs.Row.{row, rows}
 use Rattle.loops.proofs.Basis.{of-only}
+use Rattle.loops.proofs.Row.{rows-length}
 use Rattle.chains.specs.Chains.{codes}
 use Rattle.search.specs.Front.{Rooms, Written}
 use Rattle.subgraph.specs.Turn.{Taking, Takes, Took, Taken, Going}
@@ -102,14 +103,8 @@ unfolding rows
 rows-more t [] lp = append-nil (row t lp)
 rows-more t (l ∷ done) lp = ap (λ (r : List ℤ). row t l ++ r) (rows-more t done lp) ∙ sym (append-assoc (row t l) (rows t done) (row t lp))
 
-length-row : (t : ℕ) (lp : Loop) → length (row t lp) ≡ 5
-unfolding row
-length-row t lp = refl
-
 pub length-rows : (t : ℕ) (done : List Loop) → length (rows t done) ≡ length done * 5
-unfolding rows
-length-rows t [] = refl
-length-rows t (l ∷ done) = length-append (row t l) (rows t done) ∙ omega (arith, length-row t l, length-rows t done)
+length-rows t done = omega (arith, rows-length t done)
 
 module _ {ls : List ℤ} {n t : ℕ} {tip close : List ℕ} where
   pub rows-start : {cnt : ℕ} {head next fars add : List ℕ} {out : List ℤ} {count : ℕ} → RowsAsked ls n cnt count tip close head next fars add out

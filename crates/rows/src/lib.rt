@@ -22,7 +22,7 @@ pub const ROW: usize = 5;
 pub const SQUARE_LIMIT: usize = 2147483648;
 
 // The difference of a half in its sense.
-pub fn half_rise(lines: &[i64], h: usize) -> i64
+fn half_rise(lines: &[i64], h: usize) -> i64
     requires { ⌜ Gentle (now lines) ⌝ ∗ ⌜ HalfOk (now lines) h ⌝ }
     ensures { λ r. ⌜ r ≡ riseAt (now (lines .entry)) h ⌝ }
 {
@@ -34,7 +34,7 @@ pub fn half_rise(lines: &[i64], h: usize) -> i64
 }
 
 // The length of the way in the first a places of out.
-pub fn way_length(lines: &[i64], long: &[u64], out: &[u64], a: usize) -> usize
+fn way_length(lines: &[i64], long: &[u64], out: &[u64], a: usize) -> usize
     requires { ⌜ Longs numberLimit (now long) ⌝ ∗ ⌜ Coded (now lines) (now out) a ⌝ }
     ensures { λ r. ⌜ (r ≡ lengthOf (now (long .entry)) (take a (now (out .entry)))) × (r ≤ a * longest) ⌝ }
 {
@@ -48,7 +48,7 @@ pub fn way_length(lines: &[i64], long: &[u64], out: &[u64], a: usize) -> usize
 }
 
 // The rise of the way in the first a places of out.
-pub fn way_rise(lines: &[i64], out: &[u64], a: usize) -> i64
+fn way_rise(lines: &[i64], out: &[u64], a: usize) -> i64
     requires { ⌜ Gentle (now lines) ⌝ ∗ ⌜ Coded (now lines) (now out) a ⌝ }
     ensures { λ r. ⌜ (r ≡ riseOf (now (lines .entry)) (take a (now (out .entry)))) × (natAbs r ≤ a * steepest) ⌝ }
 {
@@ -62,7 +62,7 @@ pub fn way_rise(lines: &[i64], out: &[u64], a: usize) -> i64
 }
 
 // 0 where the misclosure is within the allowable, 1 where it is over. A size of 2 to the 31st or more is over in any case; below it the square fits.
-pub fn verdict(misclosure: i64, t: usize, metres: usize) -> i64
+fn verdict(misclosure: i64, t: usize, metres: usize) -> i64
     requires { ⌜ t ≤ loosest ⌝ ∗ ⌜ metres ≤ leafLimit * longest ⌝ }
     ensures { λ r. ⌜ r ≡ verdictOf t misclosure metres ⌝ }
 {
@@ -77,7 +77,7 @@ pub fn verdict(misclosure: i64, t: usize, metres: usize) -> i64
 }
 
 // The five numbers of a row.
-pub fn write_row(
+fn write_row(
     out: &mut [i64],
     number: usize,
     count: usize,
@@ -115,7 +115,7 @@ pub fn row_of(
 }
 
 // A loop takes its turn and its row is written. The answer is the count of the subgraph's nodes.
-pub fn row_turn(
+fn row_turn(
     lines: &[i64],
     tip: &[u64],
     long: &[u64],

@@ -11,7 +11,7 @@ ghost use Rattle.search.specs.Front.{limit, Stage, Offered, Relaxed, Roo
 pub const LIMIT: u64 = 1152921504606846976;
 
 // Mark o is offered the key k.
-pub fn offer(best: &mut [u64], seg: &mut [u64], n: usize, o: usize, k: u64)
+fn offer(best: &mut [u64], seg: &mut [u64], n: usize, o: usize, k: u64)
     requires { ⌜ Stage n (now best) (now seg) ⌝ ∗ ⌜ o < n ⌝ }
     ensures { λ _. ⌜ Offered n (now (best .entry)) (now (seg .entry)) (now (best .exit)) (now (seg .exit)) o k ⌝ }
 {
@@ -45,7 +45,7 @@ pub fn relax(
 }
 
 // A search from the mark r begins: its arrays are cleared, and what is at r is offered.
-pub fn begin(
+fn begin(
     head: &[u64],
     next: &[u64],
     far: &[u64],
@@ -105,7 +105,7 @@ pub fn turn(
 }
 
 // Distances from the mark r over the chains, until the mark to is in or nothing is left.
-pub fn search(
+fn search(
     head: &[u64],
     next: &[u64],
     far: &[u64],
@@ -137,7 +137,7 @@ pub fn search(
 }
 
 // The way from the mark m to its root, line by line, into out from place c on: the half of each line as it is run. The answer is where they end.
-pub fn way(tip: &[u64], best: &[u64], out: &mut [u64], c: usize, m: usize) -> usize
+fn way(tip: &[u64], best: &[u64], out: &mut [u64], c: usize, m: usize) -> usize
     requires { ⌜ Leads (now best) (now tip) (now out) c m ⌝ }
     ensures { λ a. ⌜ Walked (now (best .entry)) (now (tip .entry)) (now (out .entry)) (now (out .exit)) c m a ⌝ }
 {

@@ -74,7 +74,7 @@ fn enter(
 }
 
 // Every mark takes its place in the tree.
-pub fn place_all(
+fn place_all(
     lines: &[i64],
     order: &[usize],
     came: &[usize],
@@ -106,7 +106,7 @@ fn hold(held: &[i64], flags: &mut [bool], own: &mut [i64], b: usize, i: usize)
 }
 
 // Every held mark has its own height, by the entry that names it first.
-pub fn hold_all(held: &[i64], flags: &mut [bool], own: &mut [i64], b: usize, h: usize)
+fn hold_all(held: &[i64], flags: &mut [bool], own: &mut [i64], b: usize, h: usize)
     requires { ⌜ HeldEntries (now held) b h ⌝ ∗ ⌜ Given (heldFrom (now held) h) (now flags) (now own) b mostHeldHeight ⌝ }
     ensures { λ _. ⌜ Given (heldHeight (now (held .entry))) (now (flags .exit)) (now (own .exit)) b mostHeldHeight ⌝ }
 {
@@ -140,7 +140,7 @@ fn lift(
 }
 
 // Every root has the height that the lowest held mark of its piece gives it, if there is one.
-pub fn lift_all(
+fn lift_all(
     flags: &[bool],
     own: &[i64],
     root: &[usize],
@@ -160,7 +160,7 @@ pub fn lift_all(
 }
 
 // Every mark is its own root, before the first enters.
-pub fn seed(root: &mut [usize], b: usize)
+fn seed(root: &mut [usize], b: usize)
     requires { ⌜ length (now root) ≡ b ⌝ }
     ensures { λ _. ⌜ Seeded (now (root .exit)) b ⌝ }
 {
@@ -172,7 +172,7 @@ pub fn seed(root: &mut [usize], b: usize)
 }
 
 // The lowest mark whose piece has no held mark, or 0.
-pub fn first_unheld(root: &[usize], has: &[bool], b: usize) -> usize
+fn first_unheld(root: &[usize], has: &[bool], b: usize) -> usize
     requires { ⌜ Rooting (now root) b ⌝ ∗ ⌜ length (now has) ≡ b ⌝ }
     ensures { λ r. ⌜ r ≡ firstBad (unheld (now (root .entry)) (now (has .entry))) b ⌝ }
 {
@@ -206,7 +206,7 @@ fn start_at(
 }
 
 // The heights of b marks at the start.
-pub fn begin(
+fn begin(
     flags: &[bool],
     own: &[i64],
     root: &[usize],

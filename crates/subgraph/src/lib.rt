@@ -15,7 +15,7 @@ pub struct Turn {
 }
 
 // The line of this number joins what the chains hold.
-pub fn join_line(
+fn join_line(
     tip: &[u64],
     long: &[u64],
     head: &mut [u64],
@@ -46,7 +46,7 @@ pub fn join_line(
 }
 
 // The line by which a mark of this key came in joins, unless the mark is a root. The answer is the count of nodes.
-pub fn lay_mark(
+fn lay_mark(
     tip: &[u64],
     long: &[u64],
     head: &mut [u64],

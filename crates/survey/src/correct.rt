@@ -63,7 +63,12 @@ fn refresh(book: Book, lines: &[i64], report: &mut [i64], before: usize) -> Answ
 }
 
 // Refusals 8 and 9, or the line's standing becomes 0 and the report is brought up to date.
-pub fn withdraw_good(book: Book, lines: &mut [i64], report: &mut [i64], number: i64) -> Answer
+pub(crate) fn withdraw_good(
+    book: Book,
+    lines: &mut [i64],
+    report: &mut [i64],
+    number: i64,
+) -> Answer
     requires { ⌜ GoodLines book (now lines) ⌝ }
     ensures { λ r. ⌜ corrected r (now (lines .exit)) (now (report .exit)) ≡ correctGood book (now (lines .entry)) (now (report .entry)) number (withdrawLines (now (lines .entry)) number) ⌝ }
 {
@@ -97,7 +102,7 @@ fn rerun_report(book: Book, lines: &[i64], again: &[i64], report: &mut [i64]) ->
 
 // Refusals 8 and 9, or the difference of the line is set and the report brought up to date. A re-run keeps every loop's lines, so that one survey
 // gives the rows of before and after.
-pub fn rerun_good(
+pub(crate) fn rerun_good(
     book: Book,
     lines: &mut [i64],
     report: &mut [i64],

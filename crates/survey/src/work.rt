@@ -84,7 +84,7 @@ fn survey_in(
 }
 
 // The survey of a tested book.
-pub fn survey_good(book: Book, lines: &[i64], rows: &mut [i64]) -> Answer
+pub(crate) fn survey_good(book: Book, lines: &[i64], rows: &mut [i64]) -> Answer
     requires { ⌜ GoodLines book (now lines) ⌝ }
     ensures { λ r. ⌜ surveyed r (now (rows .exit)) ≡ surveyGood book (now (lines .entry)) (now (rows .entry)) ⌝ }
 {
@@ -194,7 +194,7 @@ fn survey_again_in(
 }
 
 // The survey of a tested book, and into fresh that of the book with one line run again.
-pub fn survey_again(
+pub(crate) fn survey_again(
     book: Book,
     lines: &[i64],
     again: &[i64],

@@ -195,7 +195,7 @@ fn sweep(
 }
 
 // Sweeps until one moves nothing, or a height is outside, or the last sweep that is allowed still moved a mark.
-pub fn settle(
+fn settle(
     first: &[usize],
     other: &[usize],
     rise: &[i64],

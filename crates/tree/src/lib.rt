@@ -7,7 +7,7 @@ ghost use Rattle.search.specs.Front.{Stage};
 ghost use Rattle.tree.specs.Plant.{FirstFar, Sprouted, Planted, Below, Roomy};
 
 // The first place from i on that holds FAR, or n.
-pub fn first_far(best: &[u64], n: usize, i: usize) -> usize
+fn first_far(best: &[u64], n: usize, i: usize) -> usize
     requires { ⌜ n ≤ length (now best) ⌝ ∗ ⌜ i ≤ n ⌝ }
     ensures { λ r. ⌜ FirstFar (now (best .entry)) n i r ⌝ }
 {
@@ -22,7 +22,7 @@ pub fn first_far(best: &[u64], n: usize, i: usize) -> usize
 }
 
 // One mark more, the k-th: by the least key, or, where there is none, the next root.
-pub fn sprout(
+fn sprout(
     head: &[u64],
     next: &[u64],
     far: &[u64],

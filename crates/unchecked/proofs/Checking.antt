@@ -9,7 +9,8 @@ use mathlib.Core.List.{List, [], _∷_, List·Memᴰ, List·Memᴰ·head, List·
 use mathlib.Core.Option.{Option, none, some, Option·none-ne-some, Option·some-injective}
 use lib.ListN.{length, getD}
 use lib.Dec.{eqb}
-use borrow.Author.Tests.{eqb-true, eqb-false, eq-eqb, ne-eqb}
+use borrow.Author.Tests.{eqb-false, ne-eqb}
+use Rattle.laws.proofs.Tests.{same-test}
 use Rattle.network.specs.Standing.{Line}
 use Rattle.network.specs.Tree.{Entry, Tree, distance, tree, treeLines}
 use Rattle.network.specs.Closing.{closing}
@@ -19,7 +20,7 @@ use Rattle.network.proofs.Count.{unique}
 use Rattle.network.proofs.ClosingLines.{tree-line-or-closing-line, never-tree-line-and-closing-line, closing-line-stands}
 use Rattle.network.proofs.Subgraph.{in-treeLines, of-treeLines, or-true, or-right}
 use Rattle.loops.specs.Crossed.{crosses, crossed}
-use Rattle.loops.proofs.Crossed.{crossed-by, in-crossed}
+use Rattle.loops.proofs.Crossed.{checks-one, one-checks, crossed-by, in-crossed}
 use Rattle.chains.specs.Chains.{Half, fore, aft, numberLimit}
 use Rattle.chains.specs.Listed.{Listed}
 use Rattle.chains.proofs.Halves.{half-no}
@@ -139,23 +140,6 @@ pub record SoFar (n : ℕ) (lines : List Line) (marked : List ℕ) (number : ℕ
   pub complete : (c : Line) → List·Memᴰ c (closing lines (tree (n - 1) lines)) → c .number < number
       → (j : ℕ) → (eqb (c .number) j || crosses (tree (n - 1) lines) j c) ≡ true → isMarked marked j ≡ true
 
--- a line is checked by c: it is c or c crosses it
-by-line : (es : Tree) (j : ℕ) (c : Line) → (eqb (c .number) j || crosses es j c) ≡ true → (c .number ≡ j) ⊎ (crosses es j c ≡ true)
-by-line es j c h = go (or-true (eqb (c .number) j) (crosses es j c) h)
-  where
-    go : (eqb (c .number) j ≡ true) ⊎ (crosses es j c ≡ true) → (c .number ≡ j) ⊎ (crosses es j c ≡ true)
-    go (inl x) = inl (eqb-true (c .number) j x)
-    go (inr x) = inr x
-
-of-line : (es : Tree) (j : ℕ) (c : Line) → (c .number ≡ j) ⊎ (crosses es j c ≡ true) → (eqb (c .number) j || crosses es j c) ≡ true
-of-line es j c (inl x) = rw (eq-eqb (c .number) j x)
-of-line es j c (inr x) = or-right (eqb (c .number) j) (crosses es j c) x
-
-same-bool : (a b : Bool) → (a ≡ true → b ≡ true) → (b ≡ true → a ≡ true) → a ≡ b
-same-bool true b f g = sym (f refl)
-same-bool false true f g = g refl
-same-bool false false f g = refl
-
 module _ {n q : ℕ} {lines : List Line} {tip long best order : List ℕ} (li : Listed lines n q tip long) (ho : Holding (tree (n - 1) lines) best order tip) where
   -- at the start nothing is marked
   pub start-so-far : {marked : List ℕ} → ((j : ℕ) → j < numberLimit → getD marked j 0 ≡ 0) → SoFar n lines marked 1
@@ -193,7 +177,7 @@ module _ {n q : ℕ} {lines : List Line} {tip long best order : List ℕ} (li : 
             go : (isMarked marked j ≡ true) ⊎ ((eqb (k .0 .number) j || crosses (tree (n - 1) lines) j (k .0)) ≡ true)
                 → crossed (tree (n - 1) lines) j (closing lines (tree (n - 1) lines)) ≡ true
             go (inl y) = w .sound j less y
-            go (inr y) = in-crossed (tree (n - 1) lines) j (closing lines (tree (n - 1) lines)) (k .0) (k .1) (by-line (tree (n - 1) lines) j (k .0) y)
+            go (inr y) = in-crossed (tree (n - 1) lines) j (closing lines (tree (n - 1) lines)) (k .0) (k .1) (checks-one (tree (n - 1) lines) j (k .0) y)
 
         complete : (c : Line) → List·Memᴰ c (closing lines (tree (n - 1) lines)) → Dec (c .number ≡ number) → c .number < number + 1
             → (j : ℕ) → (eqb (c .number) j || crosses (tree (n - 1) lines) j c) ≡ true → isMarked marked′ j ≡ true
@@ -205,8 +189,8 @@ module _ {n q : ℕ} {lines : List Line} {tip long best order : List ℕ} (li : 
   -- at the end marked is what is crossed
   pub all-so-far : {marked : List ℕ} {number : ℕ} → q ≤ number → SoFar n lines marked number
       → (j : ℕ) → j < numberLimit → isMarked marked j ≡ crossed (tree (n - 1) lines) j (closing lines (tree (n - 1) lines))
-  all-so-far {marked = marked} le w j lt = same-bool (isMarked marked j) (crossed (tree (n - 1) lines) j (closing lines (tree (n - 1) lines))) (w .sound j lt)
+  all-so-far {marked = marked} le w j lt = same-test (isMarked marked j) (crossed (tree (n - 1) lines) j (closing lines (tree (n - 1) lines))) (w .sound j lt)
       (λ h.
       let k = crossed-by (tree (n - 1) lines) j (closing lines (tree (n - 1) lines)) h in
       let stands = closing-line-stands (n - 1) lines (book-sound n lines tip best (tree-held li ho)) (k .0) (k .1) in
-      w .complete (k .0) (k .1) (omega (arith, li .numbered (k .0) stands)) j (of-line (tree (n - 1) lines) j (k .0) (k .2)))
+      w .complete (k .0) (k .1) (omega (arith, li .numbered (k .0) stands)) j (one-checks (tree (n - 1) lines) j (k .0) (k .2)))

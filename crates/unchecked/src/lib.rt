@@ -13,7 +13,7 @@ use book::line::Line;
 pub const CHECKED: u64 = 1;
 
 // The line by which the mark m came in is checked. The answer is the mark at its other end.
-pub fn climb(tip: &[u64], best: &[u64], marked: &mut [u64], m: usize) -> usize
+fn climb(tip: &[u64], best: &[u64], marked: &mut [u64], m: usize) -> usize
     requires { ⌜ Tables (now tip) (now marked) ⌝ ∗ ⌜ m < length (now best) ⌝ }
     ensures { λ r. ⌜ Climbed (now (tip .entry)) (now (best .entry)) (now (marked .entry)) (now (marked .exit)) m r ⌝ }
 {
@@ -23,7 +23,7 @@ pub fn climb(tip: &[u64], best: &[u64], marked: &mut [u64], m: usize) -> usize
 }
 
 // The lines on the way of the mark u or of the mark v, but not of both, are checked: the two ways are followed until they meet, always from the farther mark.
-pub fn follow(tip: &[u64], best: &[u64], marked: &mut [u64], u: usize, v: usize)
+fn follow(tip: &[u64], best: &[u64], marked: &mut [u64], u: usize, v: usize)
     requires { ⌜ Follows (now tip) (now best) (now marked) u v ⌝ }
     ensures { λ _. ⌜ Followed (now (tip .entry)) (now (best .entry)) (now (marked .entry)) (now (marked .exit)) u v ⌝ }
 {
@@ -39,7 +39,7 @@ pub fn follow(tip: &[u64], best: &[u64], marked: &mut [u64], u: usize, v: usize)
 }
 
 // The closing line of this number is checked, and so is every line that it crosses.
-pub fn check_loop(tip: &[u64], best: &[u64], marked: &mut [u64], number: usize)
+fn check_loop(tip: &[u64], best: &[u64], marked: &mut [u64], number: usize)
     requires { ⌜ Checks (now tip) (now best) (now marked) number ⌝ }
     ensures { λ _. ⌜ LoopChecked (now (tip .entry)) (now (best .entry)) (now (marked .entry)) (now (marked .exit)) number ⌝ }
 {
@@ -76,7 +76,7 @@ fn check_line(tip: &[u64], long: &[u64], best: &[u64], marked: &mut [u64], numbe
 }
 
 // Every line that is checked is marked, and no other: the closing lines, in whatever order, and the lines that they cross. Line numbers are below q.
-pub fn check_lines(tip: &[u64], long: &[u64], best: &[u64], marked: &mut [u64], q: usize)
+fn check_lines(tip: &[u64], long: &[u64], best: &[u64], marked: &mut [u64], q: usize)
     requires { ⌜ Closes (now tip) (now long) (now best) (now marked) q ⌝ }
     ensures { λ _. ⌜ LinesChecked (now (tip .entry)) (now (long .entry)) (now (best .entry)) (now (marked .exit)) q ⌝ }
 {
@@ -89,7 +89,7 @@ pub fn check_lines(tip: &[u64], long: &[u64], best: &[u64], marked: &mut [u64], 
 }
 
 // The line of this number stands and is not marked.
-pub fn is_open(long: &[u64], marked: &[u64], number: usize) -> bool
+fn is_open(long: &[u64], marked: &[u64], number: usize) -> bool
     requires { ⌜ number < length (now long) ⌝ ∗ ⌜ number < length (now marked) ⌝ }
     ensures { λ r. ⌜ r ≡ isOpen (now (long .entry)) (now (marked .entry)) number ⌝ }
 {
@@ -100,7 +100,7 @@ pub fn is_open(long: &[u64], marked: &[u64], number: usize) -> bool
 }
 
 // The numbers below q of the lines that stand and are not marked, by rising number, into out from place 0 on, and how many there are.
-pub fn list_open(long: &[u64], marked: &[u64], out: &mut [u64], q: usize) -> usize
+fn list_open(long: &[u64], marked: &[u64], out: &mut [u64], q: usize) -> usize
     requires { ⌜ Lists (now long) (now marked) (now out) q ⌝ }
     ensures { λ a. ⌜ Put (openFrom (now (long .entry)) (now (marked .entry)) 1 (q - 1)) (now (out .entry)) (now (out .exit)) a ⌝ }
 {
@@ -117,7 +117,7 @@ pub fn list_open(long: &[u64], marked: &[u64], out: &mut [u64], q: usize) -> usi
 }
 
 // The numbers of the standing lines that no loop checks, by rising number, into out from place 0 on, and how many there are. Line numbers are below q.
-pub fn not_checked(
+fn not_checked(
     tip: &[u64],
     long: &[u64],
     best: &[u64],
