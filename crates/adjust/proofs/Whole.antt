@@ -15,7 +15,7 @@ use Rattle.book.specs.Limits.{mostHeldHeight, mostDifference}
 use Rattle.network.specs.Standing.{standing}
 use Rattle.network.specs.Tree.{tree}
 use Rattle.network.proofs.Grown.{treeLine}
-use Rattle.network.proofs.Count.{size, grows}
+use Rattle.network.proofs.Marks.{size, grows}
 use Rattle.fields.specs.Heights.{Working}
 use Rattle.sights.specs.Sights.{Sight, sightsOf}
 use Rattle.sweeps.specs.Sweeps.{Swept, still, moved, visit, sweep, Settled, onward, settleFrom, maxSweeps, settle}

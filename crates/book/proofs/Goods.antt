@@ -1,20 +1,20 @@
 -- A book that passes the test is inside every limit; and the test has one answer.
 -- Assumes nothing.
-use mathlib.Core.Path.{_≡_, refl, sym, _∙_, ap, subst}
+use mathlib.Core.Path.{_≡_, refl, sym, subst}
 use mathlib.Core.Bool.{Bool, true, false, not, cond, _||_, true≢false}
 use mathlib.Core.List.{List}
-use Prim.Native.Nat.{ℕ, zero, suc, _+_, _*_, _/_, _%_, _≤_, _<_}
+use Prim.Native.Nat.{ℕ, _*_, _/_, _%_, _≤_, _<_}
 use native.Mathlib.Nat.{div-add-mod'}
 use native.Mathlib.Omega.{arith}
 use lib.Dec.{eqb, ltb}
 use lib.ListN.{length}
-use lib.IntN.{ℤ, pos, negℤ, natAbs}
+use lib.IntN.{ℤ, pos, natAbs}
 use borrow.Author.Tests.{eqb-true, ltb-false}
 use Rattle.laws.specs.Tests.{outZ, outN, eqZ}
-use Rattle.laws.proofs.Tests.{or-left, or-right, inN-low, inN-high, eqZ-apart}
+use Rattle.laws.proofs.Tests.{or-left, or-right, inN-high, eqZ-apart}
 use Rattle.laws.proofs.Scans.{cond-zero, none-bad, none-below, first-most}
-use Rattle.laws.proofs.Size.{Between, between, size-within}
-use Rattle.book.specs.Limits.{mostMarks, mostLines, mostHeld, mostTolerance, mostDifference, leastLength, mostLength, mostHeldHeight}
+use Rattle.laws.proofs.Size.{between, size-within}
+use Rattle.book.specs.Limits.{mostMarks, mostLines, mostHeld, mostTolerance, leastLength, mostLength}
 use Rattle.book.specs.Height.{heldHeightOut}
 use Rattle.book.specs.Held.{heldWords, markAt, heightAt, heldCount, heldOut, heldBefore, heldBad, firstBadHeld}
 use Rattle.book.specs.Line.{lineWords, fromAt, toAt, differenceAt, lengthAt, standingAt, lineCount, differenceOut, lineFault, lineBad, firstBadLine}

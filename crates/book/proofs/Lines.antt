@@ -3,13 +3,13 @@
 use mathlib.Core.Path.{_≡_, refl, sym, _∙_}
 use mathlib.Core.Bool.{Bool, true, false, cond}
 use mathlib.Core.List.{List}
-use Prim.Native.Nat.{ℕ, _+_, _*_, _<_}
+use Prim.Native.Nat.{ℕ, _*_, _<_}
 use native.Mathlib.Omega.{arith}
-use lib.Dec.{ltb, lit<}
-use lib.ListN.{length, getD, take, drop}
+use lib.Dec.{lit<}
+use lib.ListN.{getD, take, drop}
 use lib.Seq.{getD-take, getD-drop}
 use lib.IntN.{ℤ, pos}
-use Rattle.book.specs.Line.{lineWords, field, fromAt, toAt, differenceAt, lengthAt, standingAt, lineFault, lineOf, entryOf, lineBad}
+use Rattle.book.specs.Line.{lineWords, field, fromAt, toAt, differenceAt, lengthAt, standingAt, lineOf, entryOf, lineBad}
 use Rattle.book.specs.declared.line.Line.{Line}
 use Rattle.book.specs.declared.line.MadeLine.{MadeLine}
 use Rattle.book.specs.declared.line.MadeLine.the-variants.{Good, Faulty}

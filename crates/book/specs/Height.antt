@@ -4,7 +4,6 @@ use mathlib.Core.Bool.{Bool, cond}
 use lib.IntN.{ℤ, pos, negℤ}
 use Rattle.laws.specs.Tests.{outZ}
 use Rattle.book.specs.Limits.{mostHeldHeight, mostHeight}
-use Rattle.book.specs.declared.height.Height.{Height}
 use Rattle.book.specs.declared.height.MadeHeight.{MadeHeight}
 use Rattle.book.specs.declared.height.MadeHeight.the-variants.{Good, Outside}
 

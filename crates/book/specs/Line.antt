@@ -5,12 +5,11 @@ use mathlib.Core.Bool.{Bool, _||_, cond}
 use mathlib.Core.List.{List}
 use Prim.Native.Nat.{ℕ, _+_, _*_, _/_}
 use lib.Dec.{ltb}
-use lib.ListN.{length, getD, take, drop}
+use lib.ListN.{length, getD}
 use lib.IntN.{ℤ, pos, negℤ}
 use Rattle.laws.specs.Tests.{outZ, eqZ}
 use Rattle.laws.specs.Scan.{firstBad}
 use Rattle.book.specs.Limits.{mostDifference, leastLength, mostLength}
-use Rattle.book.specs.declared.line.Line.{Line}
 use Rattle.book.specs.declared.line.MadeLine.{MadeLine}
 use Rattle.book.specs.declared.line.MadeLine.the-variants.{Good, Faulty}
 

@@ -1,12 +1,12 @@
 -- Laws of half lines and of chains. Assumes nothing.
-use Prim.Native.Nat.{ℕ, suc, _+_, _*_, _-_, _≤_, _<_}
+use Prim.Native.Nat.{ℕ, suc, _+_, _*_, _≤_, _<_}
 use native.Mathlib.Omega.{arith}
 use mathlib.Core.Path.{_≡_, refl, subst}
 use mathlib.Core.Logic.{_⊎_, inl, inr}
 use mathlib.Core.List.{List}
 use lib.ListN.{getD}
 use Rattle.network.specs.Standing.{Line}
-use Rattle.network.proofs.Grown.{Ends, along, against}
+use Rattle.network.specs.Walk.{Ends, along, against}
 use Rattle.chains.specs.Chains.{Half, fore, aft, flip, On, here, later, Nodes, Sound, halves}
 
 -- ---- halves
@@ -42,10 +42,6 @@ half-flip (fore p q e) = aft q p (omega arith)
 half-flip (aft p q e) = fore q p (omega arith)
 
 -- ---- chains
-
-pub on-low : {next : List ℕ} {i j : ℕ} → On next i j → 0 < i
-on-low (here e) = omega arith
-on-low (later k e o) = omega arith
 
 pub on-zero : {A : Type 0} {next : List ℕ} {i j : ℕ} → i ≡ 0 → On next i j → A
 on-zero z (here e) = absurd (omega arith)

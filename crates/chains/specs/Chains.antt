@@ -1,12 +1,12 @@
 -- Half lines and chains of nodes: what a chain is and what the chains hold. Assumes nothing.
-use Prim.Native.Nat.{ℕ, zero, suc, _+_, _*_, _-_, _/_, _≤_, _<_}
+use Prim.Native.Nat.{ℕ, suc, _+_, _*_, _-_, _/_, _≤_, _<_}
 use mathlib.Core.Path.{_≡_}
 use mathlib.Core.Bool.{Bool, true, false}
 use mathlib.Core.List.{List, [], _∷_, List·Memᴰ}
 use lib.ListN.{length, getD}
 use Rattle.network.specs.Standing.{Line}
 use Rattle.network.specs.Path.{Pass}
-use Rattle.network.proofs.Descent.{Rising}
+use Rattle.network.specs.Sound.{Rising}
 
 -- ---- limits: no line number, half number, length or sum of a node reaches past these
 

@@ -4,7 +4,7 @@ use mathlib.Core.Path.{_≡_}
 use mathlib.Core.List.{List, List·Memᴰ}
 use lib.ListN.{length, getD}
 use Rattle.network.specs.Standing.{Line}
-use Rattle.network.proofs.Descent.{Rising}
+use Rattle.network.specs.Sound.{Rising}
 use Rattle.chains.specs.Chains.{Half, AllSound, longest}
 
 -- a length for each number below q; 0 where no line has the number

@@ -3,7 +3,7 @@
 use mathlib.Core.Path.{_≡_, refl, _∙_, ap, ap₂}
 use mathlib.Core.Bool.{Bool, true, false, not, cond, _||_}
 use mathlib.Core.List.{List, [], _∷_, _++_}
-use Prim.Native.Nat.{ℕ, _+_, _*_, _-_, _%_}
+use Prim.Native.Nat.{ℕ, _+_, _*_, _%_}
 use native.Mathlib.Omega.{arith}
 use lib.Dec.{eqb, ltb}
 use lib.ListN.{length, drop}
@@ -11,9 +11,8 @@ use lib.IntN.{ℤ, pos, natAbs}
 use borrow.Author.Tests.{eq-eqb}
 use Rattle.book.specs.Held.{heldWords}
 use Rattle.book.specs.Line.{lineWords, differenceOut}
-use Rattle.book.specs.Test.{torn, bookOut, counts, refused}
+use Rattle.book.specs.Test.{torn, bookOut, counts}
 use Rattle.book.specs.declared.Book.{Book}
-use Rattle.book.specs.declared.Tested.the-variants.{Refused}
 use Rattle.file.specs.Read as read
 use Rattle.file.specs.Read.{Outcome, answered, statedLength, statedVersion, statedT, statedB, statedH, statedN, fileLength, headOf, heldOf, linesOf, roomOf, testedOf, bodyOf, afterHead, readOf}
 use Rattle.file.specs.declared.entry.Kind.the-variants as kind

@@ -17,7 +17,6 @@ use Rattle.network.specs.Standing.{standing}
 use Rattle.network.specs.Sound.{Sound}
 use Rattle.network.specs.Tree.{tree}
 use Rattle.survey.proofs.Sounding.{good-sound}
-use Rattle.fields.specs.Heights.{height}
 use Rattle.start.specs.Start.{heldHeight, isSome, isHeld, rootedBy, rootHeight, rootOf, unheldPiece, startOf}
 use Rattle.start.proofs.Beginning.{start-length, start-height}
 use Rattle.start.proofs.Pieces.{joined-one-root, piece-is-held}

@@ -10,8 +10,7 @@ use lib.IntN.{ℤ, pos, negsuc, natAbs}
 use lib.ListN.{length, getD, set, take, drop, length-set, length-take, length-drop}
 use lib.Seq.{getD-set-same, getD-set-other, getD-take, getD-drop}
 use lib.Dec.{lit<}
-use native.Mathlib.Nat.{add-zero}
-use borrow.Author.Tests.{eqb-true, eq-eqb}
+use borrow.Author.Tests.{eqb-true}
 use Rattle.network.specs.Standing.{Line, line, keep, standingFrom, standing}
 use Rattle.network.proofs.Standing.{rising-standing, standing-clause}
 use Rattle.laws.specs.Tests.{eqZ}

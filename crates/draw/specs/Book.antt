@@ -5,7 +5,7 @@ use mathlib.Core.Bool.{true, false}
 use mathlib.Core.List.{List}
 use lib.IntN.{ℤ, pos, natAbs}
 use lib.ListN.{length, getD, set}
-use Rattle.network.specs.Standing.{Line, standing}
+use Rattle.network.specs.Standing.{standing}
 use Rattle.laws.specs.Tests.{eqZ}
 use Rattle.book.specs.Good.{GoodLine}
 use Rattle.chains.specs.Chains.{Nodes, Heads, Tips, Given, halves, numberLimit}

@@ -10,7 +10,7 @@ use Rattle.book.specs.Good.{GoodLine}
 use Rattle.network.specs.Standing.{Line, standing}
 use Rattle.network.specs.Tree.{Tree, grow, marks, tree}
 use Rattle.network.proofs.Grown.{Stepped, line, root, stop, stepped}
-use Rattle.network.proofs.Count.{placed-end, of-marks}
+use Rattle.network.proofs.Marks.{placed-end, of-marks}
 use Rattle.chains.specs.Chains.{Half, fore, aft}
 use Rattle.chains.specs.Listed as ch
 use Rattle.search.specs.Front.{Key, By}

@@ -12,8 +12,8 @@ use Rattle.laws.proofs.Size.{Between}
 use Rattle.book.specs.Limits.{mostDifference, leastLength, mostLength}
 use Rattle.book.specs.Line.{fromAt, toAt, standingAt}
 use Rattle.book.specs.Good.{GoodLine}
-use Rattle.network.specs.Standing.{Line, line, standingFrom, standing}
-use Rattle.network.proofs.Count.{Placed}
+use Rattle.network.specs.Standing.{Line, standingFrom, standing}
+use Rattle.network.specs.Sound.{Placed}
 use Rattle.fields.specs.Places.{standsFrom, Lines}
 use Rattle.fields.proofs.Stands.{lineHere, stands-not, stands-here}
 

@@ -12,7 +12,7 @@ use borrow.Author.Tests.{eqb-true}
 use Rattle.laws.specs.Tests.{eqZ}
 use Rattle.laws.proofs.Size.{Between}
 use Rattle.book.specs.Line.{fromAt, toAt, differenceAt, lengthAt, standingAt}
-use Rattle.network.specs.Standing.{Line, line, keep, standing}
+use Rattle.network.specs.Standing.{Line, line, keep}
 use Rattle.network.proofs.Standing.{standing-clause}
 use Rattle.book.specs.Test.{testOf}
 use Rattle.fields.specs.Places.{standsFrom, Place, Lines}

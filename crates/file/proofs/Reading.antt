@@ -1,10 +1,10 @@
 -- What the reader's definition gives: a book inside every limit, or a refusal that changes nothing.
 -- Assumes nothing.
-use mathlib.Core.Path.{_≡_, refl, sym, _∙_, ap, ap₂, subst}
+use mathlib.Core.Path.{_≡_, refl, sym, _∙_, ap, subst}
 use mathlib.Core.Logic.{_⊎_, inl, inr}
 use mathlib.Core.Bool.{Bool, true, false, cond}
 use mathlib.Core.List.{List, _++_}
-use Prim.Native.Nat.{ℕ, _+_, _*_, _/_, _<_, _≤_}
+use Prim.Native.Nat.{ℕ, _+_, _*_, _<_, _≤_}
 use native.Mathlib.Omega.{arith}
 use lib.Dec.{ltb}
 use lib.ListN.{length, drop}
@@ -16,7 +16,6 @@ use Rattle.book.specs.Test.{testOf}
 use Rattle.book.specs.Good.{GoodBook}
 use Rattle.book.proofs.Goods.{tested-good, tested-counts, tested-numbered}
 use Rattle.book.specs.declared.Book.{Book}
-use Rattle.book.specs.declared.Refusal.{Refusal}
 use Rattle.book.specs.declared.Tested.{Tested}
 use Rattle.book.specs.declared.Tested.the-variants.{Good, Refused}
 use Rattle.file.specs.Read.{Outcome, answered, refusal, done, heldOf, linesOf, headOf, roomOf, testedOf, bodyOf, afterHead, readOf}

@@ -1,8 +1,7 @@
 -- A whole number of at most 2 to the 53rd either way is cast to a 64-bit float with nothing lost.
 -- Assumes nothing.
-use mathlib.Core.Path.{_≡_, sym, subst}
+use mathlib.Core.Path.{_≡_}
 use mathlib.Core.Bool.{Bool, true, false, _||_}
-use Prim.Native.Nat.{ℕ}
 use lib.Dec.{T, leb, ltb, le→leb, lt→ltb}
 use lib.IntN.{ℤ, pos, negsuc}
 use lib.Ieee.{binary64, inFloat}

@@ -1,17 +1,17 @@
 -- Laws on signed 64-bit numbers: what the machine reads back from a number's bits, as tests on the number itself.
 -- Assumes nothing.
-use mathlib.Core.Path.{_≡_, refl, sym, _∙_, ap, subst}
+use mathlib.Core.Path.{_≡_, refl, sym, _∙_, subst}
 use mathlib.Core.Bool.{Bool, true, false, not}
-use Prim.Native.Nat.{ℕ, suc, _+_, _-_, _<_, _≤_, _^_}
+use Prim.Native.Nat.{ℕ, suc, _-_, _<_, _^_}
 use native.Mathlib.Omega.{arith}
-use lib.Dec.{T, leb, ltb, eqb, eqb→eq}
-use lib.IntN.{ℤ, pos, negsuc, natAbs}
+use lib.Dec.{T, eqb}
+use lib.IntN.{ℤ, pos, negsuc}
 use lib.Signed.{ltZ, mag, nonNeg}
-use borrow.Author.Tests.{eq-eqb, ne-eqb, eqb-true, eqb-false, leb-true}
+use borrow.Author.Tests.{eq-eqb, ne-eqb, eqb-true, eqb-false}
 use mir.Syntax.{w64}
 use mir.Val.{SFits, toZ, ofZ}
 use mir.Facts.{toZ-ofZ}
-use Rattle.laws.specs.Tests.{outZ, eqZ}
+use Rattle.laws.specs.Tests.{eqZ}
 
 -- two tests agree where their facts do
 eqb-iff : (a b c d : ℕ) → (a ≡ b → c ≡ d) → (c ≡ d → a ≡ b) → (t : Bool) → eqb c d ≡ t → eqb a b ≡ eqb c d

@@ -5,7 +5,7 @@ use mathlib.Core.Bool.{Bool, true, false, _||_, cond, true≢false}
 use Prim.Native.Nat.{ℕ, _≤_}
 use lib.Dec.{ltb}
 use lib.IntN.{ℤ, pos, negsuc}
-use borrow.Author.Tests.{ltb-false, eq-eqb, eqb-true}
+use borrow.Author.Tests.{ltb-false, eq-eqb}
 use Rattle.laws.specs.Tests.{outN, eqZ}
 
 -- the first test holds: r is the flag that the code has of it
@@ -37,10 +37,6 @@ cond-ind P true x y f g = f refl
 cond-ind P false x y f g = g refl
 
 -- a count that is not outside
-pub inN-low : (lo hi n : ℕ) → outN lo hi n ≡ false → lo ≤ n
-unfolding outN
-inN-low lo hi n e = ltb-false n lo (or-left (ltb n lo) (ltb hi n) e)
-
 pub inN-high : (lo hi n : ℕ) → outN lo hi n ≡ false → n ≤ hi
 unfolding outN
 inN-high lo hi n e = ltb-false hi n (or-right (ltb n lo) (ltb hi n) e)

@@ -1,10 +1,10 @@
 -- Every number of an answer fits an int64: marks, lines and rows are few, and a refusal's number and place are small.
 -- Assumes nothing.
-use Prim.Native.Nat.{ℕ, _-_, _<_, _≤_, _^_}
+use Prim.Native.Nat.{ℕ, _-_, _≤_}
 use native.Mathlib.Omega.{arith}
 use mathlib.Core.Path.{_≡_, refl, sym, subst}
-use mathlib.Core.Logic.{_⊎_, inl, inr}
-use mathlib.Core.Bool.{Bool, true, false}
+use mathlib.Core.Logic.{inl, inr}
+use mathlib.Core.Bool.{true, false}
 use mathlib.Core.List.{List, map}
 use lib.Dec.{ltb}
 use borrow.Author.Tests.{ltb-false}
@@ -21,7 +21,7 @@ use Rattle.book.specs.declared.Book.{Book}
 use Rattle.book.specs.declared.Refusal.{Refusal}
 use Rattle.book.specs.declared.Tested.{Tested}
 use Rattle.book.specs.declared.Tested.the-variants.{Good, Refused}
-use Rattle.book.proofs.Goods.{Numbered, tested-good, tested-numbered}
+use Rattle.book.proofs.Goods.{tested-good, tested-numbered}
 use Rattle.network.specs.Standing.{standing}
 use Rattle.network.proofs.Entries.{tree-lines-count}
 use Rattle.survey.specs.GoodLines.{GoodLines}
@@ -35,7 +35,6 @@ use Rattle.loops.specs.Row.{listed}
 use Rattle.survey.proofs.Sounding.{good-lines, lines-sound, few-loops}
 use Rattle.survey.proofs.Corrected.{stands-of, rerun-lines-good, withdrawn-lines-good}
 use Rattle.rates.specs.Rates.{refusedRate, lineRate, firstHigh, goodRate, testedRate, rateAnswer}
-use Rattle.rates.specs.declared.RateAnswer.{RateAnswer}
 use Rattle.rates.proofs.Rating.{marks-of}
 use Rattle.file.specs.Read.{readOf}
 use Rattle.file.proofs.Reading.{ReadOrRefused, read-or-refused}

@@ -1,6 +1,5 @@
 -- What the rate call answers, with the numbers as int64.
 -- Assumes nothing.
-use Prim.Native.Nat.{ℕ}
 use mathlib.Core.Bool.{false}
 use lib.IntN.{ℤ, pos}
 use lib.Ieee.{Float, fin}

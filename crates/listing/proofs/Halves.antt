@@ -6,9 +6,9 @@ use native.Mathlib.Omega.{arith}
 use mathlib.Core.Path.{_≡_, refl, sym, _∙_, ap}
 use mathlib.Core.List.{List, [], _∷_, _++_, map}
 use lib.IntN.{ℤ, pos}
-use lib.ListN.{length, take, drop, getD, set, length-set, length-take, length-map}
+use lib.ListN.{length, take, drop, getD, set, length-take, length-map}
 use lib.Seq.{take-suc-set, drop-set-lt, getD-take}
-use Rattle.listing.specs.Halves.{halfListed, halvesListed, Halves}
+use Rattle.listing.specs.Halves.{halfListed, halvesListed}
 use Rattle.laws.proofs.Laid.{Laid, laid-end}
 
 pub getD-map : {A B : Type 0} (f : A → B) (xs : List A) (i : ℕ) (a : A) (b : B) → i < length xs → getD (map f xs) i b ≡ f (getD xs i a)

@@ -1,6 +1,6 @@
 -- The steps of the work give the definitions' lists.
 -- Assumes nothing.
-use Prim.Native.Nat.{ℕ, zero, suc, _+_, _*_, _-_, _/_, _≤_, _<_}
+use Prim.Native.Nat.{ℕ, zero, suc, _+_, _-_, _≤_, _<_}
 use native.Mathlib.Omega.{arith}
 use mathlib.Core.Path.{_≡_, refl, sym, _∙_, ap, ap₂, subst}
 use mathlib.Core.Bool.{Bool, true, false, cond}
@@ -13,7 +13,7 @@ use Rattle.laws.specs.Tests.{outZ}
 use Rattle.laws.proofs.Size.{Between}
 use Rattle.book.specs.declared.Book.{Book}
 use Rattle.network.specs.Standing.{Line, standing}
-use Rattle.loops.specs.Loops.{Loop, loops, loopAt}
+use Rattle.loops.specs.Loops.{Loop, loops}
 use Rattle.loops.specs.Checked.{checked, notChecked}
 use Rattle.chains.specs.Chains.{numberLimit}
 use Rattle.prepare.specs.Prepared.{Chained, Soil, Started}

@@ -2,10 +2,10 @@
 use Prim.Native.Nat.{ℕ}
 use mathlib.Core.Path.{_≡_, refl, ap₂, subst}
 use mathlib.Core.Logic.{_⊎_, inl, inr}
-use mathlib.Core.Bool.{true, false}
+use mathlib.Core.Bool.{true}
 use mathlib.Core.List.{List, [], _∷_, List·Memᴰ, List·Memᴰ·head, List·Memᴰ·tail}
 use lib.Dec.{eqb}
-use borrow.Author.Tests.{eqb-true, eq-eqb, ne-eqb}
+use borrow.Author.Tests.{eqb-true, eq-eqb}
 use Rattle.network.specs.Standing.{Line}
 use Rattle.network.specs.Sound.{Sound}
 use Rattle.network.specs.Pairwise.{Pairwise}
@@ -16,7 +16,8 @@ use Rattle.network.specs.Path.{shortest}
 use Rattle.network.specs.Subgraph.{isIn, only, numbers}
 use Rattle.network.proofs.Grown.{ends-to}
 use Rattle.network.proofs.Shortest.{turn, endsOf}
-use Rattle.network.proofs.Count.{unique, grows}
+use Rattle.network.proofs.Count.{unique}
+use Rattle.network.proofs.Marks.{grows}
 use Rattle.network.proofs.Enough.{shortest-unique}
 use Rattle.network.proofs.Closers.{InTree}
 use Rattle.network.proofs.ClosingLines.{closing-line-stands}
@@ -69,19 +70,6 @@ first-or-in c n ns h = go (or-true (eqb c n) (isIn n ns) h)
     go : (eqb c n ≡ true) ⊎ (isIn n ns ≡ true) → (c ≡ n) ⊎ (isIn n ns ≡ true)
     go (inl e) = inl (eqb-true c n e)
     go (inr h) = inr h
-
--- whatever the path, a number of the subgraph stays in it when the closing line c is taken
-pub in-added : (c : ℕ) (p : List Pass) (sub : List ℕ) (n : ℕ) → isIn n sub ≡ true → isIn n (added c p sub) ≡ true
-in-added c [] sub n h = in-more c n sub h
-in-added c (p ∷ []) sub n h = h
-in-added c (p ∷ q ∷ ps) sub n h = in-more c n sub h
-
--- and no number but that of c comes in
-pub out-added : (c : ℕ) (p : List Pass) (sub : List ℕ) (n : ℕ) → (c ≡ n → ⊥) → isIn n sub ≡ false → isIn n (added c p sub) ≡ false
-unfolding isIn
-out-added c [] sub n d h = rw (ne-eqb c n d) h
-out-added c (p ∷ []) sub n d h = h
-out-added c (p ∷ q ∷ ps) sub n d h = rw (ne-eqb c n d) h
 
 -- every number of ns is one of ms
 abbrev pub Within : List ℕ → List ℕ → Type 0

@@ -14,14 +14,11 @@ use Rattle.network.specs.Sound.{Sound, Rising}
 use Rattle.network.specs.Tree.{tree, treeLines}
 use Rattle.network.specs.Closing.{closing}
 use Rattle.network.specs.Walk.{Pass, pass, Walk}
-use Rattle.network.proofs.Count.{grows}
+use Rattle.network.proofs.Marks.{grows}
 use Rattle.network.proofs.Pairwise.{pairwise-first}
 use Rattle.network.proofs.ClosingLines.{tree-line-or-closing-line, closing-line-stands}
 use Rattle.network.proofs.Flow.{at, tree-zero, NotTree}
-pub use Rattle.network.proofs.Walks.{walk-append, flip, flip-start, flip-stop, Way, way-back, walk-wider, over}
-pub use Rattle.network.proofs.Joined.{rootOr, rootOf, Holds, fewer, to-root, joined-new, joined}
-pub use Rattle.network.proofs.Subgraph.{in-only, of-only, rising-only, descend-in, shortest-in, or-true, or-right, nos-isIn, isIn-numbers, not-in, in-treeLines, of-treeLines}
-pub use Rattle.loops.proofs.AllLoops.{in-added, out-added}
+use Rattle.network.proofs.Subgraph.{of-treeLines}
 use Rattle.loops.specs.Loops.{Loop, loops}
 use Rattle.loops.specs.AllLoops.{LoopsOf, no-loop, loop-then}
 use Rattle.loops.specs.Passes.{once, passes, SumOf}

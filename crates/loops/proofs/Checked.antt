@@ -11,13 +11,12 @@ use borrow.Author.Tests.{eqb-true, eq-eqb}
 use Rattle.network.specs.Standing.{Line}
 use Rattle.network.specs.Sound.{Rising, none-left, then, Sound}
 use Rattle.network.specs.Pairwise.{Pairwise, no-pair, pairs}
-use Rattle.network.specs.Walk.{Pass}
-pub use Rattle.network.specs.Walk.{OnlyOnce}
+use Rattle.network.specs.Walk.{Pass, OnlyOnce}
 use Rattle.network.proofs.Descent.{clash}
 use Rattle.network.proofs.Subgraph.{or-true, or-right, not-in}
 use Rattle.loops.specs.Loops.{Loop, loops}
 use Rattle.loops.specs.Checked.{runs, checked, notChecked}
-pub use Rattle.loops.specs.Circuit.{Circuit}
+use Rattle.loops.specs.Circuit.{Circuit}
 use Rattle.loops.specs.Passes.{passes, once, passIf, sense, combine}
 use Rattle.loops.proofs.EachLoop.{loop-has-closing-line}
 use Rattle.loops.proofs.Basis.{passes-none, basis}

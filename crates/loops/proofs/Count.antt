@@ -8,8 +8,8 @@ use Rattle.network.specs.Standing.{Line}
 use Rattle.network.specs.Tree.{tree, treeLines, pieces}
 use Rattle.network.specs.Closing.{closing}
 use Rattle.network.specs.Subgraph.{numbers}
-use Rattle.network.proofs.Descent.{Rising}
-use Rattle.network.proofs.Count.{Placed, Apart, closing-count}
+use Rattle.network.specs.Sound.{Rising, Placed, Apart}
+use Rattle.network.proofs.Count.{closing-count}
 use Rattle.loops.specs.Loops.{loops, loopsFrom}
 
 module _ (b : ℕ) (lines : List Line) (placed : (l : Line) → List·Memᴰ l lines → Placed b l) (rising : Rising lines) (apart : Apart lines) where

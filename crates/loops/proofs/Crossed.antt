@@ -15,7 +15,8 @@ use Rattle.network.specs.Closing.{closing}
 use Rattle.network.specs.Walk.{Pass, end, start, stop, Walk, here, step, OnlyOnce}
 use Rattle.network.specs.Subgraph.{isIn, only, numbers}
 use Rattle.network.proofs.Descent.{clash}
-use Rattle.network.proofs.Count.{unique, grows}
+use Rattle.network.proofs.Count.{unique}
+use Rattle.network.proofs.Marks.{grows}
 use Rattle.network.proofs.Entries.{tree-line-stands}
 use Rattle.network.proofs.ClosingLines.{tree-line-or-closing-line, never-tree-line-and-closing-line, closing-line-stands}
 use Rattle.network.proofs.ShortestPath.{pass-line}

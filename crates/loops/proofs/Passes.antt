@@ -8,11 +8,11 @@ use lib.Dec.{eqb}
 use borrow.Author.Tests.{eq-eqb, ne-eqb}
 use Rattle.network.specs.Standing.{Line}
 use Rattle.network.specs.Path.{Pass, start, stop, end}
-pub use Rattle.loops.specs.Passes.{sense, passIf}
+use Rattle.loops.specs.Passes.{sense, passIf}
 unfoldable pub use Rattle.loops.specs.Passes.{once, passes}
 use Rattle.network.proofs.Flow.{sides, share, at, at-none, at-one, zero-share}
-use Rattle.network.proofs.Shortest.{Walk, here, step}
-use Rattle.network.proofs.Descent.{Rising}
+use Rattle.network.specs.Walk.{Walk, here, step}
+use Rattle.network.specs.Sound.{Rising}
 
 -- ---- what lib.IntN does not have: left commutativity, and that the product distributes
 

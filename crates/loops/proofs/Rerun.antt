@@ -16,7 +16,7 @@ use Rattle.network.specs.Subgraph.{only, numbers}
 use Rattle.network.specs.Redone.{measured, newDifference, redone, measuredPass, redonePass}
 use Rattle.network.proofs.Differences.{tree-same, treeLines-same, pieces-same, numbers-same, closing-same, only-same, shortest-same}
 use Rattle.loops.specs.Loops.{Loop, added, loopsFrom, loops}
-use Rattle.loops.specs.Row.{signed, listed, misclosure, closingNumber, row}
+use Rattle.loops.specs.Row.{signed, listed, misclosure, closingNumber}
 use Rattle.loops.specs.Passes.{sense, passIf, once, passes}
 use Rattle.loops.specs.Checked.{runs}
 use Rattle.loops.proofs.Passes.{four, *ℤ-distrib}
@@ -120,10 +120,6 @@ module _ (n : ℕ) (d : ℤ) where
           → _≡_ {A = Loop} (redonePass n d p ∷ map (redonePass n d) ps) (p ∷ ps)
       go true t x y e ih = absurd (true≢false e)
       go false t x y e ih = ap₂ _∷_ (other-pass p (eqb-false (p .line .number) n x)) (ih (y ∙ e))
-
-  -- and so is its row, whole
-  pub rerun-keeps-other-rows : (t : ℕ) (lp : Loop) → runs n lp ≡ false → row t (map (redonePass n d) lp) ≡ row t lp
-  rerun-keeps-other-rows t lp h = ap (row t) (rerun-keeps-other-loops lp h)
 
   signed-add : (f : Bool) (a c : ℤ) → signed f a +ℤ signed f c ≡ signed f (a +ℤ c)
   signed-add true a c = refl

@@ -12,12 +12,13 @@ use Rattle.network.specs.Standing.{Line}
 use Rattle.network.specs.Tree.{Entry, Tree, Candidate, candidate, distance, score, far}
 use Rattle.network.specs.Closing.{sameLine, closersAt, justLines, closing}
 use Rattle.network.specs.Pairwise.{Pairwise, no-pair, pairs}
-use Rattle.network.specs.ClosingOrder.{ClosesAt, Sooner}
-pub use Rattle.network.specs.ClosingOrder.{Distinct}
-use Rattle.network.proofs.Grown.{Ends, along, against, Scored, scored, score-of, After, new, old, after, keeps, ends-to, byOf, ByLine, Grown, empty, byLine, byRoot, isNew, treeLine}
+use Rattle.network.specs.ClosingOrder.{ClosesAt, Sooner, Distinct}
+use Rattle.network.proofs.Grown.{Scored, scored, score-of, After, new, old, after, keeps, ends-to, byOf, ByLine, Grown, empty, byLine, byRoot, isNew, treeLine}
+use Rattle.network.specs.Walk.{Ends, along, against}
 use Rattle.network.proofs.Shortest.{same, never, wasOut}
-use Rattle.network.proofs.Descent.{clash, Rising}
-use Rattle.network.proofs.Count.{Apart, unique}
+use Rattle.network.proofs.Descent.{clash}
+use Rattle.network.specs.Sound.{Rising, Apart}
+use Rattle.network.proofs.Count.{unique}
 use Rattle.network.proofs.ClosingOrder.{not-same, of-not-same, in-closersAt, of-closersAt, order-closersAt}
 use Rattle.network.proofs.Pairwise.{pairwise-append}
 use Rattle.network.proofs.Flow.{ends-in, ends-two, entered}

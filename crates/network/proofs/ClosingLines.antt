@@ -8,10 +8,10 @@ use Rattle.network.specs.Standing.{Line}
 use Rattle.network.specs.Sound.{Sound}
 use Rattle.network.specs.Tree.{distance, tree, treeLines}
 use Rattle.network.specs.Closing.{closing}
-use Rattle.network.specs.ClosingOrder.{ClosingOrder}
+use Rattle.network.specs.ClosingOrder.{ClosingOrder, Distinct}
 use Rattle.network.proofs.Grown.{Grown}
-use Rattle.network.proofs.Count.{all-marks, grows}
-use Rattle.network.proofs.Closers.{InTree, tree-or-closing, closing-line, closing-not-tree, Distinct, distinct-closing}
+use Rattle.network.proofs.Marks.{all-marks, grows}
+use Rattle.network.proofs.Closers.{InTree, tree-or-closing, closing-line, closing-not-tree, distinct-closing}
 use Rattle.network.proofs.ClosingOrder.{closing-in-order, closing-order-unique}
 use Rattle.network.proofs.Subgraph.{in-treeLines, of-treeLines}
 

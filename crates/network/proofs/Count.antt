@@ -9,14 +9,13 @@ use lib.Dec.{eqb, leb}
 use lib.ListN.{length, length-append}
 use borrow.Author.Tests.{eqb-true, eq-eqb, ne-eqb}
 use Rattle.network.specs.Standing.{Line}
-pub use Rattle.network.specs.Sound.{Placed, Apart}
-pub use Rattle.network.specs.Piece.{bit}
+use Rattle.network.specs.Sound.{Placed, Apart, Rising, then}
+use Rattle.network.specs.Piece.{bit}
 use Rattle.network.specs.Tree.{Entry, Tree, Candidate, candidate, distance, score, far, tree, pieces, roots1, treeLines, lines1}
 use Rattle.network.specs.Closing.{insert, insertOf, sameLine, closerOf, closersAt, justLines, closing}
 use Rattle.network.proofs.Grown.{score-of, After, new, old, after, ByLine, ByRoot, Grown, empty, byLine, byRoot, isNew}
 use Rattle.network.proofs.Shortest.{never}
-use Rattle.network.proofs.Descent.{Rising, then}
-pub use Rattle.network.proofs.Marks.{outBit, outs, outs-nil, outs-above, outs-cons, outs-zero, all-in, in-upTo, of-upTo, in-marks, of-marks, placed-end, one-each, all-marks, size, grows}
+use Rattle.network.proofs.Marks.{all-marks, size, grows}
 
 -- ---- a tree's lines and its roots are its entries
 

@@ -11,12 +11,11 @@ use lib.Dec.{eqb}
 use borrow.Author.Tests.{eqb-true, eq-eqb}
 use Rattle.network.specs.Standing.{Line}
 use Rattle.network.specs.Tree.{Tree, distance, score}
-use Rattle.network.specs.Path.{Pass, pass, start, stop, fits, down, pickPass, descent, onward, descend}
-use Rattle.network.specs.Path.{wayLength}
-pub use Rattle.network.specs.Walk.{Before, equal, lower, alike}
-pub use Rattle.network.specs.Sound.{Rising, none-left, then, Long}
-use Rattle.network.proofs.Grown.{Ends, along, against, Grown, Parent, isRoot, over, parent}
-use Rattle.network.proofs.Shortest.{same, endsOf, balanced, Walk, here, step, shortest-of-all}
+use Rattle.network.specs.Path.{Pass, pass, start, stop, fits, down, pickPass, descent, onward, descend, wayLength}
+use Rattle.network.specs.Walk.{Before, equal, lower, alike, Ends, along, against, Walk, here, step}
+use Rattle.network.specs.Sound.{Rising, then, Long}
+use Rattle.network.proofs.Grown.{Grown, Parent, isRoot, over, parent}
+use Rattle.network.proofs.Shortest.{same, endsOf, balanced, shortest-of-all}
 
 pub clash : {A : Type 0} {b : Bool} → b ≡ true → b ≡ false → A
 clash p q = absurd (true≢false (sym p ∙ q))

@@ -8,13 +8,13 @@ use mathlib.Core.List.{List, [], _∷_, List·Memᴰ, List·Memᴰ·head, List·
 use mathlib.Core.Option.{Option, none, some}
 use Rattle.network.specs.Standing.{Line}
 use Rattle.network.specs.Tree.{Tree, distance, oneEnd, score, grow}
-use Rattle.network.specs.Path.{Pass, orZero, descend, shortest}
-use Rattle.network.specs.Path.{wayLength}
-pub use Rattle.network.specs.Walk.{IsShortest}
+use Rattle.network.specs.Path.{Pass, orZero, descend, shortest, wayLength}
+use Rattle.network.specs.Walk.{IsShortest, Walk, Before, equal, lower, alike}
 use Rattle.network.proofs.Grown.{After, new, old, after, score-of, keeps, isNew, grown, Stepped, line, root, stop, stepped}
-use Rattle.network.proofs.Shortest.{same, never, Walk, shortest-of-all}
-use Rattle.network.proofs.Descent.{Rising, Long, Before, equal, lower, alike, descend-walk, tie}
-use Rattle.network.proofs.Count.{Placed, placed-end, outs, outs-nil, outs-cons, outs-zero}
+use Rattle.network.proofs.Shortest.{same, never, shortest-of-all}
+use Rattle.network.proofs.Descent.{descend-walk, tie}
+use Rattle.network.specs.Sound.{Rising, Long, Placed}
+use Rattle.network.proofs.Marks.{placed-end, outs, outs-nil, outs-cons, outs-zero}
 
 -- a line with both ends in has no score
 pub both-none : (es : Tree) (l : Line) → (distance es (l .from) ≡ none → ⊥) → (distance es (l .to) ≡ none → ⊥) → score es l ≡ none

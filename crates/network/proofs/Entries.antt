@@ -11,7 +11,8 @@ use Rattle.network.specs.Sound.{Sound}
 use Rattle.network.specs.Tree.{Entry, Tree, distance, tree, pieces, treeLines}
 use Rattle.network.specs.Growth.{LeadsNearer, timesEntered}
 use Rattle.network.proofs.Grown.{After, new, old, after, keeps, ends-to, byOf, Grown, empty, byLine, byRoot, isNew, treeLine}
-use Rattle.network.proofs.Count.{outBit, tree-and-roots, all-marks, size, grows}
+use Rattle.network.proofs.Count.{tree-and-roots}
+use Rattle.network.proofs.Marks.{outBit, all-marks, size, grows}
 use Rattle.network.proofs.Subgraph.{of-treeLines}
 
 -- ---- how often a mark enters

@@ -12,9 +12,10 @@ use lib.Dec.{eqb}
 use borrow.Author.Tests.{eqb-true, eq-eqb, ne-eqb}
 use Rattle.network.specs.Standing.{Line}
 use Rattle.network.specs.Tree.{Entry, Tree, distance}
-use Rattle.network.proofs.Grown.{Ends, along, against, After, new, old, after, keeps, ends-to, byOf, Grown, empty, byLine, byRoot, isNew}
+use Rattle.network.proofs.Grown.{After, new, old, after, keeps, ends-to, byOf, Grown, empty, byLine, byRoot, isNew}
+use Rattle.network.specs.Walk.{Ends, along, against}
 use Rattle.network.proofs.Shortest.{never, wasOut}
-use Rattle.network.proofs.Descent.{Rising, then}
+use Rattle.network.specs.Sound.{Rising, then}
 
 abbrev pub sides : Bool → Bool → ℤ → ℤ
 sides true true z = pos 0

@@ -10,7 +10,7 @@ use mathlib.Core.Option.{Option, none, some, Option·some-injective, Option·non
 use lib.Dec.{leb, eqb}
 use borrow.Author.Tests.{leb-true, leb-false, eqb-true, eqb-false}
 use Rattle.network.specs.Standing.{Line}
-pub use Rattle.network.specs.Walk.{Ends, along, against}
+use Rattle.network.specs.Walk.{Ends, along, against}
 use Rattle.network.specs.Tree.{Entry, Tree, Candidate, candidate, distance, oneEnd, score, far, lowerOf, lowestOf, lowest, firstOf, firstOut, next, step, grow}
 
 -- ---- a score: the line has just one end in the tree

@@ -14,7 +14,8 @@ use Rattle.network.specs.Tree.{entry, Tree, Candidate, candidate, distan
 use Rattle.network.specs.Growth.{EntersNext, NextRoot, Growth, nothing, enters, nextRoot}
 use Rattle.network.proofs.Grown.{IsLowest, lowest-none, lowest-some, firstOut-some}
 use Rattle.network.proofs.Shortest.{never}
-use Rattle.network.proofs.Count.{unique, of-marks, in-marks, size}
+use Rattle.network.proofs.Count.{unique}
+use Rattle.network.proofs.Marks.{of-marks, in-marks, size}
 use Rattle.network.proofs.Without.{lowest-first}
 
 -- ---- the candidate that enters

@@ -7,8 +7,8 @@ use mathlib.Core.Option.{Option, none, some}
 use Rattle.network.specs.Standing.{Line}
 use Rattle.network.specs.Tree.{Entry, Tree, distance}
 use Rattle.network.specs.Closing.{closersAt, justLines, closing}
-use Rattle.network.specs.Walk.{Pass, Walk, here}
-use Rattle.network.proofs.Grown.{Ends, along, against, score-of, After, new, old, after, ends-to, ByLine, Grown, empty, byLine, byRoot, isNew}
+use Rattle.network.specs.Walk.{Pass, Walk, here, Ends, along, against}
+use Rattle.network.proofs.Grown.{score-of, After, new, old, after, ends-to, ByLine, Grown, empty, byLine, byRoot, isNew}
 use Rattle.network.proofs.Shortest.{never, turn, wasOut}
 use Rattle.network.proofs.Closers.{InTree, closer-ends, of-closers}
 use Rattle.network.proofs.Walks.{walk-append, Way, way-back, over}

@@ -10,7 +10,8 @@ use lib.ListN.{length}
 use Rattle.network.specs.Standing.{Line}
 use Rattle.network.specs.Sound.{Placed}
 use Rattle.network.specs.Tree.{Entry, Tree, distance, grow, upTo, marks, tree}
-use Rattle.network.proofs.Grown.{Ends, along, against, After, new, old, after, Grown, isNew, grown, Stepped, line, root, stop, stepped}
+use Rattle.network.proofs.Grown.{After, new, old, after, Grown, isNew, grown, Stepped, line, root, stop, stepped}
+use Rattle.network.specs.Walk.{Ends, along, against}
 
 -- ---- b steps are enough
 

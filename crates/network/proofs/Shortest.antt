@@ -7,10 +7,9 @@ use mathlib.Core.List.{List, [], _∷_, List·Memᴰ}
 use mathlib.Core.Option.{Option, none, some, Option·some-injective, Option·some-ne-none}
 use Rattle.network.specs.Standing.{Line}
 use Rattle.network.specs.Tree.{Entry, Tree, distance, score}
-use Rattle.network.specs.Path.{Pass, start, stop, end}
-use Rattle.network.specs.Path.{wayLength}
-pub use Rattle.network.specs.Walk.{Walk, here, step}
-use Rattle.network.proofs.Grown.{Ends, along, against, score-of, After, new, old, after, ByLine, Grown, empty, byLine, byRoot, isNew}
+use Rattle.network.specs.Path.{Pass, start, stop, end, wayLength}
+use Rattle.network.specs.Walk.{Walk, here, step, Ends, along, against}
+use Rattle.network.proofs.Grown.{score-of, After, new, old, after, ByLine, Grown, empty, byLine, byRoot, isNew}
 
 -- the distance of the mark that entered last
 abbrev pub last : Tree → ℕ

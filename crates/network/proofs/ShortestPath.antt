@@ -11,7 +11,7 @@ use Rattle.network.specs.Walk.{Ends, Pass, start, stop, wayLength, Walk,
 use Rattle.network.specs.Path.{shortest}
 use Rattle.network.proofs.Shortest.{endsOf, turn}
 use Rattle.network.proofs.Count.{unique}
-use Rattle.network.proofs.Enough.{is-shortest, shortest-unique}
+use Rattle.network.proofs.Enough.{is-shortest}
 use Rattle.network.proofs.Flow.{ends-two}
 use Rattle.network.proofs.Walks.{walk-wider}
 
@@ -100,10 +100,6 @@ module _ (b : ℕ) (sub : List Line) (sound : Sound b sub) where
   -- `shortest` is the shortest path, wherever there is a walk at all
   pub shortest-is-shortest : (u r : ℕ) → 0 < r → r ≤ b → {w : List Pass} → Walk sub r u w → IsShortest sub r u (shortest b sub u r)
   shortest-is-shortest u r low high w = is-shortest b sub (sound .placed) (sound-long sound) r low high (sound .rising) u w
-
-  -- and nothing else is
-  pub only-shortest : (u r : ℕ) → 0 < r → r ≤ b → {p : List Pass} → IsShortest sub r u p → p ≡ shortest b sub u r
-  only-shortest u r low high x = shortest-unique x (shortest-is-shortest u r low high (x .isWalk))
 
   -- it comes through no mark twice
   pub shortest-no-mark-twice : {u r : ℕ} {p : List Pass} → IsShortest sub r u p → AllDifferent (marksOn u p)

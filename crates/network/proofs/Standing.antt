@@ -7,7 +7,7 @@ use lib.IntN.{ℤ, pos, negsuc, natAbs}
 use lib.ListN.{length, drop, getD}
 use lib.Seq.{drop-cons}
 use Rattle.network.specs.Standing.{Line, line, keep, standingFrom, standing}
-use Rattle.network.proofs.Descent.{Rising, none-left, then}
+use Rattle.network.specs.Sound.{Rising, none-left, then}
 
 -- what stands from line k on has numbers from k on
 pub from-on : (k : ℕ) (book : List ℤ) (l : Line) → List·Memᴰ l (standingFrom k book) → k ≤ l .number

@@ -9,8 +9,8 @@ use lib.Dec.{eqb}
 use borrow.Author.Tests.{eqb-true, eq-eqb}
 use Rattle.network.specs.Standing.{Line}
 use Rattle.network.specs.Sound.{Rising, none-left, then}
-use Rattle.network.specs.Tree.{Tree, distance, grow, treeLines, lines1}
-use Rattle.network.specs.Path.{Pass, stop, orZero, descent, onward, descend, shortest}
+use Rattle.network.specs.Tree.{Tree, treeLines, lines1}
+use Rattle.network.specs.Path.{Pass, stop, descent, onward, descend}
 use Rattle.network.specs.Subgraph.{isIn, keepIf, only, numbers}
 use Rattle.network.proofs.Grown.{byOf}
 use Rattle.network.proofs.Descent.{found}
@@ -61,11 +61,6 @@ descend-in sub es (suc k) u p m = go (descent es u sub) refl m (descend-in sub e
     go none e i ih = absurd (List·Memᴰ·not-nil i)
     go (some q) e (List·Memᴰ·head x) ih = Memᴰ·cast (ap (λ (y : Pass). y .line) x) (found es u sub q e .isLine)
     go (some q) e (List·Memᴰ·tail i) ih = ih (stop q) p i
-
--- so the shortest path runs in the subgraph
-pub shortest-in : (b : ℕ) (sub : List Line) (u r : ℕ) (p : Pass) → List·Memᴰ p (shortest b sub u r) → List·Memᴰ (p .line) sub
-unfolding shortest
-shortest-in b sub u r p m = let es = grow sub (r ∷ []) b in descend-in sub es (orZero (distance es u)) u p m
 
 -- ---- numbers among numbers
 

@@ -4,8 +4,7 @@ use mathlib.Core.Path.{_≡_, refl, sym, _∙_, subst}
 use mathlib.Core.Bool.{Bool, true, false, not}
 use mathlib.Core.List.{List, [], _∷_, _++_, List·Memᴰ}
 use Rattle.network.specs.Standing.{Line}
-use Rattle.network.specs.Walk.{Pass, pass, end, start, stop, Walk, here, step}
-use Rattle.network.proofs.Grown.{Ends, along, against}
+use Rattle.network.specs.Walk.{Pass, pass, end, start, stop, Walk, here, step, Ends, along, against}
 
 -- one walk after the other
 pub walk-append : {ls : List Line} {r u v : ℕ} {w w′ : List Pass} → Walk ls v u w → Walk ls r v w′ → Walk ls r u (w ++ w′)

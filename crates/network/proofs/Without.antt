@@ -15,7 +15,7 @@ use Rattle.network.specs.Subgraph.{keepIf}
 unfoldable pub use Rattle.network.specs.Without.{without}
 use Rattle.network.proofs.Grown.{lowest-none, lowest-some, IsLowest, lineOf, scoreOf}
 use Rattle.network.proofs.Shortest.{never, same}
-use Rattle.network.proofs.Descent.{Rising, then}
+use Rattle.network.specs.Sound.{Rising, then}
 
 -- ---- then the lowest number
 

@@ -1,18 +1,18 @@
 -- The lines of the report are put as the loops take their turns. Assumes nothing.
-use Prim.Native.Nat.{ℕ, suc, _+_, _*_, _-_, _/_, _≤_, _<_}
+use Prim.Native.Nat.{ℕ, suc, _+_, _-_, _≤_, _<_}
 use native.Mathlib.Omega.{arith}
-use mathlib.Core.Path.{_≡_, refl, sym, _∙_, ap, ap₂, subst}
+use mathlib.Core.Path.{_≡_, refl, sym, _∙_, ap, subst}
 use mathlib.Core.Bool.{true}
 use mathlib.Core.List.{List, [], _∷_, _++_, map, append-assoc, append-nil}
 use lib.IntN.{ℤ, pos}
-use lib.ListN.{length, getD, take, drop, length-append, length-map}
+use lib.ListN.{length, getD, take, drop}
 use lib.Seq.{take-at}
 use Rattle.network.specs.Standing.{standing}
-use Rattle.network.specs.Path.{Pass, pass, wayLength}
+use Rattle.network.specs.Path.{pass}
 use Rattle.loops.specs.Loops.{Loop, loops}
-use Rattle.loops.specs.Row.{listed, misclosure, verdict, row}
-use Rattle.subgraph.specs.Turn.{Going, Taken}
-use Rattle.rows.specs.Sums.{RowAsked, rowOf}
+use Rattle.loops.specs.Row.{listed, row}
+use Rattle.subgraph.specs.Turn.{Taken}
+use Rattle.rows.specs.Sums.{rowOf}
 use Rattle.rows.specs.Turns.{Tables, Due, TurnDone}
 use Rattle.subgraph.proofs.Turns.{going-none, going-all}
 use Rattle.rows.proofs.Turning.{due, turn-done}

@@ -1,5 +1,4 @@
 // The report of a tested book, worked out in tables on the stack.
-ghost use mathlib.Core.Path.{_≡_};
 ghost use Rattle.survey.specs.GoodLines.{GoodLines};
 ghost use Rattle.survey.specs.Desk.{Desk};
 ghost use Rattle.lists.specs.NotChecked.{uncheckedOf};

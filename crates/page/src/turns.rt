@@ -1,5 +1,4 @@
 // The lines of the loops, put as the loops take their turns: each loop is worked out once.
-ghost use mathlib.Core.Path.{_≡_};
 ghost use Prim.Native.Nat.{_+_, _-_};
 ghost use Rattle.network.specs.Standing.{standing};
 ghost use Rattle.loops.specs.Loops.{loops};

@@ -9,8 +9,9 @@ use Rattle.network.specs.Standing.{Line, standing}
 use Rattle.network.specs.Tree.{tree, treeLines, pieces}
 use Rattle.network.specs.Closing.{closing}
 use Rattle.network.specs.Subgraph.{numbers}
-use Rattle.network.proofs.Descent.{Rising, then}
-use Rattle.network.proofs.Count.{Placed, tree-and-roots, size, closing-count}
+use Rattle.network.specs.Sound.{Rising, then, Placed}
+use Rattle.network.proofs.Count.{tree-and-roots, closing-count}
+use Rattle.network.proofs.Marks.{size}
 use Rattle.loops.proofs.Count.{loops-count}
 use Rattle.chains.specs.Listed.{Listed}
 use Rattle.closing.specs.Order.{Ready, Put}
@@ -18,7 +19,7 @@ use Rattle.closing.proofs.Members.{length-numbers}
 use Rattle.subgraph.specs.Drawn.{Plot, TreeDrawn}
 use Rattle.subgraph.proofs.Turns.{going-start, queue-start}
 use Rattle.draw.specs.Book.{Sheet}
-use Rattle.prepare.specs.Prepared.{Good, Chained, Soil, Seats, BookPlanted, Orders, Started}
+use Rattle.prepare.specs.Prepared.{Good, Chained, Seats, BookPlanted, Orders, Started}
 
 pub sheet-of : {n : ℕ} {ls : List ℤ} {tip long head next fars add : List ℕ} → Good n ls → Chained n ls tip long head next fars add → Sheet n ls tip long head next fars add
 sheet-of g c = record {

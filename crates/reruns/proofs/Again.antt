@@ -4,7 +4,7 @@ use native.Mathlib.Omega.{arith}
 use native.Mathlib.Decide.{ℕ-discrete}
 use mathlib.Core.Path.{_≡_, refl, sym, _∙_, ap, ap₂, subst}
 use mathlib.Core.Bool.{true}
-use mathlib.Core.List.{List, [], _∷_, _++_, map, List·Memᴰ, Memᴰ·map, Memᴰ·of-map, append-nil, append-assoc}
+use mathlib.Core.List.{List, [], _∷_, _++_, map, List·Memᴰ, Memᴰ·map, Memᴰ·of-map}
 use lib.IntN.{ℤ, pos, natAbs}
 use lib.ListN.{length, getD, take, drop, set, length-set, length-map}
 use lib.Seq.{getD-set-same, getD-set-other}
@@ -26,7 +26,7 @@ use Rattle.rows.specs.Sums.{rowOf, Gentle, HalfOk, RowAsked, steepest}
 use Rattle.rows.specs.Turns.{Tables, Due, RowsAsked}
 use Rattle.reruns.specs.Again.{Again, BothDone, BothTaken, BothAt}
 use Rattle.rows.proofs.Passes.{row-is}
-use Rattle.rows.proofs.Turning.{rows-more, length-rows, due, rows-start, rows-next, rows-end, turn-line, lines-of, spelt, path-of, row-done}
+use Rattle.rows.proofs.Turning.{rows-more, length-rows, due, rows-start, rows-next, turn-line, lines-of, spelt, path-of, row-done}
 
 -- ---- the tables are those of the book with lines measured again
 
@@ -68,9 +68,6 @@ module _ (g : Line → ℤ) (lines : List Line) (n q : ℕ) (tip long : List ℕ
       }
 
 module _ {ls again : List ℤ} (r : Again ls again) where
-  abbrev anew : Pass → Pass
-  anew p = redonePass (suc (r .i)) (r .value) p
-
   pub lines-again : standing again ≡ redone (suc (r .i)) (r .value) (standing ls)
   lines-again = ap standing (r .is) ∙ rerun-sets-difference ls (r .i) (r .value) (r .there)
 

@@ -1,13 +1,12 @@
 -- Rows written twice, as the loops take their turns: of a book, and of the same book with one line run again. Nothing of tree, closing lines and paths
 -- reads a difference, so that one turn serves both. Assumes nothing.
-use Prim.Native.Nat.{ℕ, suc, _+_, _*_, _-_, _≤_}
+use Prim.Native.Nat.{ℕ, suc, _*_, _≤_}
 use mathlib.Core.Path.{_≡_}
 use mathlib.Core.List.{List, _++_, map}
 use lib.IntN.{ℤ, natAbs}
-use lib.ListN.{length, drop, set}
+use lib.ListN.{drop, set}
 use Rattle.network.specs.Field.{place, differenceField, HasLine}
 use Rattle.network.specs.Redone.{redonePass}
-use Rattle.loops.specs.Loops.{Loop}
 use Rattle.loops.specs.Row.{row, rows}
 use Rattle.rows.specs.Sums.{steepest}
 use Rattle.rows.specs.Turns.{Due, RowDone, RowsAt}

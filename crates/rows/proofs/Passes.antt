@@ -8,7 +8,7 @@ use mathlib.Core.List.{List, [], _∷_, List·Memᴰ, List·Memᴰ·head, List·
 use mathlib.Core.Option.{Option, none, some}
 use lib.IntN.{ℤ, pos, negsuc, natAbs, negℤ, _+ℤ_}
 use lib.ListN.{length, getD, take, drop}
-use lib.Seq.{sets, sets-eq, take-at}
+use lib.Seq.{sets-eq, take-at}
 use lib.Dec.{eqb, leb}
 use borrow.Author.Tests.{eq-eqb, ne-eqb}
 use Rattle.network.specs.Standing.{Line, line, keep, standingFrom, standing}
@@ -17,7 +17,7 @@ use Rattle.network.specs.Path.{Pass, pass, stop, wayLength, descent, onward, de
 use Rattle.network.proofs.Descent.{found}
 use Rattle.loops.specs.Loops.{Loop}
 use Rattle.loops.specs.Row.{signed, misclosure, lineAllows, allowances, total, within, verdict, row}
-use Rattle.chains.specs.Chains.{codeOf, codes, halves}
+use Rattle.chains.specs.Chains.{codeOf, codes}
 use Rattle.chains.specs.Listed.{Listed}
 use Rattle.search.specs.Front.{Written}
 use Rattle.rows.specs.Sums.{lengthOf, riseAt, riseOf, verdictOf, rowOf, HalfOk}

@@ -5,7 +5,7 @@ use mathlib.Core.Path.{_≡_, refl, sym, _∙_, ap, ap₂, subst}
 use mathlib.Core.Bool.{true}
 use mathlib.Core.List.{List, [], _∷_, _++_, List·Memᴰ, append-assoc, append-nil}
 use lib.IntN.{ℤ}
-use lib.ListN.{length, getD, take, drop, length-append}
+use lib.ListN.{length, getD, take, drop}
 use lib.Seq.{length-sets, getD-take}
 use borrow.Rule.Slice.PartMut.{putMid}
 use Rattle.network.specs.Standing.{standing}
@@ -13,7 +13,7 @@ use Rattle.network.specs.Path.{Pass, pass, shortest}
 use Rattle.network.specs.Subgraph.{only}
 use Rattle.loops.specs.Loops.{Loop, loops}
 use Rattle.loops.specs.Row.{row, rows}
-use Rattle.loops.proofs.Basis.{of-only}
+use Rattle.network.proofs.Subgraph.{of-only}
 use Rattle.loops.proofs.Row.{rows-length}
 use Rattle.chains.specs.Chains.{codes}
 use Rattle.search.specs.Front.{Rooms, Written}

@@ -12,7 +12,6 @@ use Rattle.loops.specs.Row.{row, rows}
 use Rattle.nearest.specs.Heap.{leafLimit}
 use Rattle.chains.specs.Chains.{Tips, codes, numberLimit}
 use Rattle.chains.specs.Listed.{Longs, Listed}
-use Rattle.search.specs.Front.{Rooms}
 use Rattle.subgraph.specs.Turn.{Going}
 use Rattle.rows.specs.Sums.{Gentle, rowOf, loosest}
 

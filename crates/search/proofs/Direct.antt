@@ -1,12 +1,12 @@
 -- Where the least line at a mark leads to the mark that is asked for, it is the whole path: it is the first to enter. Assumes nothing.
-use Prim.Native.Nat.{ℕ, zero, suc, _+_, _*_, _-_, _/_, _%_, _≤_, _<_}
+use Prim.Native.Nat.{ℕ, suc, _+_, _*_, _-_, _%_, _≤_, _<_}
 use native.Mathlib.Omega.{arith}
 use native.Mathlib.Nat.{zero-add}
 use native.Mathlib.Decide.{ℕ-discrete}
 use mathlib.Core.Path.{_≡_, refl, sym, _∙_, ap, subst}
 use mathlib.Core.Logic.{_⊎_, inl, inr}
 use mathlib.Core.List.{List, [], _∷_, List·Memᴰ}
-use mathlib.Core.Option.{Option, none, some}
+use mathlib.Core.Option.{none, some}
 use lib.ListN.{length, getD, set}
 use lib.Seq.{sets}
 use Rattle.network.specs.Standing.{Line}
@@ -15,9 +15,9 @@ use Rattle.network.specs.Path.{Pass, shortest}
 use Rattle.network.proofs.Grown.{Scored, scored, score-of, After, new, old, after}
 use Rattle.network.proofs.Shortest.{same, never}
 use Rattle.nearest.specs.Heap.{far, Lesser}
-use Rattle.chains.specs.Chains.{Half, On, here, later, Has, Node, Nodes, Given, codes, flip, halves}
-use Rattle.chains.proofs.Halves.{half-ends, ends-half, half-low, half-no, half-ok, half-low-end, half-flip, on-zero, on-split}
-use Rattle.search.specs.Front.{limit, Two, back, viaOf, lineage, Written}
+use Rattle.chains.specs.Chains.{Half, On, here, later, Node, Given, codes, flip, halves}
+use Rattle.chains.proofs.Halves.{half-ends, ends-half, half-low, half-no, half-low-end, half-flip, on-zero, on-split}
+use Rattle.search.specs.Front.{limit, Two, back, lineage, Written}
 use Rattle.search.specs.Direct.{Sum, LeastSum, Direct}
 use Rattle.search.proofs.Enter.{lowest-is, far-half, step-some}
 use Rattle.search.proofs.Searched.{at-one}

@@ -1,5 +1,5 @@
 -- The state of a search, mark by mark. Assumes nothing.
-use Prim.Native.Nat.{ℕ, _+_, _*_, _-_, _%_, _≤_, _<_}
+use Prim.Native.Nat.{ℕ, _+_, _*_, _%_, _≤_, _<_}
 use native.Mathlib.Omega.{arith}
 use native.Mathlib.Decide.{ℕ-discrete}
 use mathlib.Core.Path.{_≡_, refl, sym, _∙_, ap, ap₂, subst}
@@ -10,9 +10,9 @@ use lib.ListN.{getD}
 use borrow.Author.Tests.{eq-eqb, ne-eqb}
 use Rattle.network.specs.Standing.{Line}
 use Rattle.network.specs.Tree.{Entry, entry, Tree, Candidate, candidate, distance, score, far, lowest, next, step}
-use Rattle.network.proofs.Grown.{scored, score-of, After, new, old, after, keeps, IsLowest, lowest-none, lowest-some, line}
+use Rattle.network.proofs.Grown.{scored, score-of, After, new, old, after, keeps, IsLowest, lowest-none, lowest-some}
 use Rattle.network.proofs.Shortest.{same, never}
-use Rattle.network.proofs.Descent.{Rising}
+use Rattle.network.specs.Sound.{Rising}
 use Rattle.network.proofs.Without.{lowest-first}
 use Rattle.nearest.specs.Heap.{Heap, Changed}
 use Rattle.nearest.specs.Heap as hp

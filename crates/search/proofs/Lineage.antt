@@ -1,5 +1,5 @@
 -- The way back by the lines by which marks came in is the shortest path of the definition. Assumes nothing.
-use Prim.Native.Nat.{ℕ, zero, suc, _-_, _≤_}
+use Prim.Native.Nat.{ℕ, zero, suc, _≤_}
 use native.Mathlib.Omega.{arith}
 use mathlib.Core.Path.{_≡_, refl, sym, _∙_, ap, subst}
 use mathlib.Core.Bool.{Bool, true, false}
@@ -10,9 +10,9 @@ use lib.Dec.{eqb}
 use borrow.Author.Tests.{eq-eqb, ne-eqb}
 use Rattle.network.specs.Standing.{Line}
 use Rattle.network.specs.Tree.{Entry, Tree, distance, grow}
-use Rattle.network.specs.Path.{Pass, start, shortest}
-use Rattle.network.specs.Path as path
-use Rattle.network.proofs.Grown.{Ends, along, against, After, new, old, after, keeps, Stepped, line, root, stepped, isNew}
+use Rattle.network.specs.Path.{Pass}
+use Rattle.network.proofs.Grown.{After, new, old, after, keeps, Stepped, line, root, stepped, isNew}
+use Rattle.network.specs.Walk.{Ends, along, against}
 use Rattle.network.proofs.Grown as gr
 use Rattle.network.proofs.Shortest.{never}
 use Rattle.chains.specs.Chains.{Half, fore, aft, flip, codeOf, Sound, AllSound}
@@ -37,10 +37,6 @@ other-half l u m h s (aft p q e) = rw (eq-eqb (l .from) m q) p
 pub code-half : {n : ℕ} (l : Line) (u m h : ℕ) → Sound n l → Half l u m h → codeOf (back l m .forward) (back l m .line .number) ≡ flip h
 code-half l u m h s (fore p q e) = rw (ne-eqb (l .from) m (λ z. s .apart (z ∙ sym q))) (omega arith)
 code-half l u m h s (aft p q e) = rw (eq-eqb (l .from) m q) (omega arith)
-
--- two halves into one mark start at one mark
-half-one : {n : ℕ} (l : Line) (u w m h g : ℕ) → Sound n l → Half l u m h → Half l w m g → u ≡ w
-half-one l u w m h g s a b = sym (other-half l u m h s a) ∙ other-half l w m g s b
 
 ends-one : {n : ℕ} (l : Line) (u w m : ℕ) → Sound n l → Ends l u m → Ends l w m → u ≡ w
 ends-one l u w m s (along p q) (along p′ q′) = sym p ∙ p′

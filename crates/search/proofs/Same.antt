@@ -12,10 +12,13 @@ use Rattle.network.specs.Standing.{Line}
 use Rattle.network.specs.Tree.{Entry, entry, Tree, Candidate, distance, score, far, lowest, firstOut, step, grow}
 use Rattle.network.specs.Tree as tr
 use Rattle.network.specs.Path.{Pass, start, stop, down, descent, onward, descend, orZero, shortest}
-use Rattle.network.proofs.Grown.{Ends, Scored, scored, score-of, After, new, old, after, keeps, lowest-some, firstOut-some, grown, Stepped, line, root, stepped, isNew}
+use Rattle.network.proofs.Grown.{Scored, scored, score-of, After, new, old, after, keeps, lowest-some, firstOut-some, grown, Stepped, line, root, stepped, isNew}
+use Rattle.network.specs.Walk.{Ends}
+use Rattle.network.specs.Walk as walk
 use Rattle.network.proofs.Grown as gr
 use Rattle.network.proofs.Shortest.{same, never, turn, last, rising, endsOf}
-use Rattle.network.proofs.Descent.{Rising, Long, Down, down-true, down-of, Found, found, none-found, first-found}
+use Rattle.network.proofs.Descent.{Down, down-true, down-of, Found, found, none-found, first-found}
+use Rattle.network.specs.Sound.{Rising, Long}
 use Rattle.network.proofs.Without.{lowest-first}
 use Rattle.chains.specs.Chains.{Sound, AllSound}
 use Rattle.search.specs.Front.{back, backOf, otherOf, viaOf, lineage}
@@ -32,8 +35,8 @@ pub record Runs (l : Line) (m u : ℕ) : Type 0 where
   pub ends : stop (back l m) ≡ u
 
 runs : {n : ℕ} (l : Line) (m u : ℕ) → Sound n l → Ends l u m → Runs l m u
-runs l m u s (gr.along p q) = let e : eqb (l .from) m ≡ false = ne-eqb (l .from) m (λ z. s .apart (z ∙ sym q)) in record { its = rw e; begins = rw e q; ends = rw e p }
-runs l m u s (gr.against p q) = let e : eqb (l .from) m ≡ true = eq-eqb (l .from) m q in record { its = rw e; begins = rw e q; ends = rw e p }
+runs l m u s (walk.along p q) = let e : eqb (l .from) m ≡ false = ne-eqb (l .from) m (λ z. s .apart (z ∙ sym q)) in record { its = rw e; begins = rw e q; ends = rw e p }
+runs l m u s (walk.against p q) = let e : eqb (l .from) m ≡ true = eq-eqb (l .from) m q in record { its = rw e; begins = rw e q; ends = rw e p }
 
 module _ (n : ℕ) (sub : List Line) (sound : AllSound n sub) (ris : Rising sub) (r : ℕ) where
   abbrev at : ℕ → Tree

@@ -1,5 +1,5 @@
 -- What a search does and leaves. Assumes nothing.
-use Prim.Native.Nat.{ℕ, zero, suc, _+_, _*_, _-_, _/_, _%_, _≤_, _<_}
+use Prim.Native.Nat.{ℕ, _+_, _*_, _-_, _/_, _%_, _≤_, _<_}
 use mathlib.Core.Path.{_≡_}
 use mathlib.Core.Bool.{Bool, true, false}
 use mathlib.Core.List.{List, [], _∷_, List·Memᴰ}
@@ -9,10 +9,9 @@ use lib.ListN.{length, getD, set}
 use lib.Seq.{sets}
 use lib.Dec.{eqb}
 use Rattle.network.specs.Standing.{Line}
-use Rattle.network.specs.Tree.{Entry, Tree, distance, grow}
+use Rattle.network.specs.Tree.{Tree, distance, grow}
 use Rattle.network.specs.Path.{Pass, pass, shortest}
-use Rattle.network.proofs.Descent.{Rising}
-use Rattle.chains.specs.Chains.{Half, flip, codes, On, Has, Nodes, Heads, Tips, Chains, AllSound, Given, halves, least}
+use Rattle.chains.specs.Chains.{Half, flip, codes, On, Has, Nodes, Heads, Tips, Given, halves, least}
 use Rattle.nearest.specs.Heap.{far, Heap, Changed, leafLimit}
 
 -- ---- what `offer` and `relax` do, with no word of lines

@@ -1,8 +1,6 @@
 // A search by distance from one mark over chains of nodes. A key is a distance and the half that leads there in one number, distance * HALVES + half,
 // so that one test compares distance and then line number.
-ghost use mathlib.Core.Path.{_≡_};
 ghost use Prim.Native.Nat.{_+_, _*_, _<_, _≤_};
-ghost use lib.ListN.{length, getD};
 ghost use Rattle.chains.specs.Chains.{Nodes, Heads, Tips};
 ghost use Rattle.search.specs.Direct.{LeastSum, Direct};
 ghost use Rattle.search.specs.Front.{limit, Stage, Offered, Relaxed, Room, Rooms, Two, Begun, Turned, Searched, Leads, Walked, Held, Pathed};

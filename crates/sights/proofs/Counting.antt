@@ -8,7 +8,7 @@ use mathlib.Core.Bool.{Bool, true, false}
 use lib.Dec.{eqb}
 use lib.ListN.{length}
 use borrow.Author.Tests.{eqb-true, ne-eqb}
-use Rattle.network.specs.Standing.{Line, line}
+use Rattle.network.specs.Standing.{Line}
 use Rattle.sights.specs.Sights.{Sight, sightIf, sightsOf}
 use Rattle.sights.specs.Table.{taken}
 use Rattle.fields.proofs.Fair.{Fairs, no-line, and-line}

@@ -11,7 +11,7 @@ use lib.IntN.{ℤ, pos, natAbs, negℤ}
 use borrow.Author.Tests.{eqb-true, eqb-false, eq-eqb, ne-eqb}
 use Rattle.laws.specs.Tests.{eqZ}
 use Rattle.book.specs.Line.{fromAt, toAt, differenceAt, lengthAt, standingAt}
-use Rattle.network.specs.Standing.{line, standingFrom, standing}
+use Rattle.network.specs.Standing.{standingFrom, standing}
 use Rattle.fields.specs.Places.{standsFrom, Place, Lines}
 use Rattle.divisions.specs.Weight.{weightOf}
 use Rattle.sights.specs.Sights.{sight, sightsOf}

@@ -13,7 +13,7 @@ use Rattle.laws.specs.Tests.{eqZ}
 use Rattle.laws.specs.Scan.{firstFrom, firstBad}
 use Rattle.book.specs.Line.{fromAt, toAt, differenceAt, standingAt}
 use Rattle.network.specs.Standing.{Line, standingFrom, standing}
-use Rattle.network.specs.Tree.{Entry, Tree, tree}
+use Rattle.network.specs.Tree.{Entry, Tree}
 use Rattle.fields.specs.Places.{standsFrom, Lines}
 use Rattle.start.specs.Start.{Rooted, up, down, enters, rootedBy, rootHeight}
 use Rattle.start.specs.Along.{Entered, none-yet, by-root, by-line, sideOf, cameIn, rooting}

@@ -1,6 +1,6 @@
 -- The lowest held mark of a piece gives its root a height.
 -- Assumes nothing.
-use Prim.Native.Nat.{ℕ, zero, suc, _+_, _-_, _≤_, _<_, zero-le}
+use Prim.Native.Nat.{ℕ, suc, _+_, _-_, _≤_, _<_, zero-le}
 use native.Mathlib.Numerals.{add-one}
 use native.Mathlib.Omega.{arith}
 use mathlib.Core.Path.{_≡_, refl, sym, _∙_, ap}
@@ -63,9 +63,6 @@ module _ (flags : List Bool) (own : List ℤ) (root : List ℕ) (over : List ℤ
 
     root-low : 0 < getD root v 0
     root-low = known .spotted .marks v l .0
-
-    root-high : getD root v 0 ≤ b
-    root-high = known .spotted .marks v l .1
 
     value : z ≡ getD own v (pos 0) -ℤ spots root over (suc v) .over
     value = ez ∙ ap (λ (s : Rooted). getD own v (pos 0) -ℤ s .over) (sym spot-here)

@@ -20,7 +20,7 @@ use Rattle.fields.specs.Places.{Lines}
 use Rattle.fields.specs.Heights.{Working}
 use Rattle.start.specs.Start.{Rooted, up, down, isSome, rootHeight, rootOf, unheldPiece, along, own, startOf}
 use Rattle.start.specs.Along.{sideOf, cameIn, rooting, spots, Placing, optional, Given, gives, rootsFrom, mostRoot, unheld, startAt}
-use Rattle.fields.proofs.Setting.{place, past-end}
+use Rattle.fields.proofs.Setting.{past-end}
 use Rattle.start.proofs.Lifting.{free-mark, held-here, held-elsewhere}
 use Rattle.start.proofs.Joining.{root-same, first-same}
 

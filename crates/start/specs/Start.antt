@@ -10,7 +10,6 @@ use lib.IntN.{ℤ, pos, natAbs, _+ℤ_, _-ℤ_}
 use Rattle.laws.specs.Scan.{firstBad}
 use Rattle.network.specs.Standing.{Line, standing}
 use Rattle.network.specs.Tree.{Tree, tree}
-use Rattle.fields.specs.Heights.{height}
 
 -- "A held entry is two: mark, height." The held height of mark m, if it is held
 unfoldable pub heldHeight : List ℤ → ℕ → Option ℤ

@@ -10,7 +10,7 @@ use lib.ListN.{length, getD, length-append}
 use Rattle.network.specs.Standing.{Line}
 use Rattle.network.specs.Tree.{Tree, grow, marks, tree, treeLines, lines1}
 use Rattle.network.specs.Subgraph.{only, numbers}
-use Rattle.loops.proofs.Basis.{in-only, nos-isIn}
+use Rattle.network.proofs.Subgraph.{in-only, nos-isIn}
 use Rattle.chains.specs.Chains.{Half, fore, aft, Nodes, Heads, Chains, halves}
 use Rattle.chains.specs.Link.{Wider}
 use Rattle.chains.specs.Listed.{Listed}

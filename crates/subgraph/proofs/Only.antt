@@ -8,9 +8,9 @@ use lib.Dec.{eqb}
 use borrow.Author.Tests.{eq-eqb, eqb-true}
 use Rattle.network.specs.Standing.{Line}
 use Rattle.network.specs.Subgraph.{isIn, only, numbers}
-use Rattle.network.proofs.Descent.{Rising}
+use Rattle.network.specs.Sound.{Rising}
 use Rattle.network.proofs.Count.{unique}
-use Rattle.loops.proofs.Basis.{of-only, isIn-numbers}
+use Rattle.network.proofs.Subgraph.{of-only, isIn-numbers}
 
 pub in-more : (n m : ℕ) (ms : List ℕ) → isIn n ms ≡ true → isIn n (m ∷ ms) ≡ true
 unfolding isIn

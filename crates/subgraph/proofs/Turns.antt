@@ -13,10 +13,12 @@ use Rattle.network.specs.Tree.{tree, treeLines}
 use Rattle.network.specs.Closing.{closing}
 use Rattle.network.specs.Path.{Pass, pass, shortest}
 use Rattle.network.specs.Subgraph.{isIn, only, numbers}
-use Rattle.network.proofs.Count.{unique, Placed, tree-and-roots, size, grows, closing-count}
+use Rattle.network.proofs.Count.{unique, tree-and-roots, closing-count}
+use Rattle.network.specs.Sound.{Placed}
+use Rattle.network.proofs.Marks.{size, grows}
 use Rattle.network.proofs.Closers.{closing-line}
 use Rattle.loops.specs.Loops.{Loop, added, loopsFrom, loops}
-use Rattle.loops.proofs.Basis.{in-only, of-only, rising-only}
+use Rattle.network.proofs.Subgraph.{in-only, of-only, rising-only}
 use Rattle.chains.specs.Chains.{fore, aft, Tips, Given, numberLimit}
 use Rattle.chains.specs.Link.{Places, Wider}
 use Rattle.chains.specs.Listed.{Listed}
@@ -134,10 +136,6 @@ reached-next b lines done c rest sub r = record {
   all = r .all ∙ sym (append-assoc done ((pass c true ∷ shortest b (only sub lines) (c .to) (c .from)) ∷ []) (loopsFrom b lines rest (added (c .number) (shortest b (only sub lines) (c .to) (c .from)) sub)));
   lines-left = λ k i. r .lines-left k (List·Memᴰ·tail i);
 }
-
-pub reached-end : (b : ℕ) (lines : List Line) (done : List Loop) (sub : List ℕ) → Reached b lines done [] sub → loops b lines ≡ done ++ []
-unfolding loopsFrom
-reached-end b lines done sub r = r .all
 
 -- ---- the closing lines that are left stand in the array
 

@@ -6,9 +6,9 @@ use lib.ListN.{length, getD}
 use Rattle.network.specs.Standing.{Line}
 use Rattle.network.specs.Tree.{tree, treeLines}
 use Rattle.network.specs.Subgraph.{only, numbers}
-use Rattle.chains.specs.Chains.{Nodes, Heads, Tips, Chains, halves, numberLimit}
+use Rattle.chains.specs.Chains.{Nodes, Heads, Chains, halves}
 use Rattle.chains.specs.Link.{Added}
-use Rattle.chains.specs.Listed.{Longs, Listed}
+use Rattle.chains.specs.Listed.{Listed}
 use Rattle.tree.specs.Plant.{Holding, Below}
 
 -- the chains hold those of the lines whose numbers are among sub

@@ -1,17 +1,15 @@
 -- One loop's turn, and how far the turns have come. Document 01, "Loops": "Closing lines are taken in their order. A loop runs its closing line
 -- from its from end to its to end, then back by the shortest path in the subgraph .. A closing line whose path has one line is not added; any other is."
 -- Assumes nothing.
-use Prim.Native.Nat.{ℕ, suc, _+_, _*_, _-_, _≤_, _<_}
+use Prim.Native.Nat.{ℕ, suc, _+_, _*_, _-_, _≤_}
 use mathlib.Core.Path.{_≡_}
-use mathlib.Core.Bool.{true}
 use mathlib.Core.List.{List, [], _∷_, _++_, List·Memᴰ}
 use lib.ListN.{length, getD}
 use Rattle.network.specs.Standing.{Line}
-use Rattle.network.specs.Path.{pass, shortest}
+use Rattle.network.specs.Path.{shortest}
 use Rattle.network.specs.Subgraph.{only}
 use Rattle.loops.specs.Loops.{Loop, added, loopsFrom, loops}
 use Rattle.chains.specs.Chains.{Tips, numberLimit}
-use Rattle.chains.specs.Link.{Places}
 use Rattle.chains.specs.Listed.{Longs, Listed}
 use Rattle.search.specs.Front.{Rooms, Written}
 use Rattle.subgraph.specs.Drawn.{Drawn}

@@ -1,7 +1,5 @@
 // The subgraph of the loops: the tree with the closing lines added so far.
-ghost use mathlib.Core.Path.{_≡_};
-ghost use Prim.Native.Nat.{ℕ, _+_, _*_, _<_, _≤_};
-ghost use lib.ListN.{length, getD};
+ghost use Prim.Native.Nat.{ℕ, _+_, _*_, _<_};
 ghost use Rattle.chains.specs.Chains.{Tips, numberLimit};
 ghost use Rattle.chains.specs.Link.{Places};
 ghost use Rattle.chains.specs.Listed.{Longs};

@@ -1,12 +1,12 @@
 -- A tested book with one number of a standing line set: it stays good, and has no more rows.
 -- Assumes nothing.
-use mathlib.Core.Path.{_≡_, refl, sym, _∙_, ap, subst}
-use mathlib.Core.Bool.{Bool, true, false, _||_}
+use mathlib.Core.Path.{_≡_, refl, _∙_, ap}
+use mathlib.Core.Bool.{false}
 use mathlib.Core.List.{List, List·Memᴰ}
-use Prim.Native.Nat.{ℕ, suc, _+_, _*_, _-_, _/_, _≤_, _<_}
+use Prim.Native.Nat.{ℕ, suc, _+_, _*_, _-_, _≤_, _<_}
 use native.Mathlib.Decide.{ℕ-discrete}
 use native.Mathlib.Omega.{arith}
-use lib.ListN.{length, getD, set, length-set}
+use lib.ListN.{length, set, length-set}
 use lib.Seq.{getD-set-same, getD-set-other}
 use lib.IntN.{ℤ, pos, natAbs}
 use Rattle.laws.specs.Tests.{outZ, eqZ}
@@ -16,17 +16,15 @@ use Rattle.book.specs.Limits.{mostDifference}
 use Rattle.book.specs.Line.{field, differenceAt, standingAt, lineCount}
 use Rattle.book.specs.Good.{GoodLine}
 use Rattle.book.specs.declared.Book.{Book}
-use Rattle.network.specs.Standing.{Line, standing}
+use Rattle.network.specs.Standing.{standing}
 use Rattle.network.specs.Field.{HasLine, lineAt}
-use Rattle.network.specs.Without.{without}
 use Rattle.network.proofs.Corrected.{in-standing, withdrawal-sets-standing}
-use Rattle.loops.specs.Loops.{loops}
 use Rattle.loops.proofs.Withdrawal.{loops-never-grow}
 use Rattle.survey.specs.GoodLines.{GoodLines}
 use Rattle.survey.specs.Stands.{Stands}
-use Rattle.survey.specs.Report.{loopsOf, reportOf}
+use Rattle.survey.specs.Report.{loopsOf}
 use Rattle.survey.specs.Correction.{noLine, placeOf, rerunLines, withdrawLines}
-use Rattle.survey.proofs.Sounding.{lines-sound, report-length}
+use Rattle.survey.proofs.Sounding.{lines-sound}
 
 -- a line that is not refused stands
 pub stands-of : (lines : List ℤ) (number : ℤ) → noLine lines number ≡ false → Stands lines number (natAbs number - 1)

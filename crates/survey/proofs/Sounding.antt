@@ -3,7 +3,7 @@
 use native.Mathlib.Omega.{arith}
 use mathlib.Core.Path.{_≡_, sym, _∙_, ap, subst}
 use mathlib.Core.List.{List, [], _∷_, List·Memᴰ}
-use Prim.Native.Nat.{ℕ, zero, suc, _+_, _*_, _≤_}
+use Prim.Native.Nat.{ℕ, zero, suc, _*_, _≤_}
 use lib.IntN.{ℤ, pos, negsuc, natAbs}
 use lib.ListN.{length}
 use Rattle.laws.proofs.Size.{Between}
@@ -15,7 +15,6 @@ use Rattle.network.specs.Sound.{Sound}
 use Rattle.network.specs.Field.{HasLine}
 use Rattle.network.proofs.Corrected.{of-standing, standing-sound}
 use Rattle.network.proofs.Entries.{tree-lines-count}
-use Rattle.loops.specs.Loops.{loops}
 use Rattle.loops.proofs.EachLoop.{loops-are-counted}
 use Rattle.loops.proofs.Row.{rows-length}
 use Rattle.survey.specs.GoodLines.{GoodLines}

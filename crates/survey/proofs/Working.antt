@@ -2,9 +2,9 @@
 -- Assumes nothing.
 use Prim.Native.Nat.{ℕ, _+_, _*_, _-_, _/_, _≤_, _<_}
 use native.Mathlib.Omega.{arith}
-use mathlib.Core.Path.{_≡_, refl, sym, _∙_, ap, subst}
+use mathlib.Core.Path.{_≡_, sym, _∙_, ap, subst}
 use mathlib.Core.List.{List, _++_}
-use lib.IntN.{ℤ, pos}
+use lib.IntN.{ℤ}
 use lib.ListN.{length, drop}
 use borrow.Author.Tests.{lt-ltb, le-ltb}
 use Rattle.book.specs.Good.{GoodLine}
@@ -13,7 +13,7 @@ use Rattle.network.specs.Standing.{standing}
 use Rattle.network.specs.Tree.{tree, pieces}
 use Rattle.loops.specs.Loops.{loops}
 use Rattle.loops.specs.Row.{rows}
-use Rattle.search.specs.Front.{Room, Rooms}
+use Rattle.search.specs.Front.{Rooms}
 use Rattle.prepare.specs.Prepared.{Good, Chained, Soil, Seats, BookPlanted, Started}
 use Rattle.rows.specs.Turns.{Tables, NodesRoom}
 use Rattle.survey.specs.GoodLines.{GoodLines}

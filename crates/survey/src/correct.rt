@@ -1,15 +1,12 @@
 // Re-run and withdrawal of a line of a tested book.
 ghost use mathlib.Core.Path.{_≡_};
 ghost use Prim.Native.Nat.{_*_, _≤_};
-ghost use mathlib.Core.List.{_++_};
-ghost use lib.ListN.{length};
 ghost use Rattle.survey.specs.GoodLines.{GoodLines};
 ghost use lib.IntN.{natAbs};
 ghost use Rattle.book.specs.Limits.{mostDifference};
 ghost use Rattle.reruns.specs.Again.{Again};
 ghost use Rattle.survey.specs.Survey.{surveyed};
 ghost use Rattle.survey.specs.Kept.{keptOf, rerunKept, Refresh, Refreshed};
-ghost use Rattle.survey.specs.Report.{counted, reportOf};
 ghost use Rattle.survey.specs.Correction.{noLine, rerunLines, withdrawLines, corrected, correctGood};
 use crate::Answer;
 use crate::work;

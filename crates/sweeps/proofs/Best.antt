@@ -12,12 +12,12 @@ use lib.ListN.{length, length-set}
 use lib.IntN.{ℤ, pos, negsuc, natAbs, negℤ, _+ℤ_, _-ℤ_, _*ℤ_, +ℤ-assoc, -ℤ-+ℤ-cancel, negℤ-negℤ, zero-*ℤ}
 use Rattle.laws.proofs.Ring.{neg-mul, mul-neg}
 use Rattle.laws.proofs.Size.{size-mul}
-use Rattle.network.specs.Standing.{Line, keep, standing}
-use Rattle.network.proofs.Count.{Placed, Apart}
+use Rattle.network.specs.Standing.{Line}
+use Rattle.network.specs.Sound.{Placed, Apart}
 use Rattle.fields.specs.Heights.{height}
 use Rattle.sights.specs.Sights.{Sight, sightsOf, weights, pull}
 use Rattle.divisions.specs.Nearest.{nearestSize, nearest, Nearest}
-use Rattle.sweeps.specs.Sweeps.{moveOf, moved, sweep, settled, settle, maxSweeps}
+use Rattle.sweeps.specs.Sweeps.{moveOf, sweep, settled, settle, maxSweeps}
 use Rattle.sweeps.specs.Squares.{moveMark, squares}
 use Rattle.divisions.proofs.Rounding.{nearest-is, no-rise, stays, nearest-size}
 use Rattle.sweeps.proofs.Moving.{moved-by, other-mark}

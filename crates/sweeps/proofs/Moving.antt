@@ -12,7 +12,7 @@ use lib.IntN.{ℤ, pos, negsuc, natAbs, negℤ, _+ℤ_, _-ℤ_, _*ℤ_, zero-*�
 use borrow.Author.Tests.{eqb-true, eqb-false}
 use Rattle.laws.proofs.Ring.{ring}
 use Rattle.network.specs.Standing.{Line}
-use Rattle.network.proofs.Count.{Placed, Apart}
+use Rattle.network.specs.Sound.{Placed, Apart}
 use Rattle.fields.specs.Heights.{height}
 use Rattle.divisions.specs.Weight.{weightOf}
 use Rattle.sights.specs.Sights.{sightsOf, weights, pull}

@@ -6,15 +6,13 @@ use Prim.Native.Nat.{ℕ, zero, suc, _*_, _/_, _^_, _≤_, _<_}
 use native.Mathlib.Nat.{pow-suc, zero-lt-suc}
 use native.Mathlib.Omega.{arith}
 use lib.IntN.{ℤ, pos, negsuc, natAbs}
-use lib.ListN.{length, getD, take, length-append}
+use lib.ListN.{length, getD, length-append}
 use Rattle.laws.proofs.Tests.{cond-ind}
 use Rattle.laws.specs.Tests.{eqZ}
 use Rattle.text.specs.Bytes.{bytes}
 use Rattle.text.specs.Number.{decimal, signedText}
-use Rattle.text.specs.Put.{Put}
 use Rattle.text.specs.Report.{headText, listedText, verdictText, loopText, notCheckedText, refusedText}
 use Rattle.text.proofs.Numbers.{by-size, decimal-one, decimal-more}
-use Rattle.text.proofs.Puts.{put-whole}
 
 -- a number below 10 to the k, from k = 1 on, has at most k digits
 pub decimal-room : (k n : ℕ) → n < 10 ^ suc k → length (decimal n) ≤ suc k
@@ -85,7 +83,3 @@ loop-room number len misclosure verdict listing h =
     let b = signed-room 7 len (omega arith) in
     let d = signed-room 10 misclosure (omega arith) in
     simp length-append (omega (arith, verdict-room verdict, listed-room listing (h .lines)))
-
--- a line that is put at the start of 4,096 bytes and needs no more stands there whole
-pub line-whole : {l l′ : List ℕ} {next : ℕ} {text : List ℕ} → Put l l′ 0 next text → length l ≡ 4096 → length text ≤ 4096 → take next l′ ≡ text
-line-whole p e h = put-whole p (omega arith)

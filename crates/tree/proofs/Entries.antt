@@ -12,7 +12,8 @@ use Rattle.network.specs.Tree.{Entry, Tree, distance, grow, marks, tree}
 use Rattle.network.proofs.Grown.{After, new, old, after, keeps, ByLine, ByRoot, Stepped, line, root, stop, stepped, isNew}
 use Rattle.network.proofs.Shortest.{never}
 use Rattle.network.proofs.Flow.{entered}
-use Rattle.network.proofs.Count.{Placed, one-each, all-marks}
+use Rattle.network.specs.Sound.{Placed}
+use Rattle.network.proofs.Marks.{one-each, all-marks}
 use Rattle.chains.specs.Chains.{AllSound}
 use Rattle.search.specs.Front.{came}
 use Rattle.search.proofs.Enter.{came-new, came-old}

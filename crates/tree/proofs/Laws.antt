@@ -15,7 +15,8 @@ use Rattle.network.specs.Tree as tr
 use Rattle.network.proofs.Grown.{scored, score-of, After, new, old, after, keeps, lowest-none, lowest-some, ByLine, Stepped, line, root, stepped, isNew}
 use Rattle.network.proofs.Grown as gr
 use Rattle.network.proofs.Shortest.{same, never, turn}
-use Rattle.network.proofs.Count.{Placed, one-each}
+use Rattle.network.specs.Sound.{Placed}
+use Rattle.network.proofs.Marks.{one-each}
 use Rattle.nearest.specs.Heap.{Changed, leafLimit}
 use Rattle.nearest.specs.Heap as hp
 use Rattle.nearest.proofs.Laws.{cleared}

@@ -1,7 +1,6 @@
 // The tree of a book: all its pieces, by the same search as a path.
-ghost use mathlib.Core.Path.{_≡_};
 ghost use Prim.Native.Nat.{_+_, _*_, _<_, _≤_};
-ghost use lib.ListN.{length, getD};
+ghost use lib.ListN.{length};
 ghost use Rattle.chains.specs.Chains.{Nodes, Heads, Tips};
 ghost use Rattle.search.specs.Front.{Stage};
 ghost use Rattle.tree.specs.Plant.{FirstFar, Sprouted, Planted, Below, Roomy};

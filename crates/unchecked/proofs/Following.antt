@@ -13,7 +13,7 @@ use Rattle.network.specs.Sound as so
 use Rattle.network.specs.Tree.{Entry, Tree, distance, tree}
 use Rattle.network.proofs.Grown.{After, new, old, after, ends-to, Grown, treeLine}
 use Rattle.network.proofs.Shortest.{same, never}
-use Rattle.network.proofs.Count.{grows}
+use Rattle.network.proofs.Marks.{grows}
 use Rattle.network.proofs.ClosingLines.{has-distance}
 use Rattle.network.proofs.Subgraph.{not-in}
 use Rattle.loops.specs.Crossed.{onWay}

@@ -7,7 +7,7 @@ use lib.IntN.{ℤ, pos}
 use lib.ListN.{length, replicate}
 use Rattle.laws.specs.Tests.{outZ, outN, eqZ}
 use Rattle.laws.specs.Scan.{firstFrom, firstBad, anyBelow}
-use Rattle.file.specs.Read.{Outcome, answered, refusal, readOf}
+use Rattle.file.specs.Read.{answered, refusal, readOf}
 use Rattle.worked.specs.Network.{lines, held, file}
 
 abbrev places : ℕ → List ℤ

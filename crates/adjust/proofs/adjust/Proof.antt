@@ -6,11 +6,6 @@ use Rattle.adjust.proofs.Calling.{good-entries}
 use borrow.Author.Needs.{needs}
 use Rattle.adjust.proofs.adjust.Statement.{statement}
 use Rattle.adjust.proofs.adjust.Tie as tie
-use Rattle.adjust.proofs.adjust.Reads as reads
-use Rattle.adjust.proofs.adjust.Lts as lts
-use Rattle.book.proofs.test.Reads as test-reads
-use Rattle.adjust.proofs.refuse.Reads as refuse-reads
-use Rattle.adjust.proofs.good.adjust_good.Reads as adjust-good-reads
 
 test-requires : tie.Need-test-requires
 test-requires c κs = search needs

@@ -3,11 +3,6 @@ use lib.ListN.{length-take}
 use borrow.Author.Needs.{needs}
 use Rattle.adjust_cases.proofs.one_case.Statement.{statement}
 use Rattle.adjust_cases.proofs.one_case.Tie as tie
-use Rattle.adjust_cases.proofs.one_case.Reads as reads
-use Rattle.adjust_cases.proofs.one_case.Lts as lts
-use Rattle.adjust_cases.proofs.put.Reads as put-reads
-use Rattle.adjust_cases.proofs.read_and_run.Reads as read-and-run-reads
-use Rattle.cases.proofs.at_most.Reads as at-most-reads
 
 put-requires : tie.Need-put-requires
 put-requires c κs = search needs

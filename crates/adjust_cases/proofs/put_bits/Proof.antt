@@ -5,10 +5,6 @@ use lib.Ieee.{Float, nan, inf, fin, eq, isNan}
 use borrow.Author.Needs.{needs}
 use Rattle.adjust_cases.proofs.put_bits.Statement.{statement}
 use Rattle.adjust_cases.proofs.put_bits.Tie as tie
-use Rattle.adjust_cases.proofs.put_bits.Reads as reads
-use Rattle.adjust_cases.proofs.put_bits.Lts as lts
-use Rattle.adjust_cases.proofs.put.Reads as put-reads
-use Rattle.io.proofs.print_decimal.Reads as print-decimal-reads
 
 slice-aggregate-put : tie.Need-slice-aggregate-put
 slice-aggregate-put c = search needs

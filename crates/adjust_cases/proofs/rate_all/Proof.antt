@@ -3,9 +3,6 @@ use native.Mathlib.Omega.{arith}
 use borrow.Author.Needs.{needs}
 use Rattle.adjust_cases.proofs.rate_all.Statement.{statement}
 use Rattle.adjust_cases.proofs.rate_all.Tie as tie
-use Rattle.adjust_cases.proofs.rate_all.Reads as reads
-use Rattle.adjust_cases.proofs.rate_all.Lts as lts
-use Rattle.adjust_cases.proofs.rate.Reads as rate-reads
 
 abbrev Inv-loop : tie.InvT-loop
 Inv-loop b t held lines heights n line₀ line = Unit {0}

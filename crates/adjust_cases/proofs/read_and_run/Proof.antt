@@ -3,13 +3,6 @@ use lib.ListN.{length-take}
 use borrow.Author.Needs.{needs}
 use Rattle.adjust_cases.proofs.read_and_run.Statement.{statement}
 use Rattle.adjust_cases.proofs.read_and_run.Tie as tie
-use Rattle.adjust_cases.proofs.read_and_run.Reads as reads
-use Rattle.adjust_cases.proofs.read_and_run.Lts as lts
-use Rattle.adjust_cases.proofs.run.Reads as run-reads
-use Rattle.cases.proofs.at_most.Reads as at-most-reads
-use Rattle.cases.proofs.clear.Reads as clear-reads
-use Rattle.file.proofs.read.Reads as read-reads
-use Rattle.signed.proofs.signed_count.Reads as signed-count-reads
 
 clear-requires : tie.Need-clear-requires
 clear-requires c κs = search needs

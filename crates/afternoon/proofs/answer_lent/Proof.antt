@@ -3,10 +3,6 @@ use lib.ListN.{length-take}
 use borrow.Author.Needs.{needs}
 use Rattle.afternoon.proofs.answer_lent.Statement.{statement}
 use Rattle.afternoon.proofs.answer_lent.Tie as tie
-use Rattle.afternoon.proofs.answer_lent.Reads as reads
-use Rattle.afternoon.proofs.answer_lent.Lts as lts
-use Rattle.afternoon.proofs.answer.Reads as answer-reads
-use Rattle.cases.proofs.at_most.Reads as at-most-reads
 
 at-most-requires : tie.Need-at-most-requires
 at-most-requires c κs = search needs

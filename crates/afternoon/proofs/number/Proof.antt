@@ -3,11 +3,6 @@ use Rattle.laws.proofs.Signed.{back}
 use borrow.Author.Needs.{needs}
 use Rattle.afternoon.proofs.number.Statement.{statement}
 use Rattle.afternoon.proofs.number.Tie as tie
-use Rattle.afternoon.proofs.number.Reads as reads
-use Rattle.afternoon.proofs.number.Lts as lts
-use Rattle.cases.proofs.two.Reads as two-reads
-use Rattle.signed.proofs.signed_count.Reads as signed-count-reads
-use Rattle.signed.proofs.sub.Reads as sub-reads
 
 add-two : tie.Need-add-two
 add-two c = search needs

@@ -3,12 +3,6 @@ use lib.ListN.{length}
 use borrow.Author.Needs.{needs}
 use Rattle.afternoon.proofs.play.Statement.{statement}
 use Rattle.afternoon.proofs.play.Tie as tie
-use Rattle.afternoon.proofs.play.Reads as reads
-use Rattle.afternoon.proofs.play.Lts as lts
-use Rattle.afternoon.proofs.step_at.Reads as step-at-reads
-use Rattle.afternoon.proofs.take_step.Reads as take-step-reads
-use Rattle.afternoon.proofs.words.put_note.Reads as put-note-reads
-use Rattle.cases.proofs.two.Reads as two-reads
 
 abbrev Inv-loop : tie.InvT-loop
 Inv-loop b t file held₀ lines₀ report₀ steps at₀ held lines report at = at ≤ length steps

@@ -1,18 +1,12 @@
-use mathlib.Core.Path.{_≡_, sym, _∙_}
+use mathlib.Core.Path.{_≡_, _∙_}
 use borrow.Author.Tests.{eq-eqb, ne-eqb, lt-ltb, le-ltb}
 use Rattle.book.specs.Held.{heldCount, firstBadHeld}
 use Rattle.book.specs.Line.{lineCount, firstBadLine}
-use Rattle.book.specs.Test.{bookOf, bookOut, torn, testOf}
+use Rattle.book.specs.Test.{bookOf, torn, testOf}
 use Rattle.book.proofs.Counts.{no-book, book-made}
 use borrow.Author.Needs.{needs}
 use Rattle.book.proofs.test.Statement.{statement}
 use Rattle.book.proofs.test.Tie as tie
-use Rattle.book.proofs.test.Reads as reads
-use Rattle.book.proofs.test.Lts as lts
-use Rattle.book.proofs.Book.new.Reads as new-reads
-use Rattle.book.proofs.held.first_bad_held.Reads as first-bad-held-reads
-use Rattle.book.proofs.line.first_bad_line.Reads as first-bad-line-reads
-use Rattle.book.proofs.refuse.Reads as refuse-reads
 
 refuse-requires : tie.Need-refuse-requires
 refuse-requires c κs = search needs

@@ -1,11 +1,9 @@
-use mathlib.Core.Path.{_≡_, refl, _∙_}
+use mathlib.Core.Path.{_≡_}
 use Prim.Native.Nat.{_-_}
 use lib.ListN.{length}
 use borrow.Author.Needs.{needs}
 use Rattle.cases.proofs.clear.Statement.{statement}
 use Rattle.cases.proofs.clear.Tie as tie
-use Rattle.cases.proofs.clear.Reads as reads
-use Rattle.cases.proofs.clear.Lts as lts
 
 abbrev Inv-loop : tie.InvT-loop
 Inv-loop s₀ i₀ s i = length s ≡ length s₀

@@ -3,9 +3,6 @@ use lib.ListN.{length}
 use borrow.Author.Needs.{needs}
 use Rattle.cases.proofs.digest.Statement.{statement}
 use Rattle.cases.proofs.digest.Tie as tie
-use Rattle.cases.proofs.digest.Reads as reads
-use Rattle.cases.proofs.digest.Lts as lts
-use Rattle.cases.proofs.mixed.Reads as mixed-reads
 
 abbrev Inv-loop : tie.InvT-loop
 Inv-loop s sum₀ i₀ sum i = Unit {0}

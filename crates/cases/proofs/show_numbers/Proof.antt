@@ -2,13 +2,6 @@ use Prim.Native.Nat.{_-_}
 use borrow.Author.Needs.{needs}
 use Rattle.cases.proofs.show_numbers.Statement.{statement}
 use Rattle.cases.proofs.show_numbers.Tie as tie
-use Rattle.cases.proofs.show_numbers.Reads as reads
-use Rattle.cases.proofs.show_numbers.Lts as lts
-use Rattle.io.proofs.print_decimal.Reads as print-decimal-reads
-use Rattle.io.proofs.write_all.Reads as write-all-reads
-use Rattle.cases.proofs.at_most.Reads as at-most-reads
-use Rattle.cases.proofs.digest.Reads as digest-reads
-use Rattle.cases.proofs.put_signed.Reads as put-signed-reads
 
 abbrev Inv-loop : tie.InvT-loop
 Inv-loop s most i₀ t4 i = Unit {0}

@@ -1,4 +1,3 @@
-use Prim.Native.Nat.{_-_}
 use borrow.Author.Needs.{needs}
 use Rattle.chains.proofs.Laws.{join-added}
 use Rattle.chains.proofs.join.Statement.{statement}

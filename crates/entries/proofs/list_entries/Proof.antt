@@ -5,8 +5,6 @@ use Rattle.entries.specs.Entries.{Listing}
 use Rattle.entries.proofs.Entering.{listing-none, listing-next, listing-end}
 use Rattle.entries.proofs.list_entries.Statement.{statement}
 use Rattle.entries.proofs.list_entries.Tie as tie
-use Rattle.entries.proofs.list_entries.Reads as reads
-use Rattle.entries.proofs.list_entries.Lts as lts
 
 abbrev Inv-loop : tie.InvT-loop
 Inv-loop best order marks₀ came₀ b k₀ marks came k = Listing best order marks₀ came₀ marks came k

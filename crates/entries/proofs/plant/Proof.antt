@@ -2,9 +2,6 @@ use Rattle.entries.proofs.Entering.{chained-of, soil-of}
 use borrow.Author.Needs.{needs}
 use Rattle.entries.proofs.plant.Statement.{statement}
 use Rattle.entries.proofs.plant.Tie as tie
-use Rattle.entries.proofs.plant.Reads as reads
-use Rattle.entries.proofs.plant.Lts as lts
-use Rattle.entries.proofs.plant_in.Reads as plant-in-reads
 
 slice-aggregate-plant-in : tie.Need-slice-aggregate-plant-in
 slice-aggregate-plant-in c = search needs

@@ -3,10 +3,6 @@ use Rattle.entries.proofs.Entering.{good-of, readable-of, book-entered,
 use borrow.Author.Needs.{needs}
 use Rattle.entries.proofs.plant_in.Statement.{statement}
 use Rattle.entries.proofs.plant_in.Tie as tie
-use Rattle.entries.proofs.plant_in.Reads as reads
-use Rattle.entries.proofs.plant_in.Lts as lts
-use Rattle.entries.proofs.list_entries.Reads as list-entries-reads
-use Rattle.prepare.proofs.plant_book.Reads as plant-book-reads
 
 add-plant-book : tie.Need-add-plant-book
 add-plant-book c = search needs

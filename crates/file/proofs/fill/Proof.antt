@@ -3,10 +3,6 @@ use Rattle.file.specs.Read.{heldOf, linesOf, roomOf}
 use borrow.Author.Needs.{needs}
 use Rattle.file.proofs.fill.Statement.{statement}
 use Rattle.file.proofs.fill.Tie as tie
-use Rattle.file.proofs.fill.Reads as reads
-use Rattle.file.proofs.fill.Lts as lts
-use Rattle.file.proofs.entry.read_entries.Reads as read-entries-reads
-use Rattle.file.proofs.refuse.Reads as refuse-reads
 
 mul-if1 : tie.Need-mul-if1
 mul-if1 c = search needs

@@ -1,4 +1,4 @@
-use mathlib.Core.Path.{_≡_, sym, _∙_, ap}
+use mathlib.Core.Path.{_≡_, _∙_, ap}
 use lib.IntN.{pos}
 use borrow.Author.Tests.{eq-eqb, ne-eqb, lt-ltb, le-ltb}
 use Rattle.laws.proofs.Signed.{stored}
@@ -8,12 +8,6 @@ use Rattle.file.specs.Read.{statedT, statedB, statedH, statedN, headOf}
 use borrow.Author.Needs.{needs}
 use Rattle.file.proofs.head_of.Statement.{statement}
 use Rattle.file.proofs.head_of.Tie as tie
-use Rattle.file.proofs.head_of.Reads as reads
-use Rattle.file.proofs.head_of.Lts as lts
-use Rattle.book.proofs.Book.new.Reads as new-reads
-use Rattle.file.proofs.wire.be2.Reads as be2-reads
-use Rattle.file.proofs.wire.be4.Reads as be4-reads
-use Rattle.file.proofs.wire.plain.Reads as plain-reads
 
 -- what the counts that the file states make
 made : (c : tie.After-new) → (let entry : tie.Start = search in let f = entry .args .file .now in

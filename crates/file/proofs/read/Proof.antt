@@ -4,11 +4,6 @@ use Rattle.file.proofs.Heads.{head-states}
 use borrow.Author.Needs.{needs}
 use Rattle.file.proofs.read.Statement.{statement}
 use Rattle.file.proofs.read.Tie as tie
-use Rattle.file.proofs.read.Reads as reads
-use Rattle.file.proofs.read.Lts as lts
-use Rattle.file.proofs.head_of.Reads as head-of-reads
-use Rattle.file.proofs.read_body.Reads as read-body-reads
-use Rattle.file.proofs.refuse.Reads as refuse-reads
 
 head-of-requires : tie.Need-head-of-requires
 head-of-requires c κs = search needs

@@ -2,11 +2,6 @@ use Rattle.file.specs.Read.{testedOf, bodyOf}
 use borrow.Author.Needs.{needs}
 use Rattle.file.proofs.read_body.Statement.{statement}
 use Rattle.file.proofs.read_body.Tie as tie
-use Rattle.file.proofs.read_body.Reads as reads
-use Rattle.file.proofs.read_body.Lts as lts
-use Rattle.file.proofs.fill.Reads as fill-reads
-use Rattle.file.proofs.refuse.Reads as refuse-reads
-use Rattle.file.proofs.tested.Reads as tested-reads
 
 tested-requires : tie.Need-tested-requires
 tested-requires c κs = search needs

@@ -1,4 +1,3 @@
-use mathlib.Core.Path.{_≡_, refl, sym, _∙_}
 use Prim.Native.Nat.{_+_, _*_}
 use native.Mathlib.Omega.{arith}
 use lib.ListN.{length-take}
@@ -10,11 +9,6 @@ use Rattle.file.specs.declared.entry.Kind.the-variants.{Held, Line}
 use borrow.Author.Needs.{needs}
 use Rattle.file.proofs.tested.Statement.{statement}
 use Rattle.file.proofs.tested.Tie as tie
-use Rattle.file.proofs.tested.Reads as reads
-use Rattle.file.proofs.tested.Lts as lts
-use Rattle.book.proofs.test.Reads as test-reads
-use Rattle.file.proofs.entry.read_entries.Reads as read-entries-reads
-use Rattle.signed.proofs.signed_count.Reads as signed-count-reads
 
 slice-aggregate-read-entries : tie.Need-slice-aggregate-read-entries
 slice-aggregate-read-entries c = search needs

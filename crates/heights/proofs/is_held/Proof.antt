@@ -3,9 +3,6 @@ use native.Mathlib.Omega.{arith}
 use borrow.Author.Needs.{needs}
 use Rattle.heights.proofs.is_held.Statement.{statement}
 use Rattle.heights.proofs.is_held.Tie as tie
-use Rattle.heights.proofs.is_held.Reads as reads
-use Rattle.heights.proofs.is_held.Lts as lts
-use Rattle.signed.proofs.same.Reads as same-reads
 
 abbrev Inv-loop : tie.InvT-loop
 Inv-loop held mark h i₀ i = Unit {0}

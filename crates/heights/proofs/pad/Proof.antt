@@ -1,9 +1,6 @@
 use native.Mathlib.Omega.{arith}
 use Rattle.heights.proofs.pad.Statement.{statement}
 use Rattle.heights.proofs.pad.Tie as tie
-use Rattle.heights.proofs.pad.Reads as reads
-use Rattle.heights.proofs.pad.Lts as lts
-use Rattle.heights.proofs.put.Reads as put-reads
 
 abbrev Inv-loop : tie.InvT-loop
 Inv-loop x top with t₀ t = Unit {0}

@@ -4,10 +4,6 @@ use lib.ListN.{length}
 use borrow.Author.Needs.{needs}
 use Rattle.heights.proofs.put_heights.Statement.{statement}
 use Rattle.heights.proofs.put_heights.Tie as tie
-use Rattle.heights.proofs.put_heights.Reads as reads
-use Rattle.heights.proofs.put_heights.Lts as lts
-use Rattle.heights.proofs.put.Reads as put-reads
-use Rattle.heights.proofs.put_mark.Reads as put-mark-reads
 
 abbrev Inv-loop : tie.InvT-loop
 Inv-loop held heights v₀ v = Unit {0}

@@ -3,10 +3,6 @@ use native.Mathlib.Omega.{arith}
 use borrow.Author.Needs.{needs}
 use Rattle.heights.proofs.put_rates.Statement.{statement}
 use Rattle.heights.proofs.put_rates.Tie as tie
-use Rattle.heights.proofs.put_rates.Reads as reads
-use Rattle.heights.proofs.put_rates.Lts as lts
-use Rattle.heights.proofs.put.Reads as put-reads
-use Rattle.heights.proofs.put_line.Reads as put-line-reads
 
 abbrev Inv-loop : tie.InvT-loop
 Inv-loop b t held lines heights n i₀ i = Unit {0}

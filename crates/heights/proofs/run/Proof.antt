@@ -3,13 +3,6 @@ use lib.ListN.{length-take}
 use borrow.Author.Needs.{needs}
 use Rattle.heights.proofs.run.Statement.{statement}
 use Rattle.heights.proofs.run.Tie as tie
-use Rattle.heights.proofs.run.Reads as reads
-use Rattle.heights.proofs.run.Lts as lts
-use Rattle.cases.proofs.at_most.Reads as at-most-reads
-use Rattle.file.proofs.read.Reads as read-reads
-use Rattle.heights.proofs.put_refusal.Reads as put-refusal-reads
-use Rattle.heights.proofs.sheet.Reads as sheet-reads
-use Rattle.signed.proofs.signed_count.Reads as signed-count-reads
 
 read-requires : tie.Need-read-requires
 read-requires c κs = search needs

@@ -1,17 +1,13 @@
 use Rattle.laws.specs.Tests.{eqZ}
 use lib.IntN.{pos}
-use lib.ListN.{getD}
+use lib.ListN.{getD, length}
 use Prim.Native.Nat.{_-_}
 use mathlib.Core.Path.{_≡_, sym, _∙_}
 use native.Mathlib.Omega.{arith}
-use lib.ListN.{length}
 use borrow.Author.Needs.{needs}
 use Rattle.kept.proofs.SameNumbers.{Compared, too-short, compare-start, compare-next, compare-stop, compare-end}
 use Rattle.kept.proofs.differs.Statement.{statement}
 use Rattle.kept.proofs.differs.Tie as tie
-use Rattle.kept.proofs.differs.Reads as reads
-use Rattle.kept.proofs.differs.Lts as lts
-use Rattle.signed.proofs.same.Reads as same-reads
 
 abbrev Inv-loop : tie.InvT-loop
 Inv-loop report rows place₀ place = Compared report rows place

@@ -3,12 +3,9 @@ use native.Mathlib.Omega.{arith}
 use lib.IntN.{pos}
 use lib.ListN.{length}
 use borrow.Author.Needs.{needs}
-use Rattle.laws.proofs.Signed.{back}
 use Rattle.laws.proofs.Laid.{Laid, laid-start, laid-next, laid-end}
 use Rattle.kept.proofs.put.Statement.{statement}
 use Rattle.kept.proofs.put.Tie as tie
-use Rattle.kept.proofs.put.Reads as reads
-use Rattle.kept.proofs.put.Lts as lts
 
 abbrev Inv-loop : tie.InvT-loop
 Inv-loop rows out₀ i₀ out i = Laid rows out₀ out i

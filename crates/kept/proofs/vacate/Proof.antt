@@ -1,15 +1,11 @@
-use Prim.Native.Nat.{_≤_}
-use Rattle.laws.proofs.Laid.{zeroed-length, zeroed-start, zeroed-at}
-use Prim.Native.Nat.{_-_}
+use Prim.Native.Nat.{_≤_, _-_}
+use Rattle.laws.proofs.Laid.{zeroed-length, zeroed-start, zeroed-at, Laid, laid-next, laid-end}
 use mathlib.Core.List.{_++_}
 use native.Mathlib.Omega.{arith}
 use lib.IntN.{pos}
-use lib.ListN.{length, take, replicate}
-use Rattle.laws.proofs.Laid.{Laid, laid-start, laid-next, laid-end}
+use lib.ListN.{take, replicate}
 use Rattle.kept.proofs.vacate.Statement.{statement}
 use Rattle.kept.proofs.vacate.Tie as tie
-use Rattle.kept.proofs.vacate.Reads as reads
-use Rattle.kept.proofs.vacate.Lts as lts
 
 abbrev Inv-loop : tie.InvT-loop
 Inv-loop out₀ a e i₀ out i = (a ≤ i) × Laid (take a out₀ ++ replicate (e - a) (pos 0)) out₀ out i

@@ -1,7 +1,5 @@
 use mathlib.Core.Path.{_≡_, sym, _∙_, ap, subst}
-use native.Mathlib.Omega.{arith}
-use Rattle.adjust.specs.Call.{Given}
-use Rattle.adjust.specs.Call.{adjustOf}
+use Rattle.adjust.specs.Call.{Given, adjustOf}
 use Rattle.level.specs.Heights.{SmallAdjusted, ofAdjust}
 use Rattle.level.proofs.Settled.{adjust-small}
 use borrow.Author.Needs.{needs}

@@ -1,7 +1,6 @@
 use mathlib.Core.Path.{_≡_, sym, _∙_, ap, subst}
 use native.Mathlib.Omega.{arith}
-use Rattle.lists.specs.Listing.{Listing}
-use Rattle.lists.specs.Listing.{listingOf}
+use Rattle.lists.specs.Listing.{Listing, listingOf}
 use Rattle.level.specs.Listings.{SmallListed, ofListing}
 use Rattle.level.proofs.Small.{listing-small}
 use borrow.Author.Needs.{needs}

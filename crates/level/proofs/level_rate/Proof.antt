@@ -5,10 +5,6 @@ use Rattle.level.proofs.Small.{rate-small}
 use borrow.Author.Needs.{needs}
 use Rattle.level.proofs.level_rate.Statement.{statement}
 use Rattle.level.proofs.level_rate.Tie as tie
-use Rattle.level.proofs.level_rate.Reads as reads
-use Rattle.level.proofs.level_rate.Lts as lts
-use Rattle.adjust.proofs.rate.Reads as rate-reads
-use Rattle.level.proofs.rate_answer.Reads as rate-answer-reads
 
 rate-requires : tie.Need-rate-requires
 rate-requires c κs = search needs

@@ -1,15 +1,10 @@
 use Rattle.file.specs.Read.{Outcome}
 use mathlib.Core.Path.{sym, subst, ap}
-use Rattle.file.specs.declared.ReadAnswer.{ReadAnswer}
 use Rattle.level.specs.Signed.{SmallRead}
 use Rattle.level.proofs.Small.{read-small}
 use borrow.Author.Needs.{needs}
 use Rattle.level.proofs.level_read.Statement.{statement}
 use Rattle.level.proofs.level_read.Tie as tie
-use Rattle.level.proofs.level_read.Reads as reads
-use Rattle.level.proofs.level_read.Lts as lts
-use Rattle.file.proofs.read.Reads as read-reads
-use Rattle.level.proofs.read_answer.Reads as read-answer-reads
 
 read-requires : tie.Need-read-requires
 read-requires c κs = search needs

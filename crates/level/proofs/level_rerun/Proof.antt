@@ -5,10 +5,6 @@ use Rattle.level.proofs.Small.{rerun-small}
 use borrow.Author.Needs.{needs}
 use Rattle.level.proofs.level_rerun.Statement.{statement}
 use Rattle.level.proofs.level_rerun.Tie as tie
-use Rattle.level.proofs.level_rerun.Reads as reads
-use Rattle.level.proofs.level_rerun.Lts as lts
-use Rattle.level.proofs.survey_answer.Reads as survey-answer-reads
-use Rattle.survey.proofs.rerun.Reads as rerun-reads
 
 rerun-requires : tie.Need-rerun-requires
 rerun-requires c κs = search needs

@@ -5,10 +5,6 @@ use Rattle.level.proofs.Small.{survey-small}
 use borrow.Author.Needs.{needs}
 use Rattle.level.proofs.level_survey.Statement.{statement}
 use Rattle.level.proofs.level_survey.Tie as tie
-use Rattle.level.proofs.level_survey.Reads as reads
-use Rattle.level.proofs.level_survey.Lts as lts
-use Rattle.level.proofs.survey_answer.Reads as survey-answer-reads
-use Rattle.survey.proofs.survey.Reads as survey-reads
 
 survey-requires : tie.Need-survey-requires
 survey-requires c κs = search needs

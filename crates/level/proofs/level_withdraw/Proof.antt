@@ -5,10 +5,6 @@ use Rattle.level.proofs.Small.{withdraw-small}
 use borrow.Author.Needs.{needs}
 use Rattle.level.proofs.level_withdraw.Statement.{statement}
 use Rattle.level.proofs.level_withdraw.Tie as tie
-use Rattle.level.proofs.level_withdraw.Reads as reads
-use Rattle.level.proofs.level_withdraw.Lts as lts
-use Rattle.level.proofs.survey_answer.Reads as survey-answer-reads
-use Rattle.survey.proofs.withdraw.Reads as withdraw-reads
 
 withdraw-requires : tie.Need-withdraw-requires
 withdraw-requires c κs = search needs

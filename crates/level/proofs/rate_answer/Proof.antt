@@ -7,9 +7,6 @@ use Rattle.level.specs.Rating.{withdrawnOf, rateOf, signedRate}
 use borrow.Author.Needs.{needs}
 use Rattle.level.proofs.rate_answer.Statement.{statement}
 use Rattle.level.proofs.rate_answer.Tie as tie
-use Rattle.level.proofs.rate_answer.Reads as reads
-use Rattle.level.proofs.rate_answer.Lts as lts
-use Rattle.signed.proofs.signed_count.Reads as signed-count-reads
 
 signed-count-requires : tie.Need-signed-count-requires
 signed-count-requires c κs = search needs

@@ -1,20 +1,16 @@
-use Prim.Native.Nat.{_<_}
-use mathlib.Core.Path.{_≡_, sym, _∙_, ap}
+use mathlib.Core.Path.{_≡_, _∙_}
 use Prim.Native.Nat.{_/_}
 use native.Mathlib.Omega.{arith}
-use lib.IntN.{ℤ, pos, negℤ, _-ℤ_, +ℤ-idl}
+use lib.IntN.{pos, negℤ, +ℤ-idl}
 use mir.Syntax.{w64}
-use mir.Val.{toZ, ofZ}
-use mir.Facts.{toZ-pos, toZ-ofZ}
+use mir.Val.{toZ}
+use mir.Facts.{toZ-pos}
 use borrow.Author.Tests.{eq-eqb, ne-eqb}
 use Rattle.laws.proofs.Signed.{back}
 use Rattle.listing.specs.Halves.{halfListed}
 use borrow.Author.Needs.{needs}
 use Rattle.listing.proofs.half_listed.Statement.{statement}
 use Rattle.listing.proofs.half_listed.Tie as tie
-use Rattle.listing.proofs.half_listed.Reads as reads
-use Rattle.listing.proofs.half_listed.Lts as lts
-use Rattle.signed.proofs.sub.Reads as sub-reads
 
 cast-number : tie.Need-cast-number
 cast-number c = search needs

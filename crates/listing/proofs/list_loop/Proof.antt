@@ -1,18 +1,14 @@
-use mathlib.Core.Path.{_≡_, sym, _∙_}
+use mathlib.Core.Path.{_∙_}
 use Prim.Native.Nat.{_+_, _-_, _≤_}
 use native.Mathlib.Omega.{arith}
 use lib.IntN.{pos}
-use lib.ListN.{length, length-set}
+use lib.ListN.{length-set}
 use borrow.Author.Needs.{needs}
 use Rattle.laws.proofs.Signed.{stored}
 use Rattle.laws.proofs.Laid.{Laid, laid-next}
 use Rattle.listing.proofs.Halves.{wanted, wanted-length, list-start, list-at, list-end}
 use Rattle.listing.proofs.list_loop.Statement.{statement}
 use Rattle.listing.proofs.list_loop.Tie as tie
-use Rattle.listing.proofs.list_loop.Reads as reads
-use Rattle.listing.proofs.list_loop.Lts as lts
-use Rattle.signed.proofs.signed_count.Reads as signed-count-reads
-use Rattle.listing.proofs.half_listed.Reads as half-listed-reads
 
 abbrev Inv-loop : tie.InvT-loop
 Inv-loop number path a out₀ j₀ out j = (j ≤ a) × Laid (wanted number a path) out₀ out (j + 1)

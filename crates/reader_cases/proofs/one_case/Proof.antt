@@ -3,11 +3,6 @@ use lib.ListN.{length-take}
 use borrow.Author.Needs.{needs}
 use Rattle.reader_cases.proofs.one_case.Statement.{statement}
 use Rattle.reader_cases.proofs.one_case.Tie as tie
-use Rattle.reader_cases.proofs.one_case.Reads as reads
-use Rattle.reader_cases.proofs.one_case.Lts as lts
-use Rattle.io.proofs.write_all.Reads as write-all-reads
-use Rattle.cases.proofs.at_most.Reads as at-most-reads
-use Rattle.reader_cases.proofs.run.Reads as run-reads
 
 write-all-requires : tie.Need-write-all-requires
 write-all-requires c κs = search needs

@@ -3,10 +3,6 @@ use Rattle.reruns.proofs.Again.{asked-again, both-done}
 use borrow.Author.Needs.{needs}
 use Rattle.reruns.proofs.row_turn_again.Statement.{statement}
 use Rattle.reruns.proofs.row_turn_again.Tie as tie
-use Rattle.reruns.proofs.row_turn_again.Reads as reads
-use Rattle.reruns.proofs.row_turn_again.Lts as lts
-use Rattle.rows.proofs.row_of.Reads as row-of-reads
-use Rattle.subgraph.proofs.take_loop.Reads as take-loop-reads
 
 take-loop-requires : tie.Need-take-loop-requires
 take-loop-requires c κs =

@@ -1,16 +1,14 @@
-use lib.IntN.{+ℤ-idl}
-use Rattle.rows.proofs.Totals.{rise-size}
-use Prim.Native.Nat.{_+_, _*_, _≤_, _-_}
+use lib.IntN.{+ℤ-idl, natAbs, _+ℤ_}
+use Rattle.rows.proofs.Totals.{rise-size, rise-next, rise-end}
+use Prim.Native.Nat.{_*_, _≤_, _-_}
 use native.Mathlib.Omega.{arith}
 use mathlib.Core.Path.{_≡_}
-use lib.IntN.{natAbs, _+ℤ_}
 use lib.ListN.{take, drop}
 use mir.Syntax.{w64}
 use mir.Val.{toZ}
 use Rattle.laws.proofs.Signed.{back, stored}
 use Rattle.laws.proofs.Size.{size-add}
 use Rattle.rows.specs.Sums.{riseOf, steepest}
-use Rattle.rows.proofs.Totals.{rise-next, rise-end}
 use Rattle.rows.proofs.way_rise.Statement.{statement}
 use Rattle.rows.proofs.way_rise.Tie as tie
 

@@ -1,11 +1,9 @@
-use lib.ListN.{length-set}
+use lib.ListN.{length-set, getD}
 use Rattle.chains.specs.Chains.{halves}
-use Prim.Native.Nat.{_/_}
+use Prim.Native.Nat.{_/_, ℕ, _<_}
 use borrow.Author.Needs.{needs}
 use native.Mathlib.Omega.{arith}
-use lib.ListN.{getD}
 use Rattle.search.proofs.Ways.{way-low, walk-end, walk-room, walk-falls, walk-next, walk-put}
-use Prim.Native.Nat.{ℕ, _<_}
 use borrow.Fn.Kinds.{In}
 use borrow.Fn.PlainCycle.{Measures, is, falls, and}
 use Rattle.search.proofs.way.Reads as way

@@ -3,9 +3,6 @@ use Rattle.search.proofs.Direct.{direct-of, direct-none}
 use borrow.Author.Needs.{needs}
 use Rattle.search.proofs.direct_half.Statement.{statement}
 use Rattle.search.proofs.direct_half.Tie as tie
-use Rattle.search.proofs.direct_half.Reads as reads
-use Rattle.search.proofs.direct_half.Lts as lts
-use Rattle.search.proofs.least_sum.Reads as least-sum-reads
 
 mul-least-sum : tie.Need-mul-least-sum
 mul-least-sum c = search needs

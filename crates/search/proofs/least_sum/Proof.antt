@@ -4,9 +4,6 @@ use native.Mathlib.Omega.{arith}
 use Rattle.search.proofs.Direct.{Least, least-start, least-turn, least-end}
 use Rattle.search.proofs.least_sum.Statement.{statement}
 use Rattle.search.proofs.least_sum.Tie as tie
-use Rattle.search.proofs.least_sum.Reads as reads
-use Rattle.search.proofs.least_sum.Lts as lts
-use Rattle.nearest.proofs.lesser.Reads as lesser-reads
 
 abbrev Inv-loop : tie.InvT-loop
 Inv-loop next far add n cnt first s₀ i₀ s i = (i ≤ cnt) × Least next add first i s

@@ -1,8 +1,6 @@
-use Prim.Native.Nat.{_-_}
 use borrow.Author.Needs.{needs}
 use native.Mathlib.Omega.{arith}
 use mathlib.Core.Path.{refl}
-use Rattle.search.specs.Front.{kept, fell}
 use Rattle.search.specs.Front.{kept, fell}
 use Rattle.search.proofs.offer.Statement.{statement}
 use Rattle.search.proofs.offer.Tie as tie

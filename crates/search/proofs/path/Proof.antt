@@ -4,11 +4,6 @@ use Rattle.search.proofs.Direct.{direct-written}
 use borrow.Author.Needs.{needs}
 use Rattle.search.proofs.path.Statement.{statement}
 use Rattle.search.proofs.path.Tie as tie
-use Rattle.search.proofs.path.Reads as reads
-use Rattle.search.proofs.path.Lts as lts
-use Rattle.search.proofs.direct_half.Reads as direct-half-reads
-use Rattle.search.proofs.search.Reads as search-reads
-use Rattle.search.proofs.way.Reads as way-reads
 
 direct-half-requires : tie.Need-direct-half-requires
 direct-half-requires c κs = search needs

@@ -4,7 +4,6 @@ use native.Mathlib.Omega.{arith}
 use mathlib.Core.Path.{_≡_, refl}
 use lib.ListN.{length}
 use Rattle.search.proofs.Laws.{Relaxing, relax-start, relax-turn, relax-end}
-use Rattle.search.proofs.Laws.{Relaxing, relax-start, relax-end}
 use Rattle.search.proofs.relax.Statement.{statement}
 use Rattle.search.proofs.relax.Tie as tie
 

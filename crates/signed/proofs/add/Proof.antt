@@ -5,8 +5,6 @@ use mir.Facts.{toZ-ofZ}
 use Rattle.laws.proofs.Size.{size-add, size-fits}
 use Rattle.signed.proofs.add.Statement.{statement}
 use Rattle.signed.proofs.add.Tie as tie
-use Rattle.signed.proofs.add.Reads as reads
-use Rattle.signed.proofs.add.Lts as lts
 
 -- src/lib.rt:58:5
 add-result : tie.Need-add-result

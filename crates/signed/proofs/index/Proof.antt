@@ -3,8 +3,6 @@ use mir.Facts.{toZ-ofZ, fits-natAbs}
 use Rattle.laws.proofs.Signed.{nonneg}
 use Rattle.signed.proofs.index.Statement.{statement}
 use Rattle.signed.proofs.index.Tie as tie
-use Rattle.signed.proofs.index.Reads as reads
-use Rattle.signed.proofs.index.Lts as lts
 
 cast-result : tie.Need-cast-result
 cast-result c = rw (toZ-ofZ (c .fits .x)) (nonneg (c .args .x) (c .pre), fits-natAbs tt (c .fits .x))

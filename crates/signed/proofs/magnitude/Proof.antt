@@ -11,9 +11,6 @@ use Rattle.laws.proofs.Size.{below-zero, below-zero-size}
 use borrow.Author.Needs.{needs}
 use Rattle.signed.proofs.magnitude.Statement.{statement}
 use Rattle.signed.proofs.magnitude.Tie as tie
-use Rattle.signed.proofs.magnitude.Reads as reads
-use Rattle.signed.proofs.magnitude.Lts as lts
-use Rattle.signed.proofs.index.Reads as index-reads
 
 minus : (c : tie.Then1) → negsuc 0 -ℤ toZ w64 (ofZ w64 (c .before .args .x)) ≡ pos (natAbs (c .before .args .x) - 1)
 minus c =

@@ -5,8 +5,6 @@ use mir.Facts.{toZ-ofZ}
 use Rattle.laws.proofs.Size.{size-mul, size-fits}
 use Rattle.signed.proofs.mul.Statement.{statement}
 use Rattle.signed.proofs.mul.Tie as tie
-use Rattle.signed.proofs.mul.Reads as reads
-use Rattle.signed.proofs.mul.Lts as lts
 
 -- src/lib.rt:72:5
 mul-result : tie.Need-mul-result

@@ -2,8 +2,6 @@ use borrow.Author.Tests.{lt-ltb, le-ltb}
 use Rattle.laws.specs.Tests.{outN}
 use Rattle.signed.proofs.outside_count.Statement.{statement}
 use Rattle.signed.proofs.outside_count.Tie as tie
-use Rattle.signed.proofs.outside_count.Reads as reads
-use Rattle.signed.proofs.outside_count.Lts as lts
 
 -- src/lib.rt:32:1
 returns : tie.Need-returns

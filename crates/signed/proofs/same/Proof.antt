@@ -1,8 +1,6 @@
 use Rattle.laws.proofs.Signed.{eq-bits}
 use Rattle.signed.proofs.same.Statement.{statement}
 use Rattle.signed.proofs.same.Tie as tie
-use Rattle.signed.proofs.same.Reads as reads
-use Rattle.signed.proofs.same.Lts as lts
 
 returns : tie.Need-returns
 returns c = eq-bits (c .args .x) (c .args .y) (c .fits .x) (c .fits .y)

@@ -5,8 +5,6 @@ use mir.Facts.{toZ-ofZ}
 use Rattle.laws.proofs.Size.{size-sub, size-fits}
 use Rattle.signed.proofs.sub.Statement.{statement}
 use Rattle.signed.proofs.sub.Tie as tie
-use Rattle.signed.proofs.sub.Reads as reads
-use Rattle.signed.proofs.sub.Lts as lts
 
 -- src/lib.rt:65:5
 sub-result : tie.Need-sub-result

@@ -1,6 +1,5 @@
 use mir.Facts.{toZ-ofZ}
-use mathlib.Core.Path.{_≡_, refl, sym, _∙_}
-use native.Mathlib.Omega.{arith}
+use mathlib.Core.Path.{_≡_, sym, _∙_}
 use Rattle.book.specs.Test.{testOf}
 use Rattle.book.proofs.Goods.{tested-good}
 use Rattle.survey.specs.Correction.{correctTested, rerunOf}
@@ -13,12 +12,6 @@ use Rattle.book.specs.Line.{differenceOut}
 use borrow.Author.Needs.{needs}
 use Rattle.survey.proofs.rerun.Statement.{statement}
 use Rattle.survey.proofs.rerun.Tie as tie
-use Rattle.survey.proofs.rerun.Reads as reads
-use Rattle.survey.proofs.rerun.Lts as lts
-use Rattle.book.proofs.line.Line.outside_difference.Reads as outside-difference-reads
-use Rattle.book.proofs.test.Reads as test-reads
-use Rattle.survey.proofs.correct.rerun_good.Reads as rerun-good-reads
-use Rattle.survey.proofs.refuse.Reads as refuse-reads
 
 outside-difference-requires : tie.Need-outside-difference-requires
 outside-difference-requires c κs = search needs

@@ -6,11 +6,6 @@ use Rattle.survey.proofs.Sounding.{good-lines}
 use borrow.Author.Needs.{needs}
 use Rattle.survey.proofs.survey.Statement.{statement}
 use Rattle.survey.proofs.survey.Tie as tie
-use Rattle.survey.proofs.survey.Reads as reads
-use Rattle.survey.proofs.survey.Lts as lts
-use Rattle.book.proofs.test.Reads as test-reads
-use Rattle.survey.proofs.refuse.Reads as refuse-reads
-use Rattle.survey.proofs.work.survey_good.Reads as survey-good-reads
 
 test-requires : tie.Need-test-requires
 test-requires c κs = search needs

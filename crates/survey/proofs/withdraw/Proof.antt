@@ -1,5 +1,4 @@
-use mathlib.Core.Path.{_≡_, refl, sym, _∙_}
-use native.Mathlib.Omega.{arith}
+use mathlib.Core.Path.{_≡_, sym, _∙_}
 use Rattle.book.specs.Test.{testOf}
 use Rattle.book.proofs.Goods.{tested-good}
 use Rattle.survey.specs.Correction.{correctTested, withdrawOf}
@@ -7,11 +6,6 @@ use Rattle.survey.proofs.Sounding.{good-lines}
 use borrow.Author.Needs.{needs}
 use Rattle.survey.proofs.withdraw.Statement.{statement}
 use Rattle.survey.proofs.withdraw.Tie as tie
-use Rattle.survey.proofs.withdraw.Reads as reads
-use Rattle.survey.proofs.withdraw.Lts as lts
-use Rattle.book.proofs.test.Reads as test-reads
-use Rattle.survey.proofs.correct.withdraw_good.Reads as withdraw-good-reads
-use Rattle.survey.proofs.refuse.Reads as refuse-reads
 
 test-requires : tie.Need-test-requires
 test-requires c κs = search needs

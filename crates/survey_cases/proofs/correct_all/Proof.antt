@@ -1,13 +1,9 @@
 use Prim.Native.Nat.{_-_}
 use mathlib.Core.Path.{_≡_}
 use lib.ListN.{length}
-use native.Mathlib.Omega.{arith}
 use borrow.Author.Needs.{needs}
 use Rattle.survey_cases.proofs.correct_all.Statement.{statement}
 use Rattle.survey_cases.proofs.correct_all.Tie as tie
-use Rattle.survey_cases.proofs.correct_all.Reads as reads
-use Rattle.survey_cases.proofs.correct_all.Lts as lts
-use Rattle.survey_cases.proofs.correct_line.Reads as correct-line-reads
 
 abbrev Inv-loop : tie.InvT-loop
 Inv-loop b t held lines₀ report₀ n line₀ lines report line = (length lines ≡ length lines₀) × (length report ≡ length report₀)

@@ -3,13 +3,6 @@ use lib.ListN.{length-take}
 use borrow.Author.Needs.{needs}
 use Rattle.survey_cases.proofs.run.Statement.{statement}
 use Rattle.survey_cases.proofs.run.Tie as tie
-use Rattle.survey_cases.proofs.run.Reads as reads
-use Rattle.survey_cases.proofs.run.Lts as lts
-use Rattle.cases.proofs.at_most.Reads as at-most-reads
-use Rattle.cases.proofs.clear.Reads as clear-reads
-use Rattle.file.proofs.read.Reads as read-reads
-use Rattle.signed.proofs.signed_count.Reads as signed-count-reads
-use Rattle.survey_cases.proofs.survey_and_correct.Reads as survey-and-correct-reads
 
 clear-requires : tie.Need-clear-requires
 clear-requires c κs = search needs

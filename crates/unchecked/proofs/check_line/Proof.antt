@@ -9,10 +9,6 @@ use Rattle.unchecked.proofs.Checking.{closes-closing}
 use borrow.Author.Needs.{needs}
 use Rattle.unchecked.proofs.check_line.Statement.{statement}
 use Rattle.unchecked.proofs.check_line.Tie as tie
-use Rattle.unchecked.proofs.check_line.Reads as reads
-use Rattle.unchecked.proofs.check_line.Lts as lts
-use Rattle.unchecked.proofs.check_loop.Reads as check-loop-reads
-use Rattle.unchecked.proofs.closes.Reads as closes-reads
 
 closes-requires : tie.Need-closes-requires
 closes-requires c κs =

@@ -13,10 +13,6 @@ use Rattle.tree.specs.Plant.{Holding}
 use Rattle.unchecked.proofs.Checking.{SoFar, start-so-far, next-so-far, all-so-far}
 use Rattle.unchecked.proofs.check_lines.Statement.{statement}
 use Rattle.unchecked.proofs.check_lines.Tie as tie
-use Rattle.unchecked.proofs.check_lines.Reads as reads
-use Rattle.unchecked.proofs.check_lines.Lts as lts
-use Rattle.chains.proofs.zero.Reads as zero-reads
-use Rattle.unchecked.proofs.check_line.Reads as check-line-reads
 
 abbrev Inv-loop : tie.InvT-loop
 Inv-loop tip long best marked₀ q number₀ marked number =

@@ -1,6 +1,6 @@
 -- `check_loop` marks the closing line itself and what `follow` marks from its two ends. Assumes nothing.
 use mathlib.Core.List.{List}
-use Prim.Native.Nat.{ℕ, _-_, _<_}
+use Prim.Native.Nat.{ℕ, _<_}
 use native.Mathlib.Omega.{arith}
 use lib.ListN.{length-set}
 use Rattle.chains.specs.Chains.{numberLimit}

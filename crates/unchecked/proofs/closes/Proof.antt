@@ -3,8 +3,6 @@ use borrow.Author.Tests.{eq-eqb, ne-eqb}
 use borrow.Author.Needs.{needs}
 use Rattle.unchecked.proofs.closes.Statement.{statement}
 use Rattle.unchecked.proofs.closes.Tie as tie
-use Rattle.unchecked.proofs.closes.Reads as reads
-use Rattle.unchecked.proofs.closes.Lts as lts
 
 mul-if1 : tie.Need-mul-if1
 mul-if1 c = search needs

@@ -4,10 +4,6 @@ use Rattle.unchecked.proofs.Planted.{list-ready}
 use borrow.Author.Needs.{needs}
 use Rattle.unchecked.proofs.list_book.Statement.{statement}
 use Rattle.unchecked.proofs.list_book.Tie as tie
-use Rattle.unchecked.proofs.list_book.Reads as reads
-use Rattle.unchecked.proofs.list_book.Lts as lts
-use Rattle.prepare.proofs.plant_book.Reads as plant-book-reads
-use Rattle.unchecked.proofs.not_checked.Reads as not-checked-reads
 
 plant-book-requires : tie.Need-plant-book-requires
 plant-book-requires c κs =

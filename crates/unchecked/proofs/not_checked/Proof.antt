@@ -3,10 +3,6 @@ use Rattle.unchecked.proofs.Listing.{open-list}
 use borrow.Author.Needs.{needs}
 use Rattle.unchecked.proofs.not_checked.Statement.{statement}
 use Rattle.unchecked.proofs.not_checked.Tie as tie
-use Rattle.unchecked.proofs.not_checked.Reads as reads
-use Rattle.unchecked.proofs.not_checked.Lts as lts
-use Rattle.unchecked.proofs.check_lines.Reads as check-lines-reads
-use Rattle.unchecked.proofs.list_open.Reads as list-open-reads
 
 check-lines-requires : tie.Need-check-lines-requires
 check-lines-requires c κs = search needs

@@ -2,10 +2,6 @@ use Rattle.adjust.proofs.Calling.{call-done, call-refused}
 use borrow.Author.Needs.{needs}
 use Rattle.adjust.proofs.good.adjust_by.Statement.{statement}
 use Rattle.adjust.proofs.good.adjust_by.Tie as tie
-use Rattle.adjust.proofs.good.adjust_by.Reads as reads
-use Rattle.adjust.proofs.good.adjust_by.Lts as lts
-use Rattle.adjust.proofs.good.adjust_into.Reads as adjust-into-reads
-use Rattle.kept.proofs.put.Reads as put-reads
 
 adjust-into-requires : tie.Need-adjust-into-requires
 adjust-into-requires c κs = search needs

@@ -5,10 +5,6 @@ use Rattle.adjust.proofs.Calling.{call-ten}
 use borrow.Author.Needs.{needs}
 use Rattle.adjust.proofs.good.adjust_good.Statement.{statement}
 use Rattle.adjust.proofs.good.adjust_good.Tie as tie
-use Rattle.adjust.proofs.good.adjust_good.Reads as reads
-use Rattle.adjust.proofs.good.adjust_good.Lts as lts
-use Rattle.adjust.proofs.good.adjust_by.Reads as adjust-by-reads
-use Rattle.adjust.proofs.refuse.Reads as refuse-reads
 
 refuse-requires : tie.Need-refuse-requires
 refuse-requires c κs = search needs

@@ -5,10 +5,6 @@ use Rattle.adjust.proofs.Zeros.{so-many, blank, bare}
 use borrow.Author.Needs.{needs}
 use Rattle.adjust.proofs.good.adjust_into.Statement.{statement}
 use Rattle.adjust.proofs.good.adjust_into.Tie as tie
-use Rattle.adjust.proofs.good.adjust_into.Reads as reads
-use Rattle.adjust.proofs.good.adjust_into.Lts as lts
-use Rattle.adjust.proofs.along.adjust_along.Reads as adjust-along-reads
-use Rattle.entries.proofs.plant.Reads as plant-reads
 
 slice-aggregate-plant : tie.Need-slice-aggregate-plant
 slice-aggregate-plant c = search needs

@@ -2,11 +2,6 @@ use Prim.Native.Nat.{_-_}
 use borrow.Author.Needs.{needs}
 use Rattle.afternoon.proofs.words.put_book.Statement.{statement}
 use Rattle.afternoon.proofs.words.put_book.Tie as tie
-use Rattle.afternoon.proofs.words.put_book.Reads as reads
-use Rattle.afternoon.proofs.words.put_book.Lts as lts
-use Rattle.afternoon.proofs.words.put.Reads as put-reads
-use Rattle.afternoon.proofs.words.put_change.Reads as put-change-reads
-use Rattle.afternoon.proofs.words.same.Reads as same-reads
 
 abbrev Inv-loop : tie.InvT-loop
 Inv-loop were are i₀ i = Unit {0}

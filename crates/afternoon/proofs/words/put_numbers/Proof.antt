@@ -3,9 +3,6 @@ use lib.ListN.{length}
 use borrow.Author.Needs.{needs}
 use Rattle.afternoon.proofs.words.put_numbers.Statement.{statement}
 use Rattle.afternoon.proofs.words.put_numbers.Tie as tie
-use Rattle.afternoon.proofs.words.put_numbers.Reads as reads
-use Rattle.afternoon.proofs.words.put_numbers.Lts as lts
-use Rattle.cases.proofs.put_signed.Reads as put-signed-reads
 
 abbrev Inv-loop : tie.InvT-loop
 Inv-loop s i₀ i = Unit {0}

@@ -2,11 +2,6 @@ use Prim.Native.Nat.{_-_}
 use borrow.Author.Needs.{needs}
 use Rattle.afternoon.proofs.words.put_report.Statement.{statement}
 use Rattle.afternoon.proofs.words.put_report.Tie as tie
-use Rattle.afternoon.proofs.words.put_report.Reads as reads
-use Rattle.afternoon.proofs.words.put_report.Lts as lts
-use Rattle.afternoon.proofs.words.put.Reads as put-reads
-use Rattle.afternoon.proofs.words.put_row_at.Reads as put-row-at-reads
-use Rattle.afternoon.proofs.words.same.Reads as same-reads
 
 abbrev Inv-loop : tie.InvT-loop
 Inv-loop number was is row₀ row = Unit {0}

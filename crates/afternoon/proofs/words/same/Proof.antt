@@ -3,8 +3,6 @@ use lib.ListN.{length}
 use borrow.Author.Needs.{needs}
 use Rattle.afternoon.proofs.words.same.Statement.{statement}
 use Rattle.afternoon.proofs.words.same.Tie as tie
-use Rattle.afternoon.proofs.words.same.Reads as reads
-use Rattle.afternoon.proofs.words.same.Lts as lts
 
 abbrev Inv-loop : tie.InvT-loop
 Inv-loop s t i₀ i = Unit {0}

@@ -1,15 +1,9 @@
 use mathlib.Core.Bool.{_||_}
-use mir.Facts.{toZ-ofZ}
-use mathlib.Core.Path.{_≡_, _∙_}
+use mathlib.Core.Path.{_≡_}
 use Rattle.book.specs.Test.{bookOut, bookOf}
 use borrow.Author.Needs.{needs}
 use Rattle.book.proofs.Book.new.Statement.{statement}
 use Rattle.book.proofs.Book.new.Tie as tie
-use Rattle.book.proofs.Book.new.Reads as reads
-use Rattle.book.proofs.Book.new.Lts as lts
-use Rattle.signed.proofs.magnitude.Reads as magnitude-reads
-use Rattle.signed.proofs.outside.Reads as outside-reads
-use Rattle.signed.proofs.outside_count.Reads as outside-count-reads
 
 outside-requires : tie.Need-outside-requires
 outside-requires c κs = search needs

@@ -1,4 +1,3 @@
-use lib.IntN.{ℤ}
 use mathlib.Core.Path.{_≡_, sym, _∙_}
 use mathlib.Core.Bool.{false}
 use Prim.Native.Nat.{_-_, _≤_}
@@ -12,10 +11,6 @@ use Rattle.laws.proofs.Scans.{Scanned, scan-start, scan-next, scan-stop, scan-e
 use Rattle.book.specs.Held.{markAt, heightAt, heldOut, heldBefore, heldBad, firstBadHeld}
 use Rattle.book.proofs.held.first_bad_held.Statement.{statement}
 use Rattle.book.proofs.held.first_bad_held.Tie as tie
-use Rattle.book.proofs.held.first_bad_held.Reads as reads
-use Rattle.book.proofs.held.first_bad_held.Lts as lts
-use Rattle.book.proofs.held.Held.outside.Reads as outside-reads
-use Rattle.signed.proofs.same.Reads as same-reads
 
 abbrev Inv-loop : tie.InvT-loop
 Inv-loop held b n i at mark j₀ j = (j ≤ i) × (heldBefore held (markAt held i) j ≡ false)

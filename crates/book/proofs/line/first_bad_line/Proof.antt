@@ -1,5 +1,5 @@
 use borrow.Author.Needs.{needs}
-use mathlib.Core.Path.{_≡_, sym, _∙_, ap}
+use mathlib.Core.Path.{_∙_}
 use Prim.Native.Nat.{_-_}
 use native.Mathlib.Nat.{add-sub-cancel-left}
 use native.Mathlib.Omega.{arith}
@@ -11,9 +11,6 @@ use Rattle.book.specs.Line.{lineBad, firstBadLine}
 use Rattle.book.proofs.Lines.{good-entry, faulty-entry}
 use Rattle.book.proofs.line.first_bad_line.Statement.{statement}
 use Rattle.book.proofs.line.first_bad_line.Tie as tie
-use Rattle.book.proofs.line.first_bad_line.Reads as reads
-use Rattle.book.proofs.line.first_bad_line.Lts as lts
-use Rattle.book.proofs.line.line_of.Reads as line-of-reads
 
 abbrev Inv-loop : tie.InvT-loop
 Inv-loop lines b n i₀ i = Scanned (lineBad (toZ w64 b) lines) n i

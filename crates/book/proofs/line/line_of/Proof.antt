@@ -3,9 +3,6 @@ use Rattle.book.specs.Line.{entryOf}
 use borrow.Author.Needs.{needs}
 use Rattle.book.proofs.line.line_of.Statement.{statement}
 use Rattle.book.proofs.line.line_of.Tie as tie
-use Rattle.book.proofs.line.line_of.Reads as reads
-use Rattle.book.proofs.line.line_of.Lts as lts
-use Rattle.book.proofs.line.Line.new.Reads as new-reads
 
 shared-slice-copy-out-new : tie.Need-shared-slice-copy-out-new
 shared-slice-copy-out-new c = search needs

@@ -1,18 +1,13 @@
 use native.Mathlib.Nat.{zero-mul}
-use mathlib.Core.Path.{_≡_, refl, sym, _∙_}
+use mathlib.Core.Path.{_≡_, refl, _∙_}
 use mathlib.Core.List.{_++_}
 use Prim.Native.Nat.{_+_, _*_, _-_, _≤_}
 use native.Mathlib.Omega.{arith}
 use lib.ListN.{length, drop, length-take, length-drop}
-use Rattle.file.specs.Entry.{entryBytes, entryWords, entries}
+use Rattle.file.specs.Entry.{entries}
 use Rattle.file.proofs.Entries.{room-for, entries-pour}
 use Rattle.file.proofs.entry.read_entries.Statement.{statement}
 use Rattle.file.proofs.entry.read_entries.Tie as tie
-use Rattle.file.proofs.entry.read_entries.Reads as reads
-use Rattle.file.proofs.entry.read_entries.Lts as lts
-use Rattle.file.proofs.entry.Kind.bytes.Reads as bytes-reads
-use Rattle.file.proofs.entry.Kind.words.Reads as words-reads
-use Rattle.file.proofs.entry.read_entry.Reads as read-entry-reads
 
 abbrev Inv-loop : tie.InvT-loop
 Inv-loop kind file a n out₀ bytes words i₀ out i = (i ≤ n) × (length out ≡ length out₀) × (out ≡ entries kind file a i ++ drop (i * words) out₀)

@@ -1,10 +1,6 @@
 use borrow.Author.Needs.{needs}
 use Rattle.file.proofs.entry.read_entry.Statement.{statement}
 use Rattle.file.proofs.entry.read_entry.Tie as tie
-use Rattle.file.proofs.entry.read_entry.Reads as reads
-use Rattle.file.proofs.entry.read_entry.Lts as lts
-use Rattle.file.proofs.entry.read_held.Reads as read-held-reads
-use Rattle.file.proofs.entry.read_line.Reads as read-line-reads
 
 enum-told : tie.Need-enum-told
 enum-told c = search needs

@@ -9,12 +9,6 @@ use Rattle.file.specs.Entry.{heldNumbers}
 use borrow.Author.Needs.{needs}
 use Rattle.file.proofs.entry.read_held.Statement.{statement}
 use Rattle.file.proofs.entry.read_held.Tie as tie
-use Rattle.file.proofs.entry.read_held.Reads as reads
-use Rattle.file.proofs.entry.read_held.Lts as lts
-use Rattle.file.proofs.wire.be2.Reads as be2-reads
-use Rattle.file.proofs.wire.be8.Reads as be8-reads
-use Rattle.file.proofs.wire.plain.Reads as plain-reads
-use Rattle.file.proofs.wire.signed8.Reads as signed8-reads
 
 be2-requires : tie.Need-be2-requires
 be2-requires c κs = search needs

@@ -11,12 +11,6 @@ use Rattle.file.specs.Entry.{lineNumbers}
 use borrow.Author.Needs.{needs}
 use Rattle.file.proofs.entry.read_line.Statement.{statement}
 use Rattle.file.proofs.entry.read_line.Tie as tie
-use Rattle.file.proofs.entry.read_line.Reads as reads
-use Rattle.file.proofs.entry.read_line.Lts as lts
-use Rattle.file.proofs.wire.be2.Reads as be2-reads
-use Rattle.file.proofs.wire.be4.Reads as be4-reads
-use Rattle.file.proofs.wire.plain.Reads as plain-reads
-use Rattle.file.proofs.wire.signed4.Reads as signed4-reads
 
 be2-requires : tie.Need-be2-requires
 be2-requires c κs = search needs

@@ -4,9 +4,6 @@ use Rattle.file.specs.Wire.{be}
 use borrow.Author.Needs.{needs}
 use Rattle.file.proofs.wire.be2.Statement.{statement}
 use Rattle.file.proofs.wire.be2.Tie as tie
-use Rattle.file.proofs.wire.be2.Reads as reads
-use Rattle.file.proofs.wire.be2.Lts as lts
-use Rattle.file.proofs.wire.wide.Reads as wide-reads
 
 shared-slice-read-wide : tie.Need-shared-slice-read-wide
 shared-slice-read-wide c = search needs

@@ -3,9 +3,6 @@ use Rattle.file.proofs.BigEndian.{be-join}
 use borrow.Author.Needs.{needs}
 use Rattle.file.proofs.wire.be4.Statement.{statement}
 use Rattle.file.proofs.wire.be4.Tie as tie
-use Rattle.file.proofs.wire.be4.Reads as reads
-use Rattle.file.proofs.wire.be4.Lts as lts
-use Rattle.file.proofs.wire.be2.Reads as be2-reads
 
 be2-requires : tie.Need-be2-requires
 be2-requires c κs = search needs

@@ -3,9 +3,6 @@ use Rattle.file.proofs.BigEndian.{be-join}
 use borrow.Author.Needs.{needs}
 use Rattle.file.proofs.wire.be8.Statement.{statement}
 use Rattle.file.proofs.wire.be8.Tie as tie
-use Rattle.file.proofs.wire.be8.Reads as reads
-use Rattle.file.proofs.wire.be8.Lts as lts
-use Rattle.file.proofs.wire.be4.Reads as be4-reads
 
 be4-requires : tie.Need-be4-requires
 be4-requires c κs = search needs

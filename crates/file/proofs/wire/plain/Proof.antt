@@ -4,8 +4,6 @@ use mir.Facts.{toZ-pos}
 use borrow.Author.Needs.{needs}
 use Rattle.file.proofs.wire.plain.Statement.{statement}
 use Rattle.file.proofs.wire.plain.Tie as tie
-use Rattle.file.proofs.wire.plain.Reads as reads
-use Rattle.file.proofs.wire.plain.Lts as lts
 
 cast-result : tie.Need-cast-result
 cast-result c = search needs

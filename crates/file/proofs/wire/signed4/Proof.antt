@@ -8,8 +8,6 @@ use Rattle.file.proofs.BigEndian.{high32, drop32}
 use borrow.Author.Needs.{needs}
 use Rattle.file.proofs.wire.signed4.Statement.{statement}
 use Rattle.file.proofs.wire.signed4.Tie as tie
-use Rattle.file.proofs.wire.signed4.Reads as reads
-use Rattle.file.proofs.wire.signed4.Lts as lts
 
 cast-result : tie.Need-cast-result
 cast-result c = search needs

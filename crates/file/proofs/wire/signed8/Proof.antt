@@ -9,8 +9,6 @@ use Rattle.file.proofs.BigEndian.{high64, minus-one-less}
 use borrow.Author.Needs.{needs}
 use Rattle.file.proofs.wire.signed8.Statement.{statement}
 use Rattle.file.proofs.wire.signed8.Tie as tie
-use Rattle.file.proofs.wire.signed8.Reads as reads
-use Rattle.file.proofs.wire.signed8.Lts as lts
 
 cast-result : tie.Need-cast-result
 cast-result c = search needs

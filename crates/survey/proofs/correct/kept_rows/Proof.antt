@@ -1,16 +1,12 @@
 use Prim.Native.Nat.{_*_, _≤_}
-use mathlib.Core.Path.{_≡_, refl, sym, _∙_}
+use mathlib.Core.Path.{_≡_, refl}
 use native.Mathlib.Omega.{arith}
-use lib.ListN.{length, length-take}
+use lib.ListN.{length-take}
 use Rattle.survey.specs.Correction.{otherReport}
 use Rattle.survey.proofs.Keeping.{fresh, few-words, count-of, front-is, kept-other, kept-rows}
 use borrow.Author.Needs.{needs}
 use Rattle.survey.proofs.correct.kept_rows.Statement.{statement}
 use Rattle.survey.proofs.correct.kept_rows.Tie as tie
-use Rattle.survey.proofs.correct.kept_rows.Reads as reads
-use Rattle.survey.proofs.correct.kept_rows.Lts as lts
-use Rattle.kept.proofs.differs.Reads as differs-reads
-use Rattle.survey.proofs.work.survey_good.Reads as survey-good-reads
 
 slice-aggregate-survey-good : tie.Need-slice-aggregate-survey-good
 slice-aggregate-survey-good c = search needs

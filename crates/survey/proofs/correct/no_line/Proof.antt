@@ -12,12 +12,6 @@ use Rattle.survey.specs.Correction.{noLine}
 use borrow.Author.Needs.{needs}
 use Rattle.survey.proofs.correct.no_line.Statement.{statement}
 use Rattle.survey.proofs.correct.no_line.Tie as tie
-use Rattle.survey.proofs.correct.no_line.Reads as reads
-use Rattle.survey.proofs.correct.no_line.Lts as lts
-use Rattle.signed.proofs.magnitude.Reads as magnitude-reads
-use Rattle.signed.proofs.outside.Reads as outside-reads
-use Rattle.signed.proofs.same.Reads as same-reads
-use Rattle.signed.proofs.signed_count.Reads as signed-count-reads
 
 signed-count-requires : tie.Need-signed-count-requires
 signed-count-requires c κs = search needs

@@ -1,16 +1,11 @@
 use Prim.Native.Nat.{_*_, _≤_}
-use mathlib.Core.Path.{_≡_, refl, sym, _∙_}
+use mathlib.Core.Path.{_≡_, refl}
 use native.Mathlib.Omega.{arith}
 use lib.ListN.{length, length-take}
 use Rattle.survey.proofs.Keeping.{fresh, few-words, words-are, answer-is, front-is, refreshed-is}
 use borrow.Author.Needs.{needs}
 use Rattle.survey.proofs.correct.refresh.Statement.{statement}
 use Rattle.survey.proofs.correct.refresh.Tie as tie
-use Rattle.survey.proofs.correct.refresh.Reads as reads
-use Rattle.survey.proofs.correct.refresh.Lts as lts
-use Rattle.kept.proofs.put.Reads as put-reads
-use Rattle.kept.proofs.vacate.Reads as vacate-reads
-use Rattle.survey.proofs.work.survey_good.Reads as survey-good-reads
 
 slice-aggregate-survey-good : tie.Need-slice-aggregate-survey-good
 slice-aggregate-survey-good c = search needs

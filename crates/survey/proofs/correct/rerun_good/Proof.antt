@@ -1,28 +1,19 @@
-use mathlib.Core.Path.{_≡_, refl, sym, _∙_, ap, subst}
-use mathlib.Core.Bool.{false}
-use mathlib.Core.List.{List}
+use mathlib.Core.Path.{_≡_, refl, sym, _∙_, ap}
 use Prim.Native.Nat.{_+_, _*_, _-_, _<_}
 use native.Mathlib.Omega.{arith}
-use lib.IntN.{ℤ, natAbs}
+use lib.IntN.{natAbs}
 use lib.ListN.{length, take, set, length-take, length-set}
 use mir.Syntax.{w64}
 use mir.Val.{toZ, ofZ}
 use mir.Facts.{toZ-ofZ}
 use Rattle.reruns.specs.Again.{Again}
 use Rattle.survey.specs.Stands.{Stands}
-use Rattle.survey.specs.Correction.{noLine, rerunLines, corrected, correctGood}
-use Rattle.survey.proofs.Corrected.{stands-of, place-is}
+use Rattle.survey.specs.Correction.{noLine, rerunLines, correctGood}
+use Rattle.survey.proofs.Corrected.{stands-of}
 use Rattle.survey.proofs.Remeasured.{copied, rerun-refused, rerun-done}
 use borrow.Author.Needs.{needs}
 use Rattle.survey.proofs.correct.rerun_good.Statement.{statement}
 use Rattle.survey.proofs.correct.rerun_good.Tie as tie
-use Rattle.survey.proofs.correct.rerun_good.Reads as reads
-use Rattle.survey.proofs.correct.rerun_good.Lts as lts
-use Rattle.signed.proofs.magnitude.Reads as magnitude-reads
-use Rattle.survey.proofs.correct.no_line.Reads as no-line-reads
-use Rattle.survey.proofs.correct.rerun_report.Reads as rerun-report-reads
-use Rattle.kept.proofs.put.Reads as put-reads
-use Rattle.survey.proofs.refuse.Reads as refuse-reads
 
 no-line-requires : tie.Need-no-line-requires
 no-line-requires c κs = search needs

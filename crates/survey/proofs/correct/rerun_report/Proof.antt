@@ -9,12 +9,6 @@ use Rattle.survey.proofs.Remeasured.{again-good, kept-nine, kept-done}
 use borrow.Author.Needs.{needs}
 use Rattle.survey.proofs.correct.rerun_report.Statement.{statement}
 use Rattle.survey.proofs.correct.rerun_report.Tie as tie
-use Rattle.survey.proofs.correct.rerun_report.Reads as reads
-use Rattle.survey.proofs.correct.rerun_report.Lts as lts
-use Rattle.kept.proofs.differs.Reads as differs-reads
-use Rattle.kept.proofs.put.Reads as put-reads
-use Rattle.survey.proofs.refuse.Reads as refuse-reads
-use Rattle.survey.proofs.work.survey_again.Reads as survey-again-reads
 
 slice-aggregate-survey-again : tie.Need-slice-aggregate-survey-again
 slice-aggregate-survey-again c = search needs

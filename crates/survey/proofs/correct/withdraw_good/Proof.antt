@@ -1,6 +1,5 @@
-use mathlib.Core.Path.{_≡_, sym, _∙_, ap, subst}
+use mathlib.Core.Path.{_≡_, sym, _∙_, ap}
 use mathlib.Core.Bool.{false}
-use mathlib.Core.List.{List}
 use Prim.Native.Nat.{_+_, _*_, _-_}
 use native.Mathlib.Omega.{arith}
 use lib.IntN.{pos, natAbs}
@@ -8,19 +7,12 @@ use lib.ListN.{length, set}
 use Rattle.survey.specs.Stands.{Stands}
 use Rattle.survey.specs.GoodLines.{GoodLines}
 use Rattle.survey.specs.Report.{loopsOf}
-use Rattle.survey.specs.Correction.{noLine, otherReport, withdrawLines, corrected, correctGood}
+use Rattle.survey.specs.Correction.{noLine, otherReport, withdrawLines, correctGood}
 use Rattle.survey.proofs.Keeping.{fresh, is-other, is-kept, corrected-is, refresh-of}
 use Rattle.survey.proofs.Corrected.{stands-of, withdrawn-lines-good, withdrawal-fewer}
 use borrow.Author.Needs.{needs}
 use Rattle.survey.proofs.correct.withdraw_good.Statement.{statement}
 use Rattle.survey.proofs.correct.withdraw_good.Tie as tie
-use Rattle.survey.proofs.correct.withdraw_good.Reads as reads
-use Rattle.survey.proofs.correct.withdraw_good.Lts as lts
-use Rattle.signed.proofs.magnitude.Reads as magnitude-reads
-use Rattle.survey.proofs.correct.kept_rows.Reads as kept-rows-reads
-use Rattle.survey.proofs.correct.no_line.Reads as no-line-reads
-use Rattle.survey.proofs.correct.refresh.Reads as refresh-reads
-use Rattle.survey.proofs.refuse.Reads as refuse-reads
 
 no-line-requires : tie.Need-no-line-requires
 no-line-requires c κs = search needs

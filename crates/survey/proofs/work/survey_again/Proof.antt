@@ -1,9 +1,6 @@
 use borrow.Author.Needs.{needs}
 use Rattle.survey.proofs.work.survey_again.Statement.{statement}
 use Rattle.survey.proofs.work.survey_again.Tie as tie
-use Rattle.survey.proofs.work.survey_again.Reads as reads
-use Rattle.survey.proofs.work.survey_again.Lts as lts
-use Rattle.survey.proofs.work.survey_again_in.Reads as survey-again-in-reads
 
 slice-aggregate-survey-again-in : tie.Need-slice-aggregate-survey-again-in
 slice-aggregate-survey-again-in c = search needs

@@ -1,10 +1,6 @@
-use Rattle.survey.specs.Desk.{Desk}
 use borrow.Author.Needs.{needs}
 use Rattle.survey.proofs.work.survey_good.Statement.{statement}
 use Rattle.survey.proofs.work.survey_good.Tie as tie
-use Rattle.survey.proofs.work.survey_good.Reads as reads
-use Rattle.survey.proofs.work.survey_good.Lts as lts
-use Rattle.survey.proofs.work.survey_in.Reads as survey-in-reads
 
 slice-aggregate-survey-in : tie.Need-slice-aggregate-survey-in
 slice-aggregate-survey-in c = search needs

@@ -3,9 +3,6 @@ use Rattle.book.specs.Height.{heldHeightOut, heldHeightOf}
 use borrow.Author.Needs.{needs}
 use Rattle.book.proofs.height.Height.held.Statement.{statement}
 use Rattle.book.proofs.height.Height.held.Tie as tie
-use Rattle.book.proofs.height.Height.held.Reads as reads
-use Rattle.book.proofs.height.Height.held.Lts as lts
-use Rattle.book.proofs.height.Height.outside_held.Reads as outside-held-reads
 
 outside-held-requires : tie.Need-outside-held-requires
 outside-held-requires c κs = search needs

@@ -3,9 +3,6 @@ use Rattle.book.specs.Height.{workHeightOut, workHeightOf}
 use borrow.Author.Needs.{needs}
 use Rattle.book.proofs.height.Height.in_work.Statement.{statement}
 use Rattle.book.proofs.height.Height.in_work.Tie as tie
-use Rattle.book.proofs.height.Height.in_work.Reads as reads
-use Rattle.book.proofs.height.Height.in_work.Lts as lts
-use Rattle.book.proofs.height.Height.outside_work.Reads as outside-work-reads
 
 outside-work-requires : tie.Need-outside-work-requires
 outside-work-requires c κs = search needs

@@ -3,9 +3,6 @@ use Rattle.book.specs.Height.{heldHeightOut}
 use borrow.Author.Needs.{needs}
 use Rattle.book.proofs.height.Height.outside_held.Statement.{statement}
 use Rattle.book.proofs.height.Height.outside_held.Tie as tie
-use Rattle.book.proofs.height.Height.outside_held.Reads as reads
-use Rattle.book.proofs.height.Height.outside_held.Lts as lts
-use Rattle.signed.proofs.outside.Reads as outside-reads
 
 outside-requires : tie.Need-outside-requires
 outside-requires c κs = search needs

@@ -3,9 +3,6 @@ use Rattle.book.specs.Height.{workHeightOut}
 use borrow.Author.Needs.{needs}
 use Rattle.book.proofs.height.Height.outside_work.Statement.{statement}
 use Rattle.book.proofs.height.Height.outside_work.Tie as tie
-use Rattle.book.proofs.height.Height.outside_work.Reads as reads
-use Rattle.book.proofs.height.Height.outside_work.Lts as lts
-use Rattle.signed.proofs.outside.Reads as outside-reads
 
 outside-requires : tie.Need-outside-requires
 outside-requires c κs = search needs

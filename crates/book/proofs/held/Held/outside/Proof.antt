@@ -2,10 +2,6 @@ use Rattle.book.specs.Held.{heldOut}
 use borrow.Author.Needs.{needs}
 use Rattle.book.proofs.held.Held.outside.Statement.{statement}
 use Rattle.book.proofs.held.Held.outside.Tie as tie
-use Rattle.book.proofs.held.Held.outside.Reads as reads
-use Rattle.book.proofs.held.Held.outside.Lts as lts
-use Rattle.book.proofs.height.Height.outside_held.Reads as outside-held-reads
-use Rattle.signed.proofs.outside.Reads as outside-reads
 
 outside-requires : tie.Need-outside-requires
 outside-requires c κs = search needs

@@ -2,12 +2,6 @@ use Rattle.book.specs.Line.{lineFault}
 use borrow.Author.Needs.{needs}
 use Rattle.book.proofs.line.Line.fault.Statement.{statement}
 use Rattle.book.proofs.line.Line.fault.Tie as tie
-use Rattle.book.proofs.line.Line.fault.Reads as reads
-use Rattle.book.proofs.line.Line.fault.Lts as lts
-use Rattle.book.proofs.line.Line.outside_difference.Reads as outside-difference-reads
-use Rattle.book.proofs.line.first.Reads as first-reads
-use Rattle.signed.proofs.outside.Reads as outside-reads
-use Rattle.signed.proofs.same.Reads as same-reads
 
 outside-requires : tie.Need-outside-requires
 outside-requires c κs = search needs

@@ -4,9 +4,6 @@ use Rattle.book.specs.Line.{lineFault, lineOf}
 use borrow.Author.Needs.{needs}
 use Rattle.book.proofs.line.Line.new.Statement.{statement}
 use Rattle.book.proofs.line.Line.new.Tie as tie
-use Rattle.book.proofs.line.Line.new.Reads as reads
-use Rattle.book.proofs.line.Line.new.Lts as lts
-use Rattle.book.proofs.line.Line.fault.Reads as fault-reads
 
 fault-requires : tie.Need-fault-requires
 fault-requires c κs = search needs

@@ -3,9 +3,6 @@ use Rattle.book.specs.Line.{differenceOut}
 use borrow.Author.Needs.{needs}
 use Rattle.book.proofs.line.Line.outside_difference.Statement.{statement}
 use Rattle.book.proofs.line.Line.outside_difference.Tie as tie
-use Rattle.book.proofs.line.Line.outside_difference.Reads as reads
-use Rattle.book.proofs.line.Line.outside_difference.Lts as lts
-use Rattle.signed.proofs.outside.Reads as outside-reads
 
 outside-requires : tie.Need-outside-requires
 outside-requires c κs = search needs
