@@ -9,6 +9,9 @@ use crate::Adjusted;
 use crate::along::adjust_along;
 use book::Book;
 
+// A place for each mark of any book.
+const MARKS: usize = Book::MAX_MARKS as usize;
+
 // The adjustment, its heights left in z.
 fn adjust_into(book: Book, held: &[i64], lines: &[i64], z: &mut [i64]) -> Adjusted
     requires { ⌜ GoodEntries book (now held) (now lines) ⌝ ∗ ⌜ length (now z) ≡ book .marks ⌝ }
@@ -16,14 +19,14 @@ fn adjust_into(book: Book, held: &[i64], lines: &[i64], z: &mut [i64]) -> Adjust
 {
     let b = book.marks;
     let n = book.lines;
-    let mut order = [0usize; 256];
-    let mut came = [0usize; 256];
-    let mut flags = [false; 256];
-    let mut own = [0i64; 256];
-    let mut root = [0usize; 256];
-    let mut over = [0i64; 256];
-    let mut has = [false; 256];
-    let mut base = [0i64; 256];
+    let mut order = [0usize; MARKS];
+    let mut came = [0usize; MARKS];
+    let mut flags = [false; MARKS];
+    let mut own = [0i64; MARKS];
+    let mut root = [0usize; MARKS];
+    let mut over = [0i64; MARKS];
+    let mut has = [false; MARKS];
+    let mut base = [0i64; MARKS];
     entries::plant(lines, &mut order[..], &mut came[..], b, n);
     adjust_along(
         lines,
@@ -70,6 +73,6 @@ pub(crate) fn adjust_good(book: Book, held: &[i64], lines: &[i64], heights: &mut
     if heights.len() < b {
         return crate::refuse(10, 0);
     }
-    let mut z = [0i64; 256];
+    let mut z = [0i64; MARKS];
     adjust_by(book, held, lines, &mut z[..b], heights)
 }

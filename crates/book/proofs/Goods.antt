@@ -14,7 +14,7 @@ use Rattle.laws.specs.Tests.{outZ, outN, eqZ}
 use Rattle.laws.proofs.Tests.{or-left, or-right, inN-high, eqZ-apart}
 use Rattle.laws.proofs.Scans.{cond-zero, none-bad, none-below, first-most}
 use Rattle.laws.proofs.Size.{between, size-within}
-use Rattle.book.specs.Limits.{mostMarks, mostLines, mostHeld, mostTolerance, leastLength, mostLength}
+use Rattle.book.specs.Limits.{leastMarks, mostMarks, leastLines, mostLines, leastHeld, mostHeld, leastTolerance, mostTolerance, mostDifference, leastLength, mostLength, mostHeldHeight}
 use Rattle.book.specs.Height.{heldHeightOut}
 use Rattle.book.specs.Held.{heldWords, markAt, heightAt, heldCount, heldOut, heldBefore, heldBad, firstBadHeld}
 use Rattle.book.specs.Line.{lineWords, fromAt, toAt, differenceAt, lengthAt, standingAt, lineCount, differenceOut, lineFault, lineBad, firstBadLine}
@@ -44,7 +44,7 @@ good-line b lines i e =
       from = between 1 b f (or-left (outZ (pos 1) (pos b) f) (outZ (pos 1) (pos b) t) (ends .0));
       to = between 1 b t (or-right (outZ (pos 1) (pos b) f) (outZ (pos 1) (pos b) t) (ends .0));
       apart = eqZ-apart f t (same .0);
-      difference = size-within 99999999 d (difference .0);
+      difference = size-within mostDifference d (difference .0);
       long = between leastLength mostLength l (long .0);
       standing = between 0 1 s (standing .0);
     }
@@ -59,7 +59,7 @@ good-held b held i e =
     let fresh = or-right (heldOut (pos b) m h) (heldBefore held m i) e in
     record {
       mark = between 1 b m (or-left (outZ (pos 1) (pos b) m) (heldHeightOut h) out);
-      height = size-within 9999999999 h (or-right (outZ (pos 1) (pos b) m) (heldHeightOut h) out);
+      height = size-within mostHeldHeight h (or-right (outZ (pos 1) (pos b) m) (heldHeightOut h) out);
       once = λ j l. eqZ-apart (markAt held j) m (none-below (λ j. eqZ (markAt held j) m) i fresh j l);
     }
 
@@ -104,14 +104,14 @@ module _ (b t : ℤ) (held lines : List ℤ) (k : Book) where
       let p₄ = past (ltb 0 (firstBadHeld b held)) 6 (firstBadHeld b held) _ k (p₃ .1) in
       let p₅ = past (ltb 0 (firstBadLine b lines)) 7 (firstBadLine b lines) _ k (p₄ .1) in
       let q = tested-counts e in
-      let out₁ = outZ (pos 1) (pos mostMarks) b in
-      let out₂ = outZ (pos 1) (pos mostTolerance) t in
-      let out₃ = outN 0 mostHeld h in
-      let out₄ = outN 0 mostLines n in
+      let out₁ = outZ (pos leastMarks) (pos mostMarks) b in
+      let out₂ = outZ (pos leastTolerance) (pos mostTolerance) t in
+      let out₃ = outN leastHeld mostHeld h in
+      let out₄ = outN leastLines mostLines n in
       let o₃ = or-left (out₁ || out₂ || out₃) out₄ (p₃ .0) in
       let o₂ = or-left (out₁ || out₂) out₃ o₃ in
-      let marks = between 1 mostMarks b (or-left out₁ out₂ o₂) in
-      let tolerance = between 1 mostTolerance t (or-right out₁ out₂ o₂) in
+      let marks = between leastMarks mostMarks b (or-left out₁ out₂ o₂) in
+      let tolerance = between leastTolerance mostTolerance t (or-right out₁ out₂ o₂) in
       subst (λ (k : Book). GoodBook k b t held lines) (sym q) (record {
         marks = marks .is;
         a-mark = marks .low;
@@ -120,9 +120,9 @@ module _ (b t : ℤ) (held lines : List ℤ) (k : Book) where
         a-tolerance = tolerance .low;
         small-tolerance = tolerance .high;
         whole-held = whole heldWords held (p₁ .0);
-        few-held = inN-high 0 mostHeld h (or-right (out₁ || out₂) out₃ o₃);
+        few-held = inN-high leastHeld mostHeld h (or-right (out₁ || out₂) out₃ o₃);
         whole-lines = whole lineWords lines (p₂ .0);
-        few-lines = inN-high 0 mostLines n (or-right (out₁ || out₂ || out₃) out₄ (p₃ .0));
+        few-lines = inN-high leastLines mostLines n (or-right (out₁ || out₂ || out₃) out₄ (p₃ .0));
         each-held = λ i l. good-held (natAbs b) held i (subst (λ (z : ℤ). heldBad z held i ≡ false) (marks .is) (none-bad (heldBad b held) h (none-first (firstBadHeld b held) (p₄ .0)) i l));
         each-line = λ i l. good-line (natAbs b) lines i (subst (λ (z : ℤ). lineBad z lines i ≡ false) (marks .is) (none-bad (lineBad b lines) n (none-first (firstBadLine b lines) (p₅ .0)) i l));
       })
@@ -146,12 +146,12 @@ module _ (b t : ℤ) (held lines : List ℤ) where
   few-entries : bookOut b t (heldCount held) (lineCount lines) ≡ false → (heldCount held ≤ mostHeld) × (lineCount lines ≤ mostLines)
   unfolding bookOut
   few-entries e =
-      let out₁ = outZ (pos 1) (pos mostMarks) b in
-      let out₂ = outZ (pos 1) (pos mostTolerance) t in
-      let out₃ = outN 0 mostHeld (heldCount held) in
-      let out₄ = outN 0 mostLines (lineCount lines) in
+      let out₁ = outZ (pos leastMarks) (pos mostMarks) b in
+      let out₂ = outZ (pos leastTolerance) (pos mostTolerance) t in
+      let out₃ = outN leastHeld mostHeld (heldCount held) in
+      let out₄ = outN leastLines mostLines (lineCount lines) in
       let o₃ = or-left (out₁ || out₂ || out₃) out₄ e in
-      (inN-high 0 mostHeld (heldCount held) (or-right (out₁ || out₂) out₃ o₃), inN-high 0 mostLines (lineCount lines) (or-right (out₁ || out₂ || out₃) out₄ e))
+      (inN-high leastHeld mostHeld (heldCount held) (or-right (out₁ || out₂) out₃ o₃), inN-high leastLines mostLines (lineCount lines) (or-right (out₁ || out₂ || out₃) out₄ e))
 
   pub tested-numbered : (r : Refusal) → testOf b t held lines ≡ Refused r → Numbered r
   unfolding testOf firstBadHeld firstBadLine

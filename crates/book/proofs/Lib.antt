@@ -1,4 +1,4 @@
+pub mod Made
 pub mod Lines
-pub mod Counts
 pub mod Goods
 pub mod Passing

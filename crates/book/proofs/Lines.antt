@@ -1,10 +1,9 @@
 -- The line that an entry of the slice makes, by the fields of the slice.
 -- Assumes nothing.
-use mathlib.Core.Path.{_≡_, refl, sym, _∙_}
-use mathlib.Core.Bool.{Bool, true, false, cond}
+use mathlib.Core.Path.{_≡_, _∙_}
+use mathlib.Core.Bool.{true, false}
 use mathlib.Core.List.{List}
 use Prim.Native.Nat.{ℕ, _*_, _<_}
-use native.Mathlib.Omega.{arith}
 use lib.Dec.{lit<}
 use lib.ListN.{getD, take, drop}
 use lib.Seq.{getD-take, getD-drop}
@@ -12,7 +11,8 @@ use lib.IntN.{ℤ, pos}
 use Rattle.book.specs.Line.{lineWords, field, fromAt, toAt, differenceAt, lengthAt, standingAt, lineOf, entryOf, lineBad}
 use Rattle.book.specs.declared.line.Line.{Line}
 use Rattle.book.specs.declared.line.MadeLine.{MadeLine}
-use Rattle.book.specs.declared.line.MadeLine.the-variants.{Good, Faulty}
+use Rattle.book.specs.declared.line.MadeLine.the-variants.{Good, Refused}
+use Rattle.book.proofs.Made.{line-made, no-line}
 
 -- the five numbers of the line at place i
 abbrev pub entryAt : List ℤ → ℕ → List ℤ
@@ -27,20 +27,12 @@ unfolding entryOf
 entry-line b lines i =
     rw (word lines i 0 (lit< tt), word lines i 1 (lit< tt), word lines i 2 (lit< tt), word lines i 3 (lit< tt), word lines i 4 (lit< tt))
 
--- what was made tells the test that made it
-made-good : (t : Bool) (k : ℕ) (l m : Line) → cond t (Faulty k) (Good l) ≡ Good m → t ≡ false
-made-good true k l m e = let z : _≡_ {A = ℕ} 0 1 = cc in absurd (omega arith)
-made-good false k l m e = refl
-
-made-faulty : (t : Bool) (k j : ℕ) (l : Line) → cond t (Faulty k) (Good l) ≡ Faulty j → t ≡ true
-made-faulty true k j l e = refl
-made-faulty false k j l e = let z : _≡_ {A = ℕ} 0 1 = cc in absurd (omega arith)
-
+-- what was made of the line at place i tells whether it has a fault
 module _ (b : ℤ) (lines : List ℤ) (i : ℕ) (m : MadeLine) (e : m ≡ entryOf b (entryAt lines i)) where
   pub good-entry : (l : Line) → m ≡ Good l → lineBad b lines i ≡ false
-  unfolding lineOf lineBad
-  good-entry l h = made-good _ _ _ l (sym (entry-line b lines i) ∙ sym e ∙ h)
+  unfolding lineBad
+  good-entry l h = line-made b _ _ _ _ _ m (e ∙ entry-line b lines i) l h .0
 
-  pub faulty-entry : (k : ℕ) → m ≡ Faulty k → lineBad b lines i ≡ true
-  unfolding lineOf lineBad
-  faulty-entry k h = made-faulty _ _ k _ (sym (entry-line b lines i) ∙ sym e ∙ h)
+  pub faulty-entry : (number fault : ℕ) → m ≡ Refused number fault → lineBad b lines i ≡ true
+  unfolding lineBad
+  faulty-entry number fault h = no-line b _ _ _ _ _ m (e ∙ entry-line b lines i) number fault h

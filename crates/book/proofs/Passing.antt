@@ -1,6 +1,6 @@
 -- A book inside every limit passes the test. Assumes nothing.
-use mathlib.Core.Path.{_≡_}
-use mathlib.Core.Bool.{false}
+use mathlib.Core.Path.{_≡_, _∙_, ap}
+use mathlib.Core.Bool.{Bool, false, cond}
 use mathlib.Core.List.{List}
 use Prim.Native.Nat.{ℕ, _/_, _%_}
 use native.Mathlib.Omega.{arith}
@@ -8,14 +8,16 @@ use lib.ListN.{length}
 use lib.IntN.{ℤ, pos}
 use borrow.Author.Tests.{eq-eqb, le-ltb}
 use Rattle.laws.specs.Tests.{outN, eqZ}
-use Rattle.book.specs.Limits.{mostMarks, mostLines, mostHeld, mostTolerance}
+use Rattle.book.specs.Limits.{leastMarks, mostMarks, leastLines, mostLines, leastHeld, mostHeld, leastTolerance, mostTolerance, mostDifference, mostHeldHeight}
 use Rattle.book.specs.Height.{heldHeightOut}
 use Rattle.book.specs.Held.{markAt, heightAt, heldOut, heldBefore, heldBad, firstBadHeld}
-use Rattle.book.specs.Line.{fromAt, toAt, differenceAt, differenceOut, lineFault, lineBad, firstBadLine}
+use Rattle.book.specs.Line.{fromAt, toAt, differenceAt, lengthAt, standingAt, lineAt, differenceOut, lineFault, lineOf, entryOf, lineBad, firstBadLine}
 use Rattle.book.specs.Test.{bookOut, torn, testOf}
 use Rattle.book.specs.Good.{GoodLine, GoodHeld, GoodBook}
 use Rattle.book.specs.declared.Book.{Book}
 use Rattle.book.specs.declared.Tested.the-variants.{Good}
+use Rattle.book.specs.declared.line.MadeLine.the-variants as made
+use Rattle.book.proofs.Lines.{entryAt, entry-line}
 use Rattle.laws.proofs.FirstBad.{none-first, none-any}
 use Rattle.laws.proofs.Inside.{inside, between-inside, size-inside, apart-eqZ}
 
@@ -23,13 +25,13 @@ use Rattle.laws.proofs.Inside.{inside, between-inside, size-inside, apart-eqZ}
 pub line-passes : (b : ℕ) (lines : List ℤ) (i : ℕ) → GoodLine b lines i → lineBad (pos b) lines i ≡ false
 unfolding lineBad lineFault differenceOut
 line-passes b lines i g =
-    rw (between-inside (g .from), between-inside (g .to), apart-eqZ (fromAt lines i) (toAt lines i) (g .apart), size-inside 99999999 (differenceAt lines i) (g .difference), between-inside (g .long), between-inside (g .standing))
+    rw (between-inside (g .from), between-inside (g .to), apart-eqZ (fromAt lines i) (toAt lines i) (g .apart), size-inside mostDifference (differenceAt lines i) (g .difference), between-inside (g .long), between-inside (g .standing))
 
 -- a held entry inside its limits is not bad
 pub held-passes : (b : ℕ) (held : List ℤ) (i : ℕ) → GoodHeld b held i → heldBad (pos b) held i ≡ false
 unfolding heldBad heldOut heldHeightOut heldBefore
 held-passes b held i g =
-    rw (between-inside (g .mark), size-inside 9999999999 (heightAt held i) (g .height), none-any (λ j. eqZ (markAt held j) (markAt held i)) i (λ j l. apart-eqZ (markAt held j) (markAt held i) (g .once j l)))
+    rw (between-inside (g .mark), size-inside mostHeldHeight (heightAt held i) (g .height), none-any (λ j. eqZ (markAt held j) (markAt held i)) i (λ j l. apart-eqZ (markAt held j) (markAt held i) (g .once j l)))
 
 -- a book inside every limit passes the test
 pub good-passes : (k : Book) (b t : ℤ) (held lines : List ℤ) → GoodBook k b t held lines → testOf b t held lines ≡ Good k
@@ -42,11 +44,11 @@ good-passes k b t held lines g =
       n,
       g .marks,
       g .tolerance,
-      inside 1 mostMarks (k .marks) (g .a-mark) (g .few-marks),
-      inside 1 mostTolerance (k .tolerance) (g .a-tolerance) (g .small-tolerance),
-      le-ltb (k .held) 0 (omega arith),
+      inside leastMarks mostMarks (k .marks) (g .a-mark) (g .few-marks),
+      inside leastTolerance mostTolerance (k .tolerance) (g .a-tolerance) (g .small-tolerance),
+      le-ltb (k .held) leastHeld (omega arith),
       le-ltb mostHeld (k .held) (g .few-held),
-      le-ltb (k .lines) 0 (omega arith),
+      le-ltb (k .lines) leastLines (omega arith),
       le-ltb mostLines (k .lines) (g .few-lines),
       none-first (heldBad (pos (k .marks)) held) (k .held) (λ i l. held-passes (k .marks) held i (g .each-held i l)),
       none-first (lineBad (pos (k .marks)) lines) (k .lines) (λ i l. line-passes (k .marks) lines i (g .each-line i l)),
@@ -57,3 +59,12 @@ good-passes k b t held lines g =
 
     n : length lines / 5 ≡ k .lines
     n = omega (arith, g .whole-lines)
+
+-- the line at place i is made of its entry
+pub line-is-made : (b : ℕ) (lines : List ℤ) (i : ℕ) → GoodLine b lines i → entryOf (pos b) (entryAt lines i) ≡ made.Good (lineAt lines i)
+unfolding lineOf lineBad
+line-is-made b lines i g =
+    entry-line (pos b) lines i ∙ ap (λ (t : Bool). cond t (made.Refused 7 fault) (made.Good (lineAt lines i))) (line-passes b lines i g)
+  where
+    fault : ℕ
+    fault = lineFault (pos b) (fromAt lines i) (toAt lines i) (differenceAt lines i) (lengthAt lines i) (standingAt lines i)

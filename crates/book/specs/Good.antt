@@ -6,8 +6,8 @@ use mathlib.Core.List.{List}
 use Prim.Native.Nat.{ℕ, _*_, _≤_, _<_}
 use lib.ListN.{length}
 use lib.IntN.{ℤ, pos, natAbs}
-use Rattle.laws.proofs.Size.{Between}
-use Rattle.book.specs.Limits.{mostMarks, mostLines, mostHeld, mostTolerance, mostDifference, leastLength, mostLength, mostHeldHeight}
+use Rattle.laws.specs.Range.{Between}
+use Rattle.book.specs.Limits.{leastMarks, mostMarks, mostLines, mostHeld, leastTolerance, mostTolerance, mostDifference, leastLength, mostLength, mostHeldHeight}
 use Rattle.book.specs.Held.{heldWords, markAt, heightAt}
 use Rattle.book.specs.Line.{lineWords, fromAt, toAt, differenceAt, lengthAt, standingAt}
 use Rattle.book.specs.declared.Book.{Book}
@@ -30,10 +30,10 @@ pub record GoodHeld (b : ℕ) (held : List ℤ) (i : ℕ) : Type 0 where
 -- the book with the counts k
 pub record GoodBook (k : Book) (b t : ℤ) (held lines : List ℤ) : Type 0 where
   pub marks : b ≡ pos (k .marks)
-  pub a-mark : 1 ≤ k .marks
+  pub a-mark : leastMarks ≤ k .marks
   pub few-marks : k .marks ≤ mostMarks
   pub tolerance : t ≡ pos (k .tolerance)
-  pub a-tolerance : 1 ≤ k .tolerance
+  pub a-tolerance : leastTolerance ≤ k .tolerance
   pub small-tolerance : k .tolerance ≤ mostTolerance
   pub whole-held : length held ≡ k .held * heldWords
   pub few-held : k .held ≤ mostHeld

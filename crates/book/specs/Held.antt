@@ -1,6 +1,6 @@
 -- Document 01, refusal 6: which held entries are bad. "A held entry is two: mark, height."
 -- Assumes nothing.
-use mathlib.Core.Bool.{Bool, _||_}
+use mathlib.Core.Bool.{Bool, _||_, cond}
 use mathlib.Core.List.{List}
 use Prim.Native.Nat.{ℕ, _+_, _*_, _/_}
 use lib.ListN.{length, getD}
@@ -8,6 +8,8 @@ use lib.IntN.{ℤ, pos}
 use Rattle.laws.specs.Tests.{outZ, eqZ}
 use Rattle.laws.specs.Scan.{firstBad, anyBelow}
 use Rattle.book.specs.Height.{heldHeightOut}
+use Rattle.book.specs.declared.held.MadeHeld.{MadeHeld}
+use Rattle.book.specs.declared.held.MadeHeld.the-variants.{Good, Refused}
 
 -- numbers per held entry
 abbrev pub heldWords : ℕ
@@ -28,6 +30,11 @@ heldCount held = length held / heldWords
 unfoldable pub heldOut : ℤ → ℤ → ℤ → Bool
 unfolding heldHeightOut
 heldOut b mark height = outZ (pos 1) b mark || heldHeightOut height
+
+-- the held entry of a book of b marks that two numbers make, or refusal 6
+unfoldable pub heldEntryOf : ℤ → ℤ → ℤ → MadeHeld
+unfolding heldOut
+heldEntryOf b m h = cond (heldOut b m h) (Refused 6) (Good (record { mark = m; height = record { micrometres = h } }))
 
 -- "mark already held by an earlier entry": one before place i has the mark m
 unfoldable pub heldBefore : List ℤ → ℤ → ℕ → Bool

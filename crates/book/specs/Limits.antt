@@ -1,17 +1,29 @@
--- Document 01, the table of limits.
+-- Document 01, the table of limits: each from and to, under one name.
 -- Assumes nothing.
 use Prim.Native.Nat.{ℕ}
+
+abbrev pub leastMarks : ℕ
+leastMarks = 1
 
 abbrev pub mostMarks : ℕ
 mostMarks = 256
 
+abbrev pub leastLines : ℕ
+leastLines = 0
+
 abbrev pub mostLines : ℕ
 mostLines = 512
+
+abbrev pub leastHeld : ℕ
+leastHeld = 0
 
 abbrev pub mostHeld : ℕ
 mostHeld = 256
 
 -- tenths of mm per root km
+abbrev pub leastTolerance : ℕ
+leastTolerance = 1
+
 abbrev pub mostTolerance : ℕ
 mostTolerance = 1000
 

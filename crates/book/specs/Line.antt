@@ -10,8 +10,9 @@ use lib.IntN.{ℤ, pos, negℤ}
 use Rattle.laws.specs.Tests.{outZ, eqZ}
 use Rattle.laws.specs.Scan.{firstBad}
 use Rattle.book.specs.Limits.{mostDifference, leastLength, mostLength}
+use Rattle.book.specs.declared.line.Line.{Line}
 use Rattle.book.specs.declared.line.MadeLine.{MadeLine}
-use Rattle.book.specs.declared.line.MadeLine.the-variants.{Good, Faulty}
+use Rattle.book.specs.declared.line.MadeLine.the-variants.{Good, Refused}
 
 -- numbers per line
 abbrev pub lineWords : ℕ
@@ -52,6 +53,10 @@ lengthAt = field lengthField
 abbrev pub standingAt : List ℤ → ℕ → ℤ
 standingAt = field standingField
 
+-- the line at place i, its numbers by their names
+abbrev pub lineAt : List ℤ → ℕ → Line
+lineAt lines i = record { from = fromAt lines i; to = toAt lines i; difference = differenceAt lines i; length = lengthAt lines i; standing = standingAt lines i }
+
 -- how many lines a slice holds
 abbrev pub lineCount : List ℤ → ℕ
 lineCount lines = length lines / lineWords
@@ -71,11 +76,11 @@ lineFault b from to difference len standing =
     (cond (outZ (pos 0) (pos 1) standing) 5
     0))))
 
--- the line that five numbers make
+-- the line of a book of b marks that five numbers make, or refusal 7 and the first thing that is wrong
 unfoldable pub lineOf : ℤ → ℤ → ℤ → ℤ → ℤ → ℤ → MadeLine
 unfolding lineFault
 lineOf b f t d l s =
-    cond (ltb 0 (lineFault b f t d l s)) (Faulty (lineFault b f t d l s)) (Good (record { from = f; to = t; difference = d; length = l; standing = s }))
+    cond (ltb 0 (lineFault b f t d l s)) (Refused 7 (lineFault b f t d l s)) (Good (record { from = f; to = t; difference = d; length = l; standing = s }))
 
 -- the line that the five numbers of an entry make
 unfoldable pub entryOf : ℤ → List ℤ → MadeLine

@@ -7,29 +7,31 @@ use lib.Dec.{eqb, ltb}
 use lib.ListN.{length}
 use lib.IntN.{ℤ, pos, natAbs}
 use Rattle.laws.specs.Tests.{outZ, outN}
-use Rattle.book.specs.Limits.{mostMarks, mostLines, mostHeld, mostTolerance}
+use Rattle.book.specs.Limits.{leastMarks, mostMarks, leastLines, mostLines, leastHeld, mostHeld, leastTolerance, mostTolerance}
 use Rattle.book.specs.Held.{heldWords, heldCount, firstBadHeld}
 use Rattle.book.specs.Line.{lineWords, lineCount, firstBadLine}
 use Rattle.book.specs.declared.Book.{Book}
-use Rattle.book.specs.declared.MadeBook as made
-use Rattle.book.specs.declared.MadeBook.{MadeBook}
-use Rattle.book.specs.declared.Tested as tested
 use Rattle.book.specs.declared.Tested.{Tested}
+use Rattle.book.specs.declared.Tested.the-variants.{Good, Refused}
 
 -- "b, t, h, n .. outside its limit"
 unfoldable pub bookOut : ℤ → ℤ → ℕ → ℕ → Bool
-bookOut b t h n = outZ (pos 1) (pos mostMarks) b || outZ (pos 1) (pos mostTolerance) t || outN 0 mostHeld h || outN 0 mostLines n
+bookOut b t h n =
+    outZ (pos leastMarks) (pos mostMarks) b
+    || outZ (pos leastTolerance) (pos mostTolerance) t
+    || outN leastHeld mostHeld h
+    || outN leastLines mostLines n
 
 abbrev pub counts : ℤ → ℤ → ℕ → ℕ → Book
 counts b t h n = record { marks = natAbs b; tolerance = natAbs t; held = h; lines = n }
 
--- the counts that make a book
-unfoldable pub bookOf : ℤ → ℤ → ℕ → ℕ → MadeBook
-unfolding bookOut
-bookOf b t h n = cond (bookOut b t h n) made.the-variants.Outside (made.the-variants.Good (counts b t h n))
-
 abbrev pub refused : ℕ → ℕ → Tested
-refused number place = tested.the-variants.Refused (record { number = number; place = place })
+refused number place = Refused (record { number = number; place = place })
+
+-- the book that the counts make, or refusal 4
+unfoldable pub bookOf : ℤ → ℤ → ℕ → ℕ → Tested
+unfolding bookOut
+bookOf b t h n = cond (bookOut b t h n) (refused 4 0) (Good (counts b t h n))
 
 -- "a lent book slice not whole entries": of w numbers each
 unfoldable pub torn : ℕ → List ℤ → Bool
@@ -44,4 +46,4 @@ testOf b t held lines =
     (cond (bookOut b t (heldCount held) (lineCount lines)) (refused 4 0)
     (cond (ltb 0 (firstBadHeld b held)) (refused 6 (firstBadHeld b held))
     (cond (ltb 0 (firstBadLine b lines)) (refused 7 (firstBadLine b lines))
-    (tested.the-variants.Good (counts b t (heldCount held) (lineCount lines)))))))
+    (Good (counts b t (heldCount held) (lineCount lines)))))))

@@ -1,12 +1,19 @@
 // Held entries: two numbers each in a lent slice, and the first that is none.
 ghost use mathlib.Core.Path.{_≡_};
-ghost use Rattle.book.specs.Held.{heldOut, firstBadHeld};
+ghost use Rattle.book.specs.Held.{heldEntryOf, firstBadHeld};
 use crate::height::Height;
+use crate::height::MadeHeight;
 
 // A mark that is held, and its height.
 pub struct Held {
     pub mark: i64,
-    pub height: i64,
+    pub height: Height,
+}
+
+// Two numbers make a held entry, or get the number of their refusal.
+pub enum MadeHeld {
+    Good(Held),
+    Refused(usize),
 }
 
 impl Held {
@@ -16,17 +23,23 @@ impl Held {
 
     pub const HEIGHT: usize = 1;
 
-    // Whether the mark is none of b marks or the height outside its limit.
-    pub fn outside(b: i64, mark: i64, height: i64) -> bool
-        ensures { λ r. ⌜ r ≡ heldOut b mark height ⌝ }
+    // The held entry of a book of b marks that two numbers make, or refusal 6.
+    pub fn new(b: i64, mark: i64, height: i64) -> MadeHeld
+        ensures { λ r. ⌜ r ≡ heldEntryOf b mark height ⌝ }
     {
-        signed::outside(mark, 1, b) | Height::outside_held(height)
+        if signed::outside(mark, 1, b) {
+            return MadeHeld::Refused(6);
+        }
+        match Height::held(height) {
+            MadeHeight::Refused(number) => MadeHeld::Refused(number),
+            MadeHeight::Good(height) => MadeHeld::Good(Held { mark, height }),
+        }
     }
 }
 
 // The number of the first bad held entry, or 0. Document 01: "The scan for 6 compares each entry with those before it and stops at the
 // first repeat."
-pub fn first_bad_held(held: &[i64], b: i64) -> usize
+pub(crate) fn first_bad_held(held: &[i64], b: i64) -> usize
     ensures { λ r. ⌜ r ≡ firstBadHeld b (now (held .entry)) ⌝ }
 {
     let n = held.len() / Held::WORDS;
@@ -36,10 +49,11 @@ pub fn first_bad_held(held: &[i64], b: i64) -> usize
             break 'scan 0;
         }
         let at = i * Held::WORDS;
-        let mark = held[at + Held::MARK];
-        if Held::outside(b, mark, held[at + Held::HEIGHT]) {
+        let made = Held::new(b, held[at + Held::MARK], held[at + Held::HEIGHT]);
+        let MadeHeld::Good(entry) = made else {
             break 'scan i + 1;
-        }
+        };
+        let mark = entry.mark;
         let mut j = 0;
         while j < i {
             if signed::same(held[j * Held::WORDS + Held::MARK], mark) {

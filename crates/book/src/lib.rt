@@ -19,43 +19,52 @@ pub struct Book {
     pub lines: usize,
 }
 
-pub enum MadeBook {
-    Good(Book),
-    Outside,
-}
-
 // A refusal number of document 01's table, and its place.
 pub struct Refusal {
     pub number: usize,
     pub place: usize,
 }
 
+// A book that passes a test, or its refusal.
 pub enum Tested {
     Good(Book),
     Refused(Refusal),
 }
 
 impl Book {
+    pub const MIN_MARKS: i64 = 1;
+
     pub const MAX_MARKS: i64 = 256;
+
+    pub const MIN_TOLERANCE: i64 = 1;
 
     pub const MAX_TOLERANCE: i64 = 1_000;
 
+    pub const MIN_HELD: usize = 0;
+
     pub const MAX_HELD: usize = 256;
+
+    pub const MIN_LINES: usize = 0;
 
     pub const MAX_LINES: usize = 512;
 
-    // The counts b, t, h and n, where each is inside its limit.
-    pub fn new(b: i64, t: i64, h: usize, n: usize) -> MadeBook
+    // The numbers of a slice that holds the held entries, and of one that holds the lines, of any book.
+    pub const HELD_WORDS: usize = Book::MAX_HELD * Held::WORDS;
+
+    pub const LINE_WORDS: usize = Book::MAX_LINES * Line::WORDS;
+
+    // The book of the counts b, t, h and n, or refusal 4.
+    pub fn new(b: i64, t: i64, h: usize, n: usize) -> Tested
         ensures { λ r. ⌜ r ≡ bookOf b t h n ⌝ }
     {
-        if signed::outside(b, 1, Book::MAX_MARKS)
-            | signed::outside(t, 1, Book::MAX_TOLERANCE)
-            | signed::outside_count(h, 0, Book::MAX_HELD)
-            | signed::outside_count(n, 0, Book::MAX_LINES)
+        if signed::outside(b, Book::MIN_MARKS, Book::MAX_MARKS)
+            | signed::outside(t, Book::MIN_TOLERANCE, Book::MAX_TOLERANCE)
+            | signed::outside_count(h, Book::MIN_HELD, Book::MAX_HELD)
+            | signed::outside_count(n, Book::MIN_LINES, Book::MAX_LINES)
         {
-            return MadeBook::Outside;
+            return refuse(4, 0);
         }
-        MadeBook::Good(Book {
+        Tested::Good(Book {
             marks: signed::magnitude(b),
             tolerance: signed::magnitude(t),
             held: h,
@@ -81,8 +90,8 @@ pub fn test(b: i64, t: i64, held: &[i64], lines: &[i64]) -> Tested
         return refuse(4, 0);
     }
     let made = Book::new(b, t, held.len() / Held::WORDS, lines.len() / Line::WORDS);
-    let MadeBook::Good(book) = made else {
-        return refuse(4, 0);
+    let Tested::Good(book) = made else {
+        return made;
     };
     let bad_held = held::first_bad_held(held, b);
     if 0 < bad_held {

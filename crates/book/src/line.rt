@@ -13,10 +13,10 @@ pub struct Line {
     pub standing: i64,
 }
 
-// Five numbers make a line, or have a first fault.
+// Five numbers make a line, or get the number of their refusal and the first thing that is wrong, 1 to 5.
 pub enum MadeLine {
     Good(Line),
-    Faulty(usize),
+    Refused(usize, usize),
 }
 
 // The fault, if the test found it; else what the rest of the tests found.
@@ -65,7 +65,7 @@ impl Line {
     }
 
     // The first fault of five numbers as a line of a book of b marks, or 0. `|` and a choice of numbers, no branch: one fact is left to show.
-    pub fn fault(b: i64, from: i64, to: i64, difference: i64, length: i64, standing: i64) -> usize
+    fn fault(b: i64, from: i64, to: i64, difference: i64, length: i64, standing: i64) -> usize
         ensures { λ r. ⌜ r ≡ lineFault b from to difference length standing ⌝ }
     {
         let standing_fault = first(signed::outside(standing, 0, 1), Line::STANDING_FAULT, 0);
@@ -82,13 +82,13 @@ impl Line {
         first(outside_end, Line::END_FAULT, ends_fault)
     }
 
-    // The line that five numbers make.
+    // The line of a book of b marks that five numbers make, or refusal 7 and the first thing that is wrong.
     pub fn new(b: i64, from: i64, to: i64, difference: i64, length: i64, standing: i64) -> MadeLine
         ensures { λ r. ⌜ r ≡ lineOf b from to difference length standing ⌝ }
     {
         let fault = Line::fault(b, from, to, difference, length, standing);
         if 0 < fault {
-            return MadeLine::Faulty(fault);
+            return MadeLine::Refused(7, fault);
         }
         MadeLine::Good(Line {
             from,
@@ -101,7 +101,7 @@ impl Line {
 }
 
 // The line that an entry of a lent slice makes.
-fn line_of(e: &[i64], b: i64) -> MadeLine
+pub fn line_of(e: &[i64], b: i64) -> MadeLine
     requires { ⌜ length (now e) ≡ 5 ⌝ }
     ensures { λ r. ⌜ r ≡ entryOf b (now (e .entry)) ⌝ }
 {
@@ -116,7 +116,7 @@ fn line_of(e: &[i64], b: i64) -> MadeLine
 }
 
 // The number of the first line that is none, or 0.
-pub fn first_bad_line(lines: &[i64], b: i64) -> usize
+pub(crate) fn first_bad_line(lines: &[i64], b: i64) -> usize
     ensures { λ r. ⌜ r ≡ firstBadLine b (now (lines .entry)) ⌝ }
 {
     let n = lines.len() / Line::WORDS;
@@ -124,7 +124,7 @@ pub fn first_bad_line(lines: &[i64], b: i64) -> usize
     while i < n {
         let at = i * Line::WORDS;
         let made = line_of(&lines[at..at + Line::WORDS], b);
-        if let MadeLine::Faulty(_) = made {
+        if let MadeLine::Refused(_, _) = made {
             return i + 1;
         }
         i += 1;

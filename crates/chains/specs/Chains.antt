@@ -4,11 +4,12 @@ use mathlib.Core.Path.{_≡_}
 use mathlib.Core.Bool.{Bool, true, false}
 use mathlib.Core.List.{List, [], _∷_, List·Memᴰ}
 use lib.ListN.{length, getD}
+use Rattle.book.specs.Limits.{leastLength, mostLength}
 use Rattle.network.specs.Standing.{Line}
 use Rattle.network.specs.Path.{Pass}
 use Rattle.network.specs.Sound.{Rising}
 
--- ---- limits: no line number, half number, length or sum of a node reaches past these
+-- ---- limits: no line number, half number or sum of a node reaches past these
 
 abbrev pub numberLimit : ℕ
 numberLimit = 1024
@@ -16,13 +17,6 @@ numberLimit = 1024
 -- two halves to a line
 abbrev pub halves : ℕ
 halves = 2048
-
--- a line's length in metres
-abbrev pub least : ℕ
-least = 10
-
-abbrev pub longest : ℕ
-longest = 100000
 
 abbrev pub sumLimit : ℕ
 sumLimit = 268435456
@@ -94,8 +88,8 @@ pub record Sound (n : ℕ) (l : Line) : Type 0 where
   pub to-low : 0 < l .to
   pub to-high : l .to < n
   pub apart : l .from ≡ l .to → ⊥
-  pub long : least ≤ l .length
-  pub short : l .length ≤ longest
+  pub long : leastLength ≤ l .length
+  pub short : l .length ≤ mostLength
   pub numbered : 0 < l .number
   pub number : l .number < numberLimit
 

@@ -4,8 +4,9 @@ use mathlib.Core.Path.{_≡_}
 use mathlib.Core.List.{List, List·Memᴰ}
 use mathlib.Core.Logic.{_⊎_}
 use lib.ListN.{length, getD, set}
+use Rattle.book.specs.Limits.{mostLength}
 use Rattle.network.specs.Standing.{Line}
-use Rattle.chains.specs.Chains.{On, Half, Nodes, Heads, Chains, Has, AllSound, halves, longest, numberLimit}
+use Rattle.chains.specs.Chains.{On, Half, Nodes, Heads, Chains, Has, AllSound, halves, numberLimit}
 
 -- room for node j at mark m
 pub record Space (head next fars add : List ℕ) (j m : ℕ) : Type 0 where
@@ -37,7 +38,7 @@ pub record Fits (n f t no len : ℕ) : Type 0 where
   pub f-ok : f < n
   pub t-ok : t < n
   pub number : no < numberLimit
-  pub short : len ≤ longest
+  pub short : len ≤ mostLength
 
 pub record Places (n cnt : ℕ) (head next fars add : List ℕ) : Type 0 where
   pub heads : Heads n cnt head

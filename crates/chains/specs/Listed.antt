@@ -3,14 +3,15 @@ use Prim.Native.Nat.{ℕ, _≤_, _<_}
 use mathlib.Core.Path.{_≡_}
 use mathlib.Core.List.{List, List·Memᴰ}
 use lib.ListN.{length, getD}
+use Rattle.book.specs.Limits.{mostLength}
 use Rattle.network.specs.Standing.{Line}
 use Rattle.network.specs.Sound.{Rising}
-use Rattle.chains.specs.Chains.{Half, AllSound, longest}
+use Rattle.chains.specs.Chains.{Half, AllSound}
 
 -- a length for each number below q; 0 where no line has the number
 pub record Longs (q : ℕ) (long : List ℕ) : Type 0 where
   pub longs : q ≤ length long
-  pub long-ok : (j : ℕ) → j < q → getD long j 0 ≤ longest
+  pub long-ok : (j : ℕ) → j < q → getD long j 0 ≤ mostLength
 
 -- tip and long are those of the lines, which are by rising number, on marks below n, with numbers below q
 pub record Listed (lines : List Line) (n q : ℕ) (tip long : List ℕ) : Type 0 where

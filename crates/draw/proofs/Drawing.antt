@@ -11,12 +11,13 @@ use lib.ListN.{length, getD, set, take, drop, length-set, length-take, length-dr
 use lib.Seq.{getD-set-same, getD-set-other, getD-take, getD-drop}
 use lib.Dec.{lit<}
 use borrow.Author.Tests.{eqb-true}
+use Rattle.book.specs.Limits.{mostLength}
 use Rattle.network.specs.Standing.{Line, line, keep, standingFrom, standing}
 use Rattle.network.proofs.Standing.{rising-standing, standing-clause}
 use Rattle.laws.specs.Tests.{eqZ}
-use Rattle.laws.proofs.Size.{Between}
+use Rattle.laws.specs.Range.{Between}
 use Rattle.book.specs.Good.{GoodLine}
-use Rattle.chains.specs.Chains.{Half, fore, aft, Nodes, Heads, Tips, Chains, Sound, AllSound, halves, numberLimit, longest}
+use Rattle.chains.specs.Chains.{Half, fore, aft, Nodes, Heads, Tips, Chains, Sound, AllSound, halves, numberLimit}
 use Rattle.chains.specs.Link.{Fits, Wider, Added}
 use Rattle.chains.specs.Listed.{Longs}
 use Rattle.chains.proofs.Halves.{on-zero, half-no}
@@ -251,7 +252,7 @@ module _ (n : ℕ) (ls : List ℤ) where
           tip-ok h l (no q) (yes x) = omega (arith, ap (λ (z : ℕ). getD tip′ z 0) x, tip-from, fresh .from-high)
           tip-ok h l (no q) (no x) = omega (arith, tip-other h q x, d .tips .tip-ok h l)
 
-          long-ok : (i : ℕ) → i < numberLimit → Dec (i ≡ suc j) → getD long′ i 0 ≤ longest
+          long-ok : (i : ℕ) → i < numberLimit → Dec (i ≡ suc j) → getD long′ i 0 ≤ mostLength
           long-ok i l (yes q) = omega (arith, ap (λ (z : ℕ). getD long′ z 0) q, long-new, fresh .short)
           long-ok i l (no q) = omega (arith, long-old i q, d .longs .long-ok i l)
 

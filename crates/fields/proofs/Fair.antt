@@ -8,7 +8,7 @@ use mathlib.Core.Bool.{Bool, true, false}
 use lib.ListN.{length, drop, drop-of-length-le}
 use lib.IntN.{ℤ, pos, natAbs}
 use Rattle.laws.specs.Tests.{eqZ}
-use Rattle.laws.proofs.Size.{Between}
+use Rattle.laws.specs.Range.{Between}
 use Rattle.book.specs.Limits.{mostDifference, leastLength, mostLength}
 use Rattle.book.specs.Line.{fromAt, toAt, standingAt}
 use Rattle.book.specs.Good.{GoodLine}

@@ -10,7 +10,7 @@ use lib.ListN.{length}
 use lib.IntN.{ℤ, pos, negsuc, natAbs, pos-ne-negsuc}
 use borrow.Author.Tests.{eqb-true}
 use Rattle.laws.specs.Tests.{eqZ}
-use Rattle.laws.proofs.Size.{Between}
+use Rattle.laws.specs.Range.{Between}
 use Rattle.book.specs.Line.{fromAt, toAt, differenceAt, lengthAt, standingAt}
 use Rattle.network.specs.Standing.{Line, line, keep}
 use Rattle.network.proofs.Standing.{standing-clause}

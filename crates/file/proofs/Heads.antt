@@ -12,7 +12,7 @@ use borrow.Author.Tests.{eqb-true}
 use Rattle.laws.specs.Tests.{outZ, outN}
 use Rattle.laws.proofs.Tests.{or-left, or-right, inN-high}
 use Rattle.laws.proofs.Size.{between}
-use Rattle.book.specs.Limits.{mostMarks, mostLines, mostHeld, mostTolerance}
+use Rattle.book.specs.Limits.{leastMarks, mostMarks, leastLines, mostLines, leastHeld, mostHeld, leastTolerance, mostTolerance}
 use Rattle.book.specs.Test.{bookOut, counts}
 use Rattle.book.specs.declared.Book.{Book}
 use Rattle.file.specs.Read.{statedLength, statedVersion, statedT, statedB, statedH, statedN, fileLength, headOf, Stated}
@@ -40,18 +40,18 @@ head-states file k e =
     let p₄ = past (bookOut (pos b) (pos t) h n) 4 _ k (p₃ .1) in
     let p₅ = past (not (eqb (length file) (fileLength h n))) 5 _ k (p₄ .1) in
     let q : k ≡ counts (pos b) (pos t) h n = cc in
-    let out₁ = outZ (pos 1) (pos mostMarks) (pos b) in
-    let out₂ = outZ (pos 1) (pos mostTolerance) (pos t) in
-    let out₃ = outN 0 mostHeld h in
-    let out₄ = outN 0 mostLines n in
+    let out₁ = outZ (pos leastMarks) (pos mostMarks) (pos b) in
+    let out₂ = outZ (pos leastTolerance) (pos mostTolerance) (pos t) in
+    let out₃ = outN leastHeld mostHeld h in
+    let out₄ = outN leastLines mostLines n in
     let o₃ = or-left (out₁ || out₂ || out₃) out₄ (p₄ .0) in
     let o₂ = or-left (out₁ || out₂) out₃ o₃ in
     subst (λ (k : Book). Stated (length file) k) (sym q) (record {
       size = eqb-true (length file) (fileLength h n) (not-not (eqb (length file) (fileLength h n)) (p₅ .0));
-      few-marks = between 1 mostMarks (pos b) (or-left out₁ out₂ o₂) .high;
-      small-tolerance = between 1 mostTolerance (pos t) (or-right out₁ out₂ o₂) .high;
-      few-held = inN-high 0 mostHeld h (or-right (out₁ || out₂) out₃ o₃);
-      few-lines = inN-high 0 mostLines n (or-right (out₁ || out₂ || out₃) out₄ (p₄ .0));
+      few-marks = between leastMarks mostMarks (pos b) (or-left out₁ out₂ o₂) .high;
+      small-tolerance = between leastTolerance mostTolerance (pos t) (or-right out₁ out₂ o₂) .high;
+      few-held = inN-high leastHeld mostHeld h (or-right (out₁ || out₂) out₃ o₃);
+      few-lines = inN-high leastLines mostLines n (or-right (out₁ || out₂ || out₃) out₄ (p₄ .0));
     })
 
 -- "A file has 13 + 10h + 12n bytes, at most 8,717"

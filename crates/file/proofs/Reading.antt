@@ -1,6 +1,6 @@
 -- What the reader's definition gives: a book inside every limit, or a refusal that changes nothing.
 -- Assumes nothing.
-use mathlib.Core.Path.{_≡_, refl, sym, _∙_, ap, subst}
+use mathlib.Core.Path.{_≡_, refl, _∙_, ap, subst}
 use mathlib.Core.Logic.{_⊎_, inl, inr}
 use mathlib.Core.Bool.{Bool, true, false, cond}
 use mathlib.Core.List.{List, _++_}
@@ -98,7 +98,3 @@ module _ (file : List ℕ) (held lines : List ℤ) where
       go : ReadOrRefused (readOf file held lines) → BookRead file held lines (readOf file held lines)
       go (inl r) = r
       go (inr f) = absurd (omega (arith, f .low, ap (λ (a : _). a .number) (f .answer)))
-
--- two allowed answers are equal, and leave the same in the buffers
-pub read-one-answer : (file : List ℕ) (held lines : List ℤ) (o p : Outcome) → o ≡ readOf file held lines → p ≡ readOf file held lines → o ≡ p
-read-one-answer file held lines o p e f = e ∙ sym f

@@ -15,12 +15,12 @@ pub enum Kind {
 }
 
 impl Kind {
-    pub const HELD_BYTES: usize = 10;
+    pub(crate) const HELD_BYTES: usize = 10;
 
-    pub const LINE_BYTES: usize = 12;
+    pub(crate) const LINE_BYTES: usize = 12;
 
     // Bytes of an entry in the file.
-    pub fn bytes(self) -> usize
+    fn bytes(self) -> usize
         ensures { λ r. ⌜ r ≡ entryBytes self ⌝ }
     {
         match self {
@@ -30,7 +30,7 @@ impl Kind {
     }
 
     // Numbers of an entry in memory.
-    pub fn words(self) -> usize
+    fn words(self) -> usize
         ensures { λ r. ⌜ r ≡ entryWords self ⌝ }
     {
         match self {

@@ -10,7 +10,6 @@ mod entry;
 mod wire;
 
 use book::Book;
-use book::MadeBook;
 use book::Tested;
 use book::held::Held;
 use book::line::Line;
@@ -33,21 +32,21 @@ pub enum Head {
 }
 
 // Bytes before the entries, and the place of each number there.
-pub const HEAD_BYTES: usize = 13;
+const HEAD_BYTES: usize = 13;
 
-pub const LENGTH_AT: usize = 0;
+const LENGTH_AT: usize = 0;
 
-pub const VERSION_AT: usize = 4;
+const VERSION_AT: usize = 4;
 
-pub const T_AT: usize = 5;
+const T_AT: usize = 5;
 
-pub const B_AT: usize = 7;
+const B_AT: usize = 7;
 
-pub const H_AT: usize = 9;
+const H_AT: usize = 9;
 
-pub const N_AT: usize = 11;
+const N_AT: usize = 11;
 
-pub const VERSION: u8 = 1;
+const VERSION: u8 = 1;
 
 fn refuse(number: usize, place: usize) -> ReadAnswer
     ensures { λ r. ⌜ r ≡ refusal number place ⌝ }
@@ -81,7 +80,7 @@ fn head_of(file: &[u8]) -> Head
     let h = wire::be2(file, H_AT) as usize;
     let n = wire::be2(file, N_AT) as usize;
     let made = Book::new(b, t, h, n);
-    let MadeBook::Good(book) = made else {
+    let Tested::Good(book) = made else {
         return Head::Refused(4);
     };
     if len != HEAD_BYTES + h * Kind::HELD_BYTES + n * Kind::LINE_BYTES {
@@ -97,8 +96,8 @@ fn tested(file: &[u8], book: Book) -> Tested
 {
     let h = book.held;
     let n = book.lines;
-    let mut held = [0i64; 512];
-    let mut lines = [0i64; 2560];
+    let mut held = [0i64; Book::HELD_WORDS];
+    let mut lines = [0i64; Book::LINE_WORDS];
     entry::read_entries(Kind::Held, file, HEAD_BYTES, h, &mut held[..]);
     entry::read_entries(
         Kind::Line,

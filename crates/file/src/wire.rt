@@ -58,7 +58,7 @@ pub(crate) fn signed4(x: u64) -> i64
 }
 
 // The signed number with the 64 bits x.
-pub fn signed8(x: u64) -> i64
+pub(crate) fn signed8(x: u64) -> i64
     ensures { λ r. ⌜ r ≡ toZ w64 x ⌝ }
 {
     if x < 9_223_372_036_854_775_808 {

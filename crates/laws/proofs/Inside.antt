@@ -1,12 +1,12 @@
 -- The range tests and the test of equality, from what they test. Assumes nothing.
 use mathlib.Core.Path.{_≡_, refl, sym, _∙_, ap}
 use mathlib.Core.Bool.{Bool, true, false, true≢false}
-use Prim.Native.Nat.{ℕ, suc, _≤_}
+use Prim.Native.Nat.{ℕ, zero, suc, _≤_}
 use native.Mathlib.Omega.{arith}
-use lib.IntN.{ℤ, pos, negsuc, natAbs}
+use lib.IntN.{ℤ, pos, negsuc, negℤ, natAbs}
 use borrow.Author.Tests.{eqb-true, le-ltb}
 use Rattle.laws.specs.Tests.{outZ, eqZ}
-use Rattle.laws.proofs.Size.{Between}
+use Rattle.laws.specs.Range.{Between}
 
 -- a natural number between two others is not outside them
 pub inside : (lo hi n : ℕ) → lo ≤ n → n ≤ hi → outZ (pos lo) (pos hi) (pos n) ≡ false
@@ -18,10 +18,12 @@ pub between-inside : {lo hi : ℕ} {z : ℤ} → Between lo hi z → outZ (pos l
 between-inside {lo = lo} {hi = hi} {z = z} w = ap (outZ (pos lo) (pos hi)) (w .is) ∙ inside lo hi (natAbs z) (w .low) (w .high)
 
 -- nor is a number of at most m either way
-pub size-inside : (m : ℕ) (z : ℤ) → natAbs z ≤ suc m → outZ (negsuc m) (pos (suc m)) z ≡ false
+pub size-inside : (m : ℕ) (z : ℤ) → natAbs z ≤ m → outZ (negℤ (pos m)) (pos m) z ≡ false
 unfolding outZ
-size-inside m (pos n) h = le-ltb (suc m) n h
-size-inside m (negsuc n) h = rw (le-ltb m n (omega arith))
+size-inside zero (pos n) h = rw (le-ltb n 0 (omega arith), le-ltb 0 n h)
+size-inside zero (negsuc n) h = absurd (omega arith)
+size-inside (suc m) (pos n) h = le-ltb (suc m) n h
+size-inside (suc m) (negsuc n) h = rw (le-ltb m n (omega arith))
 
 -- two numbers that the test calls equal are
 pub eqZ-true : (x y : ℤ) → eqZ x y ≡ true → x ≡ y

@@ -12,14 +12,10 @@ use borrow.Author.Tests.{ltb-true, ltb-false, le-ltb}
 use mir.Syntax.{w64}
 use mir.Val.{SFits}
 use Rattle.laws.specs.Tests.{outZ}
+use Rattle.laws.specs.Range.{Between}
 use Rattle.laws.proofs.Tests.{or-left, or-right, cond-ind}
 
 -- a range test from a natural number on that failed: z is a natural number of that range
-pub record Between (lo hi : ℕ) (z : ℤ) : Type 0 where
-  pub is : z ≡ pos (natAbs z)
-  pub low : lo ≤ natAbs z
-  pub high : natAbs z ≤ hi
-
 pub between : (lo hi : ℕ) (z : ℤ) → outZ (pos lo) (pos hi) z ≡ false → Between lo hi z
 unfolding outZ
 between lo hi (pos n) e = record {
@@ -29,11 +25,13 @@ between lo hi (pos n) e = record {
 }
 between lo hi (negsuc n) e = absurd (true≢false e)
 
--- a range test of m either way that failed; at a literal, `suc 99999999` is 100000000
-pub size-within : (m : ℕ) (z : ℤ) → outZ (negsuc m) (pos (suc m)) z ≡ false → natAbs z ≤ suc m
+-- a range test of m either way that failed
+pub size-within : (m : ℕ) (z : ℤ) → outZ (negℤ (pos m)) (pos m) z ≡ false → natAbs z ≤ m
 unfolding outZ
-size-within m (pos n) e = ltb-false (suc m) n e
-size-within m (negsuc n) e =
+size-within zero (pos n) e = ltb-false 0 n (or-right (ltb n 0) (ltb 0 n) e)
+size-within zero (negsuc n) e = absurd (true≢false e)
+size-within (suc m) (pos n) e = ltb-false (suc m) n e
+size-within (suc m) (negsuc n) e =
     let h = ltb-false m n (or-left (ltb m n) false e) in
     omega arith
 

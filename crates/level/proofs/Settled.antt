@@ -11,6 +11,7 @@ use lib.ListN.{length}
 use Rattle.laws.specs.Tests.{eqZ}
 use Rattle.laws.proofs.Tests.{cond-ind}
 use Rattle.laws.proofs.Scans.{first-most}
+use Rattle.book.specs.Limits.{mostLines, mostMarks}
 use Rattle.book.specs.Height.{workHeightOut}
 use Rattle.book.specs.Test.{testOf}
 use Rattle.book.specs.declared.Tested.{Tested}
@@ -105,10 +106,10 @@ outcome-small b held lines =
     unless-small b (unheldPiece (rootedBy (tree b (standing lines))) (heldHeight held) b) _ (unheld-few b held lines)
     (ends b (settle (sightsOf (standing lines)) (isHeld held) b (startHeights b held lines)) (settled-few (sightsOf (standing lines)) (isHeld held) b 10000 0 (startHeights b held lines) (omega arith)))
 
-answer-small : (number place sweeps : ℕ) → number ≤ 13 → place ≤ 512 → sweeps ≤ 10000 → SmallAdjusted (answer number place sweeps)
+answer-small : (number place sweeps : ℕ) → number ≤ 13 → place ≤ mostLines → sweeps ≤ 10000 → SmallAdjusted (answer number place sweeps)
 answer-small number place sweeps n p s = record { number = omega arith; place = omega arith; sweeps = omega arith }
 
-given-small : (b : ℕ) (out : List ℤ) (o : Outcome) → b ≤ 256 → SmallOutcome b o → SmallAdjusted (givenBy out o .answer)
+given-small : (b : ℕ) (out : List ℤ) (o : Outcome) → b ≤ mostMarks → SmallOutcome b o → SmallAdjusted (givenBy out o .answer)
 given-small b out (done n hs) few h = answer-small 0 0 n (omega arith) (omega arith) h
 given-small b out (refused number place) few h = answer-small number place 0 (h .0) (omega (arith, h .1)) (omega arith)
 

@@ -14,6 +14,7 @@ use Rattle.laws.specs.Tests.{outZ, eqZ}
 use Rattle.laws.proofs.Tests.{cond-ind}
 use Rattle.laws.proofs.Size.{between, size-within}
 use Rattle.laws.proofs.Scans.{first-most}
+use Rattle.book.specs.Limits.{mostDifference, mostLines}
 use Rattle.book.specs.Line.{differenceOut, standingAt}
 use Rattle.book.specs.Height.{workHeightOut}
 use Rattle.book.specs.Test.{testOf}
@@ -66,7 +67,7 @@ read-small file held lines = go (read-or-refused file held lines)
           n = omega arith;
         })
 
-refusal-small : (number place : ℕ) → number ≤ 13 → place ≤ 512 → SmallAnswer (refusal number place)
+refusal-small : (number place : ℕ) → number ≤ 13 → place ≤ mostLines → SmallAnswer (refusal number place)
 refusal-small number place high near = record { number = omega arith; place = omega arith; rows = omega arith; pieces = omega arith }
 
 -- no more rows than lines, and no more pieces than marks
@@ -80,7 +81,7 @@ counted-small k lines g =
       pieces = omega (arith, tree-lines-count (k .marks) (standing lines) (lines-sound k lines g), g .few-marks);
     }
 
-unlisted-small : (number place : ℕ) → number ≤ 13 → place ≤ 512 → SmallListed (unlisted number place)
+unlisted-small : (number place : ℕ) → number ≤ 13 → place ≤ mostLines → SmallListed (unlisted number place)
 unlisted-small number place high near = record { number = omega arith; place = omega arith; entries = omega arith }
 
 -- no more entries than places
@@ -133,7 +134,7 @@ module _ (b t : ℤ) (held lines : List ℤ) where
         cond-ind (λ (s : Corrected). SmallAnswer (s .answer)) (differenceOut difference) _ _
         (λ _. refusal-small 4 0 (omega arith) (omega arith))
         (λ inside. corrected-small (rerunLines lines number difference)
-        (λ k e stands. rerun-lines-good k lines (good-of k e) number (natAbs number - 1) (stands-of lines number stands) difference (size-within 99999999 difference inside)))
+        (λ k e stands. rerun-lines-good k lines (good-of k e) number (natAbs number - 1) (stands-of lines number stands) difference (size-within mostDifference difference inside)))
 
     pub withdraw-small : SmallAnswer (withdrawOf b t held lines report number .answer)
     unfolding withdrawOf
@@ -163,19 +164,19 @@ module _ (b t : ℤ) (held lines : List ℤ) where
         go (Good k) e = list-small (uncheckedOf (k .marks) lines) out small
 
   module _ (heights : List ℤ) (line : ℤ) where
-    rate-refusal-small : (number place : ℕ) → number ≤ 13 → place ≤ 512 → SmallRate (refusedRate number place)
+    rate-refusal-small : (number place : ℕ) → number ≤ 13 → place ≤ mostLines → SmallRate (refusedRate number place)
     unfolding refusedRate
     rate-refusal-small number place high near = record { number = omega arith; place = omega arith; line = omega arith }
 
     -- the line itself is one of the book's
-    line-small : (i : ℕ) → natAbs line ≤ 512 → SmallRate (lineRate heights lines (natAbs line) i)
+    line-small : (i : ℕ) → natAbs line ≤ mostLines → SmallRate (lineRate heights lines (natAbs line) i)
     unfolding lineRate
     line-small i near =
         cond-ind SmallRate (eqZ (standingAt lines i) (pos 0)) _ _
         (λ _. record { number = omega arith; place = omega arith; line = omega arith })
         (λ _. record { number = omega arith; place = omega arith; line = omega arith })
 
-    good-small : (k : Book) → k .lines ≤ 512 → length heights ≤ 512 → SmallRate (goodRate heights lines k line)
+    good-small : (k : Book) → k .lines ≤ mostLines → length heights ≤ mostLines → SmallRate (goodRate heights lines k line)
     unfolding goodRate firstHigh
     good-small k few short =
         cond-ind SmallRate (outZ (pos 1) (pos (k .lines)) line) _ _

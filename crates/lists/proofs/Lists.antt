@@ -10,7 +10,8 @@ use lib.ListN.{length, take, drop, getD, length-map, length-take, List·getD-map
 use lib.Seq.{length-sets, sets-eq, take-at}
 use borrow.Author.Tests.{lt-ltb, le-ltb}
 use Rattle.laws.specs.Tests.{outZ}
-use Rattle.laws.proofs.Size.{Between}
+use Rattle.laws.specs.Range.{Between}
+use Rattle.book.specs.Limits.{mostLines}
 use Rattle.book.specs.declared.Book.{Book}
 use Rattle.network.specs.Standing.{Line, standing}
 use Rattle.loops.specs.Loops.{Loop, loops}
@@ -107,25 +108,25 @@ module _ (k : Book) (ls : List ℤ) (g : GoodLines k ls) where
   numbers-low : (l : Line) → List·Memᴰ l (standing ls) → l .number < numberLimit
   numbers-low l m = omega (arith, line-limits k ls g l m .number)
 
-  pub few-listed : length (uncheckedOf (k .marks) ls) ≤ 512
+  pub few-listed : length (uncheckedOf (k .marks) ls) ≤ mostLines
   unfolding uncheckedOf
   few-listed =
       let open-lines = notChecked (loopsOf (k .marks) ls) (standing ls) in
       omega (arith, length-map open-lines pos, few-unchecked (loopsOf (k .marks) ls) (standing ls), few-standing ls, g .whole, g .few)
 
   -- each entry is the number of a line
-  pub listed-numbers : (i : ℕ) → i < length (uncheckedOf (k .marks) ls) → natAbs (getD (uncheckedOf (k .marks) ls) i (pos 0)) ≤ 512
+  pub listed-numbers : (i : ℕ) → i < length (uncheckedOf (k .marks) ls) → natAbs (getD (uncheckedOf (k .marks) ls) i (pos 0)) ≤ mostLines
   unfolding uncheckedOf
   listed-numbers i h =
       let open-lines = notChecked (loopsOf (k .marks) ls) (standing ls) in
       let low = low-unchecked 513 (loopsOf (k .marks) ls) (standing ls) (λ l m. omega (arith, line-limits k ls g l m .number)) in
       rw (List·getD-map pos open-lines i 0) (omega (arith, low i (omega (arith, length-map open-lines pos))))
 
-  module _ {list list′ : List ℕ} {a : ℕ} (room : 512 ≤ length list) (put : BookListed (k .marks + 1) ls list list′ a) where
+  module _ {list list′ : List ℕ} {a : ℕ} (room : mostLines ≤ length list) (put : BookListed (k .marks + 1) ls list list′ a) where
     abbrev open-lines : List ℕ
     open-lines = notChecked (loops (k .marks + 1 - 1) (standing ls)) (standing ls)
 
-    few-open : length (notChecked (loops (k .marks + 1 - 1) (standing ls)) (standing ls)) ≤ 512
+    few-open : length (notChecked (loops (k .marks + 1 - 1) (standing ls)) (standing ls)) ≤ mostLines
     few-open = omega (arith, few-unchecked (loops (k .marks + 1 - 1) (standing ls)) (standing ls), few-standing ls, g .whole, g .few)
 
     pub list-fits : a ≤ length list′

@@ -38,7 +38,7 @@ pub sound-only : {b : ℕ} {lines : List Line} → Sound b lines → (ns : List 
 sound-only {lines = lines} sound ns = record {
   placed = λ l m. sound .placed l (of-only ns lines l m .0);
   apart = λ l m. sound .apart l (of-only ns lines l m .0);
-  atLeastTen = λ l m. sound .atLeastTen l (of-only ns lines l m .0);
+  long-enough = λ l m. sound .long-enough l (of-only ns lines l m .0);
   rising = rising-only ns lines (sound .rising);
 }
 

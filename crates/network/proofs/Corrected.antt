@@ -7,6 +7,7 @@ use mathlib.Core.List.{List, [], _∷_, List·Memᴰ, List·Memᴰ·head, List·
 use lib.IntN.{ℤ, pos, negsuc, natAbs}
 use lib.ListN.{length, getD, set}
 use borrow.Author.Tests.{eq-eqb, ne-eqb}
+use Rattle.book.specs.Limits.{leastLength}
 use Rattle.book.specs.Line.{lineWords}
 use Rattle.network.specs.Standing.{Line, line, keep, standingFrom, standing}
 use Rattle.network.specs.Sound.{Placed, Sound}
@@ -113,12 +114,12 @@ in-standing book i l w = in-standingFrom 1 book i l (subst (λ (n : ℕ). Stands
 
 -- a book whose standing lines pass their test is sound
 pub standing-sound : (b : ℕ) (book : List ℤ)
-    → ((i : ℕ) → HasLine book i → Placed b (lineAt (suc i) book i) × (natAbs (field book i fromField) ≡ natAbs (field book i toField) → ⊥) × (10 ≤ natAbs (field book i lengthField)))
+    → ((i : ℕ) → HasLine book i → Placed b (lineAt (suc i) book i) × (natAbs (field book i fromField) ≡ natAbs (field book i toField) → ⊥) × (leastLength ≤ natAbs (field book i lengthField)))
     → Sound b (standing book)
 standing-sound b book h = record {
   placed = λ l m. let w = of-standing book l m in subst (Placed b) (sym (w .1 .its)) (h (w .0) (w .1 .isThere) .0);
   apart = λ l m. let w = of-standing book l m in subst (λ (k : Line). k .from ≡ k .to → ⊥) (sym (w .1 .its)) (h (w .0) (w .1 .isThere) .1);
-  atLeastTen = λ l m. let w = of-standing book l m in subst (λ (k : Line). 10 ≤ k .length) (sym (w .1 .its)) (h (w .0) (w .1 .isThere) .2);
+  long-enough = λ l m. let w = of-standing book l m in subst (λ (k : Line). leastLength ≤ k .length) (sym (w .1 .its)) (h (w .0) (w .1 .isThere) .2);
   rising = rising-standing book;
 }
 

@@ -6,6 +6,7 @@ use mathlib.Core.List.{List, [], _∷_, _++_, map, Memᴰ·of-map}
 use mathlib.Core.Option.{Option, none, some, Option·map}
 use lib.Dec.{eqb, leb}
 use lib.IntN.{ℤ}
+use Rattle.book.specs.Limits.{leastLength}
 use Rattle.network.specs.Standing.{Line}
 use Rattle.network.specs.Sound.{Placed, Rising, none-left, then, Sound}
 use Rattle.network.specs.Redone.{measured, measuredPass}
@@ -220,6 +221,6 @@ module _ (g : Line → ℤ) where
         subst (Placed b) (m .2) (let p = sound .placed (m .0) (m .1) in
         record { from-low = p .from-low; from-high = p .from-high; to-low = p .to-low; to-high = p .to-high });
     apart = λ l i. let m = Memᴰ·of-map (measured g) lines i in subst (λ (x : Line). x .from ≡ x .to → ⊥) (m .2) (sound .apart (m .0) (m .1));
-    atLeastTen = λ l i. let m = Memᴰ·of-map (measured g) lines i in subst (λ (x : Line). 10 ≤ x .length) (m .2) (sound .atLeastTen (m .0) (m .1));
+    long-enough = λ l i. let m = Memᴰ·of-map (measured g) lines i in subst (λ (x : Line). leastLength ≤ x .length) (m .2) (sound .long-enough (m .0) (m .1));
     rising = rising-same (sound .rising);
   }

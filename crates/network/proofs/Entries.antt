@@ -6,6 +6,7 @@ use mathlib.Core.List.{List, _∷_, List·Memᴰ, List·Memᴰ·head, List·Mem�
 use mathlib.Core.Option.{Option, none, some, Option·some-injective, Option·none-ne-some}
 use lib.ListN.{length}
 use borrow.Author.Tests.{eq-eqb, ne-eqb}
+use Rattle.book.specs.Limits.{leastLength}
 use Rattle.network.specs.Standing.{Line}
 use Rattle.network.specs.Sound.{Sound}
 use Rattle.network.specs.Tree.{Entry, Tree, distance, tree, pieces, treeLines}
@@ -74,10 +75,10 @@ module _ (b : ℕ) (lines : List Line) (sound : Sound b lines) where
   pub tree-line-stands : (l : Line) → List·Memᴰ l (treeLines (tree b lines)) → List·Memᴰ l lines
   tree-line-stands l m = let t = of-treeLines (tree b lines) l m in treeLine lines (grows b lines (sound .placed)) (t .0) (t .1) l (t .2)
 
-  -- a mark's tree line leads to a mark that is nearer by just its length, and so by at least 10
-  pub tree-line-leads-nearer : (e : Entry) → List·Memᴰ e (tree b lines) → (l : Line) → e .by ≡ some l → LeadsNearer (tree b lines) e l × (10 ≤ l .length)
+  -- a mark's tree line leads to a mark that is nearer by just its length, and so by at least the least length
+  pub tree-line-leads-nearer : (e : Entry) → List·Memᴰ e (tree b lines) → (l : Line) → e .by ≡ some l → LeadsNearer (tree b lines) e l × (leastLength ≤ l .length)
   tree-line-leads-nearer e m l q =
-      (leads (grows b lines (sound .placed)) e m l q, sound .atLeastTen l (treeLine lines (grows b lines (sound .placed)) e m l q))
+      (leads (grows b lines (sound .placed)) e m l q, sound .long-enough l (treeLine lines (grows b lines (sound .placed)) e m l q))
 
   -- tree lines are marks less pieces
   pub tree-lines-count : length (treeLines (tree b lines)) + pieces (tree b lines) ≡ b

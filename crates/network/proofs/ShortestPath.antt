@@ -17,7 +17,7 @@ use Rattle.network.proofs.Walks.{walk-wider}
 
 -- no line of a sound book has length 0
 pub sound-long : {b : ℕ} {lines : List Line} → Sound b lines → Long lines
-sound-long sound l m = omega (arith, sound .atLeastTen l m)
+sound-long sound l m = omega (arith, sound .long-enough l m)
 
 -- ---- no walk is shorter
 

@@ -64,7 +64,7 @@ pub sound-without : {b : ℕ} {lines : List Line} → Sound b lines → (x : ℕ
 sound-without {lines = lines} sound x = record {
   placed = λ l m. sound .placed l (of-without x lines l m);
   apart = λ l m. sound .apart l (of-without x lines l m);
-  atLeastTen = λ l m. sound .atLeastTen l (of-without x lines l m);
+  long-enough = λ l m. sound .long-enough l (of-without x lines l m);
   rising = rising-without x lines (sound .rising);
 }
 

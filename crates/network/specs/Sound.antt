@@ -3,6 +3,7 @@
 use Prim.Native.Nat.{ℕ, _≤_, _<_}
 use mathlib.Core.Path.{_≡_}
 use mathlib.Core.List.{List, [], _∷_, List·Memᴰ}
+use Rattle.book.specs.Limits.{leastLength}
 use Rattle.network.specs.Standing.{Line}
 
 -- the line's ends are marks of the book: "Marks are 1 to b"
@@ -25,9 +26,9 @@ pub data Rising : List Line → Type 0 where
   none-left : Rising []
   then : {l : Line} {ls : List Line} → ((k : Line) → List·Memᴰ k ls → l .number < k .number) → Rising ls → Rising (l ∷ ls)
 
--- the standing lines of a book of b marks that passes the test of its lines (refusal 7); 10 metres is the least length of a line
+-- the standing lines of a book of b marks that passes the test of its lines (refusal 7)
 pub record Sound (b : ℕ) (lines : List Line) : Type 0 where
   pub placed : (l : Line) → List·Memᴰ l lines → Placed b l
   pub apart : Apart lines
-  pub atLeastTen : (l : Line) → List·Memᴰ l lines → 10 ≤ l .length
+  pub long-enough : (l : Line) → List·Memᴰ l lines → leastLength ≤ l .length
   pub rising : Rising lines

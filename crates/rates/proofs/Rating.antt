@@ -29,7 +29,7 @@ unfolding firstHigh workHeightOut
 working-lent hs b e z = record { all = e; inside = λ j. by j (ltb j (length hs)) refl }
   where
     by : (j : ℕ) (t : Bool) → ltb j (length hs) ≡ t → natAbs (getD hs j (pos 0)) ≤ mostHeight
-    by j true t = size-within 49999999999 (getD hs j (pos 0)) (none-bad (λ i. workHeightOut (getD hs i (pos 0))) (length hs) z j (ltb-true j (length hs) t))
+    by j true t = size-within mostHeight (getD hs j (pos 0)) (none-bad (λ i. workHeightOut (getD hs i (pos 0))) (length hs) z j (ltb-true j (length hs) t))
     by j false t = rw (past-end hs j (ltb-false j (length hs) t)) zero-le
 
 -- b heights

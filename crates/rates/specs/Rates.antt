@@ -1,6 +1,6 @@
 -- Document 01, "Adjustment": correction rates.
 -- Assumes nothing.
-use Prim.Native.Nat.{ℕ, _-_}
+use Prim.Native.Nat.{ℕ, _-_, _≤_}
 use mathlib.Core.Bool.{false, cond}
 use mathlib.Core.List.{List}
 use lib.Dec.{ltb}
@@ -9,12 +9,15 @@ use lib.IntN.{ℤ, pos, natAbs, _-ℤ_}
 use lib.Ieee.{Float, fin, binary64, ofInt, div}
 use Rattle.laws.specs.Tests.{outZ, eqZ}
 use Rattle.laws.specs.Scan.{firstBad}
-use Rattle.book.specs.Line.{fromAt, toAt, differenceAt, lengthAt, standingAt}
+use Rattle.laws.specs.Range.{Between}
+use Rattle.book.specs.Limits.{mostDifference}
+use Rattle.book.specs.Line.{lengthAt, standingAt, lineAt}
 use Rattle.book.specs.Height.{workHeightOut}
 use Rattle.book.specs.Test.{testOf}
 use Rattle.fields.specs.Heights.{height}
 use Rattle.book.specs.declared.Book.{Book}
 use Rattle.book.specs.declared.Tested.{Tested}
+use Rattle.book.specs.declared.line.Line.{Line}
 use Rattle.book.specs.declared.Tested.the-variants.{Good, Refused}
 use Rattle.rates.specs.declared.Rate.{Rate}
 use Rattle.rates.specs.declared.Rate.the-variants.{PerKm, Withdrawn}
@@ -30,9 +33,20 @@ unfoldable pub rowOf : ℕ → ℤ → Rate → RateRow
 rowOf line correction (PerKm rate) = record { line = line; correction = correction; rate = rate }
 rowOf line correction Withdrawn = record { line = line; correction = pos 0; rate = fin false 0 (pos 0) }
 
--- "adjusted minus observed difference": the correction of the line at place i
+-- "adjusted minus observed difference": the correction of a line
+unfoldable pub correctionOf : List ℤ → Line → ℤ
+correctionOf heights l = height heights (natAbs (l .to)) -ℤ height heights (natAbs (l .from)) -ℤ l .difference
+
+-- of the line at place i
 unfoldable pub correctionAt : List ℤ → List ℤ → ℕ → ℤ
-correctionAt heights lines i = height heights (natAbs (toAt lines i)) -ℤ height heights (natAbs (fromAt lines i)) -ℤ differenceAt lines i
+unfolding correctionOf
+correctionAt heights lines i = correctionOf heights (lineAt lines i)
+
+-- a line of a book of b marks, as far as its correction needs it
+pub record OfBook (b : ℕ) (l : Line) : Type 0 where
+  pub from : Between 1 b (l .from)
+  pub to : Between 1 b (l .to)
+  pub difference : natAbs (l .difference) ≤ mostDifference
 
 -- "Of a refused call, line, correction and rate are 0"
 unfoldable pub refusedRate : ℕ → ℕ → RateAnswer

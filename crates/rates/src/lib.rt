@@ -1,17 +1,19 @@
 // Correction rates: document 01, "Adjustment".
 ghost use mathlib.Core.Path.{_≡_};
 ghost use lib.IntN.{natAbs};
-ghost use Prim.Native.Nat.{_-_, _<_, _^_};
+ghost use Prim.Native.Nat.{_-_, _*_, _≤_, _<_, _^_};
 ghost use lib.ListN.{length};
-ghost use Rattle.fields.specs.Places.{Place, Lines};
+ghost use Rattle.book.specs.Line.{lineWords};
+ghost use Rattle.book.specs.Good.{GoodLine};
+ghost use Rattle.fields.specs.Places.{Lines};
 ghost use Rattle.fields.specs.Heights.{Working};
-ghost use Rattle.rates.specs.Rates.{quotient, rowOf, refusedRate, firstHigh, correctionAt, lineRate, goodRate};
+ghost use Rattle.rates.specs.Rates.{quotient, rowOf, refusedRate, firstHigh, OfBook, correctionOf, lineRate, goodRate};
 use book::Book;
 use book::height::Height;
+use book::height::MadeHeight;
 use book::line::Line;
-use fields::difference_of;
-use fields::from_mark;
-use fields::to_mark;
+use book::line::MadeLine;
+use book::line::line_of;
 
 // A line's answer: its rate in micrometres per metre, which are mm per km, or that the line is withdrawn.
 pub enum Rate {
@@ -80,7 +82,8 @@ fn first_high(heights: &[i64]) -> usize
     let n = heights.len();
     let mut i = 0;
     while i < n {
-        if Height::outside_work(heights[i]) {
+        let made = Height::in_work(heights[i]);
+        if let MadeHeight::Refused(_) = made {
             return i + 1;
         }
         i += 1;
@@ -88,25 +91,29 @@ fn first_high(heights: &[i64]) -> usize
     0
 }
 
-// Adjusted minus observed difference of the line at place i.
-fn correction_of(lines: &[i64], heights: &[i64], b: usize, n: usize, i: usize) -> i64
-    requires { ⌜ Place (now lines) b n i ⌝ ∗ ⌜ Working (now heights) b ⌝ }
-    ensures { λ r. ⌜ (r ≡ correctionAt (now (heights .entry)) (now (lines .entry)) i) × (natAbs r < 2 ^ 53) ⌝ }
+// Adjusted minus observed difference of a line.
+fn correction_of(line: Line, heights: &[i64], b: usize) -> i64
+    requires { ⌜ OfBook b line ⌝ ∗ ⌜ Working (now heights) b ⌝ }
+    ensures { λ r. ⌜ (r ≡ correctionOf (now (heights .entry)) line) × (natAbs r < 2 ^ 53) ⌝ }
 {
-    let to = to_mark(lines, b, n, i);
-    let from = from_mark(lines, b, n, i);
+    let to = signed::index(line.to);
+    let from = signed::index(line.from);
     let adjusted = signed::sub(heights[to - 1], heights[from - 1]);
-    signed::sub(adjusted, difference_of(lines, b, n, i))
+    signed::sub(adjusted, line.difference)
 }
 
 // The answer of a line that there is.
-fn line_rate(lines: &[i64], heights: &[i64], b: usize, n: usize, line: usize) -> RateAnswer
-    requires { ⌜ Place (now lines) b n (line - 1) ⌝ ∗ ⌜ Working (now heights) b ⌝ ∗ ⌜ 0 < line ⌝ }
+fn line_rate(lines: &[i64], heights: &[i64], b: usize, line: usize) -> RateAnswer
+    requires { ⌜ (0 < line) × (line * lineWords ≤ length (now lines)) ⌝ ∗ ⌜ GoodLine b (now lines) (line - 1) ⌝ ∗ ⌜ Working (now heights) b ⌝ }
     ensures { λ r. ⌜ r ≡ lineRate (now (heights .entry)) (now (lines .entry)) line (line - 1) ⌝ }
 {
-    let i = line - 1;
-    let at = i * Line::WORDS;
-    if signed::same(lines[at + Line::STANDING], 0) {
+    let at = (line - 1) * Line::WORDS;
+    let made = line_of(&lines[at..at + Line::WORDS], signed::signed_count(b));
+    // A tested book has no line that is refused.
+    let MadeLine::Good(its) = made else {
+        return refuse(7, line);
+    };
+    if signed::same(its.standing, 0) {
         return RateAnswer {
             number: 0,
             place: 0,
@@ -115,8 +122,8 @@ fn line_rate(lines: &[i64], heights: &[i64], b: usize, n: usize, line: usize) ->
             rate: Rate::Withdrawn,
         };
     }
-    let correction = correction_of(lines, heights, b, n, i);
-    let rate = per_km(correction, lines[at + Line::LENGTH]);
+    let correction = correction_of(its, heights, b);
+    let rate = per_km(correction, its.length);
     RateAnswer {
         number: 0,
         place: 0,
@@ -131,13 +138,12 @@ pub fn good_rate(lines: &[i64], heights: &[i64], book: Book, line: i64) -> RateA
     requires { ⌜ Lines (now lines) (book .marks) (book .lines) ⌝ ∗ ⌜ length (now heights) ≡ book .marks ⌝ }
     ensures { λ r. ⌜ r ≡ goodRate (now (heights .entry)) (now (lines .entry)) book line ⌝ }
 {
-    let n = book.lines;
-    if signed::outside(line, 1, signed::signed_count(n)) {
+    if signed::outside(line, 1, signed::signed_count(book.lines)) {
         return refuse(8, 0);
     }
     let high = first_high(heights);
     if 0 < high {
         return refuse(13, high);
     }
-    line_rate(lines, heights, book.marks, n, signed::index(line))
+    line_rate(lines, heights, book.marks, signed::index(line))
 }

@@ -9,6 +9,7 @@ use lib.IntN.{ℤ, pos, natAbs}
 use lib.ListN.{length, getD, take, drop, set, length-set, length-map}
 use lib.Seq.{getD-set-same, getD-set-other}
 use borrow.Rule.Slice.PartMut.{putMid}
+use Rattle.book.specs.Limits.{mostDifference}
 use Rattle.network.specs.Standing.{Line, standing}
 use Rattle.network.specs.Redone.{measured, newDifference, redone, redonePass}
 use Rattle.network.specs.Path.{Pass, pass}
@@ -22,7 +23,7 @@ use Rattle.chains.specs.Chains.{Half, fore, aft, Sound, codeOf, codes}
 use Rattle.chains.specs.Listed.{Listed}
 use Rattle.subgraph.specs.Turn.{Taken}
 use Rattle.subgraph.proofs.Turns.{going-none, going-all}
-use Rattle.rows.specs.Sums.{rowOf, Gentle, HalfOk, RowAsked, steepest}
+use Rattle.rows.specs.Sums.{rowOf, Gentle, HalfOk, RowAsked}
 use Rattle.rows.specs.Turns.{Tables, Due, RowsAsked}
 use Rattle.reruns.specs.Again.{Again, BothDone, BothTaken, BothAt}
 use Rattle.rows.proofs.Passes.{row-is}
@@ -75,9 +76,9 @@ module _ {ls again : List ℤ} (r : Again ls again) where
   length-again = ap length (r .is) ∙ length-set ls (r .i * 5 + 2) (r .value)
 
   gentle-again : Gentle ls → Gentle again
-  gentle-again g j h = subst (λ (z : List ℤ). natAbs (getD z (j * 5 + 2) (pos 0)) ≤ steepest) (sym (r .is)) (go (ℕ-discrete j (r .i)))
+  gentle-again g j h = subst (λ (z : List ℤ). natAbs (getD z (j * 5 + 2) (pos 0)) ≤ mostDifference) (sym (r .is)) (go (ℕ-discrete j (r .i)))
     where
-      go : Dec (j ≡ r .i) → natAbs (getD (set ls (r .i * 5 + 2) (r .value)) (j * 5 + 2) (pos 0)) ≤ steepest
+      go : Dec (j ≡ r .i) → natAbs (getD (set ls (r .i * 5 + 2) (r .value)) (j * 5 + 2) (pos 0)) ≤ mostDifference
       go (yes e) = rw (e, getD-set-same ls (r .i * 5 + 2) (r .value) (pos 0) (omega (arith, r .there))) (r .small)
       go (no e) = rw (getD-set-other ls (r .i * 5 + 2) (j * 5 + 2) (r .value) (pos 0) (λ z. e (omega arith))) (g j (omega (arith, length-again)))
 

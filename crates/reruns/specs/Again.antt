@@ -5,10 +5,10 @@ use mathlib.Core.Path.{_≡_}
 use mathlib.Core.List.{List, _++_, map}
 use lib.IntN.{ℤ, natAbs}
 use lib.ListN.{drop, set}
+use Rattle.book.specs.Limits.{mostDifference}
 use Rattle.network.specs.Field.{place, differenceField, HasLine}
 use Rattle.network.specs.Redone.{redonePass}
 use Rattle.loops.specs.Row.{row, rows}
-use Rattle.rows.specs.Sums.{steepest}
 use Rattle.rows.specs.Turns.{Due, RowDone, RowsAt}
 
 -- "Re-run sets the line's difference to the new one .. and nothing else in the book changes": of the line of number i + 1
@@ -16,7 +16,7 @@ pub record Again (ls again : List ℤ) : Type 0 where
   pub i : ℕ
   pub value : ℤ
   pub there : HasLine ls i
-  pub small : natAbs value ≤ steepest
+  pub small : natAbs value ≤ mostDifference
   pub is : again ≡ set ls (place i differenceField) value
 
 -- the turn is over; out′ has the loop's row, and fresh′ its row with the line run again

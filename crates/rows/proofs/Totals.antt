@@ -10,12 +10,12 @@ use borrow.Author.Tests.{eq-eqb, ne-eqb, le-leb, lt-leb}
 use lib.IntN.{ℤ, pos, natAbs, negℤ, _+ℤ_, _-ℤ_, +ℤ-assoc, +ℤ-idl, +ℤ-idr}
 use Rattle.laws.proofs.Tests.{cond-ind}
 use Rattle.laws.proofs.Size.{size-neg}
+use Rattle.book.specs.Limits.{mostDifference, mostLength, mostTolerance}
 use Rattle.nearest.specs.Heap.{leafLimit}
-use Rattle.chains.specs.Chains.{longest}
 use lib.ListN.{length, getD, take, drop, set, length-take}
 use Rattle.laws.proofs.Lists.{filled}
 use lib.Seq.{drop-cons, getD-take}
-use Rattle.rows.specs.Sums.{lengthOf, riseAt, riseOf, verdictOf, rowOf, Gentle, HalfOk, steepest, loosest, squareLimit}
+use Rattle.rows.specs.Sums.{lengthOf, riseAt, riseOf, verdictOf, rowOf, Gentle, HalfOk, squareLimit}
 
 -- the way from place j on begins with what stands at j
 rest-of : (out : List ℕ) (a j : ℕ) → a ≤ length out → j < a → drop j (take a out) ≡ getD out j 0 ∷ drop (j + 1) (take a out)
@@ -54,12 +54,12 @@ module _ (ls : List ℤ) (out : List ℕ) (a : ℕ) (le : a ≤ length out) wher
 
 -- ---- one half
 
-pub difference-of : (ls : List ℤ) (h : ℕ) → Gentle ls → HalfOk ls h → natAbs (getD ls ((h / 2 - 1) * 5 + 2) (pos 0)) ≤ steepest
+pub difference-of : (ls : List ℤ) (h : ℕ) → Gentle ls → HalfOk ls h → natAbs (getD ls ((h / 2 - 1) * 5 + 2) (pos 0)) ≤ mostDifference
 difference-of ls h g ok = g (h / 2 - 1) (omega (arith, ok .low, ok .high))
 
-pub rise-size : (ls : List ℤ) (h : ℕ) → Gentle ls → HalfOk ls h → natAbs (riseAt ls h) ≤ steepest
+pub rise-size : (ls : List ℤ) (h : ℕ) → Gentle ls → HalfOk ls h → natAbs (riseAt ls h) ≤ mostDifference
 unfolding riseAt
-rise-size ls h g ok = cond-ind (λ (z : ℤ). natAbs z ≤ steepest) (eqb (h % 2) 0) (getD ls ((h / 2 - 1) * 5 + 2) (pos 0)) (negℤ (getD ls ((h / 2 - 1) * 5 + 2) (pos 0)))
+rise-size ls h g ok = cond-ind (λ (z : ℤ). natAbs z ≤ mostDifference) (eqb (h % 2) 0) (getD ls ((h / 2 - 1) * 5 + 2) (pos 0)) (negℤ (getD ls ((h / 2 - 1) * 5 + 2) (pos 0)))
     (λ e. difference-of ls h g ok) (λ e. rw size-neg (difference-of ls h g ok))
 
 pub rise-fore : (ls : List ℤ) (h : ℕ) → h % 2 ≡ 0 → riseAt ls h ≡ getD ls ((h / 2 - 1) * 5 + 2) (pos 0)
@@ -72,10 +72,10 @@ rise-aft ls h e = rw (ne-eqb (h % 2) 0 e) (sym (+ℤ-idl (negℤ (getD ls ((h / 
 
 -- ---- the verdict
 
-pub allow : (t len : ℕ) → t ≤ loosest → len ≤ leafLimit * longest → t * t * len ≤ loosest * loosest * (leafLimit * longest)
+pub allow : (t len : ℕ) → t ≤ mostTolerance → len ≤ leafLimit * mostLength → t * t * len ≤ mostTolerance * mostTolerance * (leafLimit * mostLength)
 allow t len ht hl = mul-le-mul (mul-le-mul ht ht) hl
 
-pub verdict-big : (t : ℕ) (m : ℤ) (len size : ℕ) → t ≤ loosest → len ≤ leafLimit * longest → size ≡ natAbs m → squareLimit ≤ size → verdictOf t m len ≡ pos 1
+pub verdict-big : (t : ℕ) (m : ℤ) (len size : ℕ) → t ≤ mostTolerance → len ≤ leafLimit * mostLength → size ≡ natAbs m → squareLimit ≤ size → verdictOf t m len ≡ pos 1
 unfolding verdictOf
 verdict-big t m len size ht hl e h =
     let a = allow t len ht hl in

@@ -5,16 +5,10 @@ use mathlib.Core.List.{List, [], _∷_}
 use lib.IntN.{ℤ, pos, natAbs, negℤ, _+ℤ_}
 use lib.ListN.{length, getD}
 use lib.Dec.{eqb, leb}
+use Rattle.book.specs.Limits.{mostDifference, mostTolerance}
 use Rattle.nearest.specs.Heap.{leafLimit}
 use Rattle.chains.specs.Chains.{halves, numberLimit}
 use Rattle.chains.specs.Listed.{Longs}
-
--- limits of document 01: a difference, and the tolerance
-abbrev pub steepest : ℕ
-steepest = 100000000
-
-abbrev pub loosest : ℕ
-loosest = 1000
 
 -- a size from which a misclosure is over without squaring
 abbrev pub squareLimit : ℕ
@@ -48,7 +42,7 @@ rowOf t ls long number hs =
 
 -- every line's difference is within its limit
 abbrev pub Gentle : List ℤ → Type 0
-Gentle ls = (i : ℕ) → i < length ls / 5 → natAbs (getD ls (i * 5 + 2) (pos 0)) ≤ steepest
+Gentle ls = (i : ℕ) → i < length ls / 5 → natAbs (getD ls (i * 5 + 2) (pos 0)) ≤ mostDifference
 
 -- h is a half of a line of ls
 pub record HalfOk (ls : List ℤ) (h : ℕ) : Type 0 where
@@ -68,4 +62,4 @@ pub record RowAsked (ls : List ℤ) (long path : List ℕ) (a number t : ℕ) : 
   pub longs : Longs numberLimit long
   pub coded : Coded ls path a
   pub closing : HalfOk ls (number * 2)
-  pub tolerance : t ≤ loosest
+  pub tolerance : t ≤ mostTolerance

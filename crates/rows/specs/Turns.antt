@@ -5,6 +5,7 @@ use mathlib.Core.Bool.{true}
 use mathlib.Core.List.{List, [], _∷_, _++_}
 use lib.IntN.{ℤ}
 use lib.ListN.{length, getD, take, drop}
+use Rattle.book.specs.Limits.{mostTolerance}
 use Rattle.network.specs.Standing.{Line, standing}
 use Rattle.network.specs.Path.{Pass, pass}
 use Rattle.loops.specs.Loops.{Loop, loops}
@@ -13,13 +14,13 @@ use Rattle.nearest.specs.Heap.{leafLimit}
 use Rattle.chains.specs.Chains.{Tips, codes, numberLimit}
 use Rattle.chains.specs.Listed.{Longs, Listed}
 use Rattle.subgraph.specs.Turn.{Going}
-use Rattle.rows.specs.Sums.{Gentle, rowOf, loosest}
+use Rattle.rows.specs.Sums.{Gentle, rowOf}
 
 -- what does not change from turn to turn: the book, its tables, the tolerance
 pub record Tables (ls : List ℤ) (n t : ℕ) (tip long : List ℕ) : Type 0 where
   pub few : n < leafLimit
   pub gentle : Gentle ls
-  pub tolerance : t ≤ loosest
+  pub tolerance : t ≤ mostTolerance
   pub tips : Tips n tip
   pub longs : Longs numberLimit long
   pub listed : Listed (standing ls) n (length ls / 5 + 1) tip long

@@ -4,14 +4,15 @@ ghost use mathlib.Core.List.{[], _∷_, _++_};
 ghost use Prim.Native.Nat.{_+_, _*_, _-_, _<_, _≤_, _^_};
 ghost use lib.IntN.{pos, natAbs};
 ghost use lib.ListN.{length, take, drop};
+ghost use Rattle.book.specs.Limits.{mostDifference, mostLength, mostTolerance};
 ghost use Rattle.network.specs.Standing.{standing};
 ghost use Rattle.loops.specs.Loops.{loops};
 ghost use Rattle.loops.specs.Row.{rows};
 ghost use Rattle.search.specs.Front.{Rooms};
 ghost use Rattle.nearest.specs.Heap.{leafLimit};
-ghost use Rattle.chains.specs.Chains.{numberLimit, longest};
+ghost use Rattle.chains.specs.Chains.{numberLimit};
 ghost use Rattle.chains.specs.Listed.{Longs};
-ghost use Rattle.rows.specs.Sums.{lengthOf, riseAt, riseOf, verdictOf, rowOf, Gentle, HalfOk, Coded, RowAsked, loosest, steepest};
+ghost use Rattle.rows.specs.Sums.{lengthOf, riseAt, riseOf, verdictOf, rowOf, Gentle, HalfOk, Coded, RowAsked};
 ghost use Rattle.rows.specs.Turns.{Tables, NodesRoom, Due, RowTaken, RowsAsked};
 use book::line::Line;
 
@@ -19,7 +20,7 @@ use book::line::Line;
 pub const ROW: usize = 5;
 
 // A size from which a misclosure is over without squaring.
-pub const SQUARE_LIMIT: usize = 2147483648;
+const SQUARE_LIMIT: usize = 2147483648;
 
 // The difference of a half in its sense.
 fn half_rise(lines: &[i64], h: usize) -> i64
@@ -36,7 +37,7 @@ fn half_rise(lines: &[i64], h: usize) -> i64
 // The length of the way in the first a places of out.
 fn way_length(lines: &[i64], long: &[u64], out: &[u64], a: usize) -> usize
     requires { ⌜ Longs numberLimit (now long) ⌝ ∗ ⌜ Coded (now lines) (now out) a ⌝ }
-    ensures { λ r. ⌜ (r ≡ lengthOf (now (long .entry)) (take a (now (out .entry)))) × (r ≤ a * longest) ⌝ }
+    ensures { λ r. ⌜ (r ≡ lengthOf (now (long .entry)) (take a (now (out .entry)))) × (r ≤ a * mostLength) ⌝ }
 {
     let mut sum = 0;
     let mut j = 0;
@@ -50,7 +51,7 @@ fn way_length(lines: &[i64], long: &[u64], out: &[u64], a: usize) -> usize
 // The rise of the way in the first a places of out.
 fn way_rise(lines: &[i64], out: &[u64], a: usize) -> i64
     requires { ⌜ Gentle (now lines) ⌝ ∗ ⌜ Coded (now lines) (now out) a ⌝ }
-    ensures { λ r. ⌜ (r ≡ riseOf (now (lines .entry)) (take a (now (out .entry)))) × (natAbs r ≤ a * steepest) ⌝ }
+    ensures { λ r. ⌜ (r ≡ riseOf (now (lines .entry)) (take a (now (out .entry)))) × (natAbs r ≤ a * mostDifference) ⌝ }
 {
     let mut sum = 0i64;
     let mut j = 0;
@@ -63,7 +64,7 @@ fn way_rise(lines: &[i64], out: &[u64], a: usize) -> i64
 
 // 0 where the misclosure is within the allowable, 1 where it is over. A size of 2 to the 31st or more is over in any case; below it the square fits.
 fn verdict(misclosure: i64, t: usize, metres: usize) -> i64
-    requires { ⌜ t ≤ loosest ⌝ ∗ ⌜ metres ≤ leafLimit * longest ⌝ }
+    requires { ⌜ t ≤ mostTolerance ⌝ ∗ ⌜ metres ≤ leafLimit * mostLength ⌝ }
     ensures { λ r. ⌜ r ≡ verdictOf t misclosure metres ⌝ }
 {
     let size = signed::magnitude(misclosure);

@@ -9,6 +9,7 @@ use mathlib.Core.List.{List, [], _∷_, List·Memᴰ}
 use mathlib.Core.Option.{Option, none, some}
 use lib.ListN.{length, getD, set}
 use lib.Seq.{getD-set-same, getD-set-other}
+use Rattle.book.specs.Limits.{mostLength}
 use Rattle.network.specs.Standing.{Line}
 use Rattle.network.specs.Tree.{Entry, entry, Tree, Candidate, candidate, distance, score, far, lowest, firstOut, next, step, grow}
 use Rattle.network.proofs.Grown.{scored, After, new, old, after, keeps, lowest-some, ByLine, Grown, grown, Stepped, line, root, stop, stepped}
@@ -16,7 +17,7 @@ use Rattle.network.proofs.Shortest.{same, never, turn, frontier, rising}
 use Rattle.nearest.specs.Heap.{Changed, leafLimit}
 use Rattle.nearest.specs.Heap as hp
 use Rattle.nearest.proofs.Laws.{cleared}
-use Rattle.chains.specs.Chains.{Half, flip, AllSound, Given, halves, longest}
+use Rattle.chains.specs.Chains.{Half, flip, AllSound, Given, halves}
 use Rattle.search.specs.Front.{Stage, Relaxed, Key, Keyed, Front, Nothing, Rest, Begun, Two, top, lead, Turned, more, found, nothing, limit, Outcome, reached, cut-off}
 use Rattle.search.specs.Front as f
 use Rattle.chains.proofs.Halves.{half-ends, half-flip, half-low-end}
@@ -24,20 +25,20 @@ use Rattle.search.proofs.Enter.{lowest-gone, far-half, step-some, Pop, 
 
 -- ---- distances stay small
 
-pub near : (n : ℕ) (sub : List Line) → AllSound n sub → (roots : List ℕ) (k m d : ℕ) → distance (grow sub roots k) m ≡ some d → d ≤ longest * k
+pub near : (n : ℕ) (sub : List Line) → AllSound n sub → (roots : List ℕ) (k m d : ℕ) → distance (grow sub roots k) m ≡ some d → d ≤ mostLength * k
 unfolding grow distance
 near n sub sound roots zero m d h = never h refl
 near n sub sound roots (suc k) m d h = go h (stepped sub roots (grow sub roots k)) (near n sub sound roots k)
   where
-    go : {es : Tree} → distance es m ≡ some d → Stepped sub roots (grow sub roots k) es → ((m d : ℕ) → distance (grow sub roots k) m ≡ some d → d ≤ longest * k) → d ≤ longest * suc k
+    go : {es : Tree} → distance es m ≡ some d → Stepped sub roots (grow sub roots k) es → ((m d : ℕ) → distance (grow sub roots k) m ≡ some d → d ≤ mostLength * k) → d ≤ mostLength * suc k
     go h (line {e = e} x) ih = hit (after e (grow sub roots k) m)
       where
-        hit : After e (grow sub roots k) m → d ≤ longest * suc k
+        hit : After e (grow sub roots k) m → d ≤ mostLength * suc k
         hit (new p q) = omega (arith, same q h, x .sc .sum, ih (x .sc .near) (x .sc .d) (x .sc .isIn), sound (x .l) (x .isLine) .short)
         hit (old p q) = omega (arith, ih m d (sym q ∙ h))
     go h (root {e = e} x i) ih = hit (after e (grow sub roots k) m)
       where
-        hit : After e (grow sub roots k) m → d ≤ longest * suc k
+        hit : After e (grow sub roots k) m → d ≤ mostLength * suc k
         hit (new p q) = omega (arith, same q h, x .zero-at)
         hit (old p q) = omega (arith, ih m d (sym q ∙ h))
     go h (stop a b) ih = omega (arith, ih m d h)

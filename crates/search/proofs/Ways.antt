@@ -9,10 +9,11 @@ use mathlib.Core.Option.{Option, none, some, Option·some-ne-none}
 use lib.ListN.{length, getD, set, length-set}
 use lib.Seq.{sets}
 use lib.Dec.{eqb}
+use Rattle.book.specs.Limits.{leastLength}
 use Rattle.network.specs.Standing.{Line}
 use Rattle.network.specs.Tree.{Tree, distance, grow}
 use Rattle.network.specs.Path.{Pass, shortest}
-use Rattle.chains.specs.Chains.{flip, codes, AllSound, Given, halves, least}
+use Rattle.chains.specs.Chains.{flip, codes, AllSound, Given, halves}
 use Rattle.chains.proofs.Halves.{half-ok}
 use Rattle.search.specs.Front.{came, orBy, viaOf, orPath, lineage, By, Key, Keyed, Way, rooted, onward, Leads, Put, Walked, Written, Outcome, reached, cut-off}
 use Rattle.search.specs.Front as f
@@ -60,7 +61,7 @@ module _ (n : ℕ) (sub : List Line) (sound : AllSound n sub) (roots : List ℕ)
               bk : Back n sub sound roots at l m u
               bk = backed n sub sound roots k l u m (ky .h) c hf
 
-              ten : least ≤ l .length
+              ten : leastLength ≤ l .length
               ten = sound l (bk .isLine) .long
 
               ku : Key at best tip u du

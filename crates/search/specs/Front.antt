@@ -8,10 +8,11 @@ use mathlib.Core.Logic.{_⊎_}
 use lib.ListN.{length, getD, set}
 use lib.Seq.{sets}
 use lib.Dec.{eqb}
+use Rattle.book.specs.Limits.{leastLength}
 use Rattle.network.specs.Standing.{Line}
 use Rattle.network.specs.Tree.{Tree, distance, grow}
 use Rattle.network.specs.Path.{Pass, pass, shortest}
-use Rattle.chains.specs.Chains.{Half, flip, codes, On, Has, Nodes, Heads, Tips, Given, halves, least}
+use Rattle.chains.specs.Chains.{Half, flip, codes, On, Has, Nodes, Heads, Tips, Given, halves}
 use Rattle.nearest.specs.Heap.{far, Heap, Changed, leafLimit}
 
 -- ---- what `offer` and `relax` do, with no word of lines
@@ -176,7 +177,7 @@ Searched n head next fars add tip best r to a = (sub : List Line) → Given sub 
 pub data Way (best tip : List ℕ) : ℕ → List ℕ → Type 0 where
   rooted : {m : ℕ} → m < length best → getD best m 0 ≡ 0 → Way best tip m []
   onward : {m : ℕ} (g u : ℕ) {hs : List ℕ} → m < length best → 0 < getD best m 0 → g ≡ flip (getD best m 0 % halves) → u ≡ getD tip g 0
-      → getD best u 0 / halves + least ≤ getD best m 0 / halves → Way best tip u hs → Way best tip m (g ∷ hs)
+      → getD best u 0 / halves + leastLength ≤ getD best m 0 / halves → Way best tip u hs → Way best tip m (g ∷ hs)
 
 -- there is a way from m, and room for it from place c on
 pub record Leads (best tip out : List ℕ) (c m : ℕ) : Type 0 where

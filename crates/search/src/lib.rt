@@ -6,7 +6,7 @@ ghost use Rattle.search.specs.Direct.{LeastSum, Direct};
 ghost use Rattle.search.specs.Front.{limit, Stage, Offered, Relaxed, Room, Rooms, Two, Begun, Turned, Searched, Leads, Walked, Held, Pathed};
 
 // More than any key.
-pub const LIMIT: u64 = 1152921504606846976;
+const LIMIT: u64 = 1152921504606846976;
 
 // Mark o is offered the key k.
 fn offer(best: &mut [u64], seg: &mut [u64], n: usize, o: usize, k: u64)

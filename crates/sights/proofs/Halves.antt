@@ -7,7 +7,7 @@ use mathlib.Core.Path.{_≡_, refl}
 use mathlib.Core.List.{List}
 use lib.ListN.{set}
 use lib.IntN.{ℤ, pos, natAbs, negℤ}
-use Rattle.book.specs.Limits.{mostDifference}
+use Rattle.book.specs.Limits.{mostDifference, leastLength}
 use Rattle.book.specs.Line.{fromAt, toAt, differenceAt, lengthAt}
 use Rattle.fields.specs.Places.{Place}
 use Rattle.divisions.specs.Weight.{weightOf, mostWeight}
@@ -46,7 +46,7 @@ module _ (lines : List ℤ) (j : ℕ) where
       by (suc k) = p .good .to .low
 
 -- the weight of a line of at least 10 metres
-pub weight-most : (l : ℕ) → 10 ≤ l → weightOf l ≤ mostWeight
+pub weight-most : (l : ℕ) → leastLength ≤ l → weightOf l ≤ mostWeight
 unfolding weightOf
 weight-most l h = div-le-of-le-mul l (omega arith)
 

@@ -11,7 +11,8 @@ use lib.Seq.{getD-set-same, getD-set-other}
 use lib.IntN.{ℤ, pos, natAbs}
 use Rattle.laws.specs.Tests.{outZ, eqZ}
 use Rattle.laws.proofs.Tests.{or-left, or-right, eqZ-apart}
-use Rattle.laws.proofs.Size.{Between, between}
+use Rattle.laws.specs.Range.{Between}
+use Rattle.laws.proofs.Size.{between}
 use Rattle.book.specs.Limits.{mostDifference}
 use Rattle.book.specs.Line.{field, differenceAt, standingAt, lineCount}
 use Rattle.book.specs.Good.{GoodLine}

@@ -6,7 +6,7 @@ use mathlib.Core.List.{List, [], _∷_, List·Memᴰ}
 use Prim.Native.Nat.{ℕ, zero, suc, _*_, _≤_}
 use lib.IntN.{ℤ, pos, negsuc, natAbs}
 use lib.ListN.{length}
-use Rattle.laws.proofs.Size.{Between}
+use Rattle.laws.specs.Range.{Between}
 use Rattle.book.specs.Limits.{mostLines, mostDifference, mostLength}
 use Rattle.book.specs.Good.{GoodLine, GoodBook}
 use Rattle.book.specs.declared.Book.{Book}

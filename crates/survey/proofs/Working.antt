@@ -7,6 +7,7 @@ use mathlib.Core.List.{List, _++_}
 use lib.IntN.{ℤ}
 use lib.ListN.{length, drop}
 use borrow.Author.Tests.{lt-ltb, le-ltb}
+use Rattle.book.specs.Limits.{mostLines}
 use Rattle.book.specs.Good.{GoodLine}
 use Rattle.book.specs.declared.Book.{Book}
 use Rattle.network.specs.Standing.{standing}
@@ -94,7 +95,7 @@ module _ (k : Book) (ls : List ℤ) (g : GoodLines k ls) where
     unfolding piecesOf
     parts-are = s .parts-are ∙ ap (λ (b : ℕ). pieces (tree b (standing ls))) marks-are
 
-    pub few-count : count ≤ 512
+    pub few-count : count ≤ mostLines
     few-count = omega (arith, count-is, few-loops k ls g, g .few)
 
     rows-are : length (reportOf (k .marks) (k .tolerance) ls) ≡ count * 5

@@ -36,7 +36,7 @@ fn kept_rows(book: Book, lines: &[i64], report: &[i64]) -> Kept
     requires { ⌜ GoodLines book (now lines) ⌝ }
     ensures { λ r. ⌜ r ≡ keptOf book (now (lines .entry)) (now (report .entry)) ⌝ }
 {
-    let mut rows = [0i64; 2560];
+    let mut rows = [0i64; work::ROWS_WORDS];
     let a = work::survey_good(book, lines, &mut rows[..]);
     let count = a.rows;
     let words = count * work::ROW_WORDS;
@@ -51,7 +51,7 @@ fn refresh(book: Book, lines: &[i64], report: &mut [i64], before: usize) -> Answ
     requires { ⌜ GoodLines book (now lines) ⌝ ∗ ⌜ Refresh book (now lines) (now report) before ⌝ }
     ensures { λ r. ⌜ Refreshed book (now (lines .entry)) (now (report .entry)) (now (report .exit)) before r ⌝ }
 {
-    let mut rows = [0i64; 2560];
+    let mut rows = [0i64; work::ROWS_WORDS];
     let a = work::survey_good(book, lines, &mut rows[..]);
     let words = a.rows * work::ROW_WORDS;
     kept::put(&rows[..words], report);
@@ -86,8 +86,8 @@ fn rerun_report(book: Book, lines: &[i64], again: &[i64], report: &mut [i64]) ->
     requires { ⌜ GoodLines book (now lines) × Again (now lines) (now again) ⌝ }
     ensures { λ r. ⌜ surveyed r (now (report .exit)) ≡ rerunKept book (now (lines .entry)) (now (again .entry)) (now (report .entry)) ⌝ }
 {
-    let mut rows = [0i64; 2560];
-    let mut fresh = [0i64; 2560];
+    let mut rows = [0i64; work::ROWS_WORDS];
+    let mut fresh = [0i64; work::ROWS_WORDS];
     let a = work::survey_again(book, lines, again, &mut rows[..], &mut fresh[..]);
     let words = a.rows * work::ROW_WORDS;
     if kept::differs(report, &rows[..words]) {
@@ -113,7 +113,7 @@ pub(crate) fn rerun_good(
         return crate::refuse(8, 0);
     }
     let at = (signed::magnitude(number) - 1) * Line::WORDS + Line::DIFFERENCE;
-    let mut again = [0i64; 2560];
+    let mut again = [0i64; Book::LINE_WORDS];
     let words = lines.len();
     kept::put(lines, &mut again[..]);
     again[at] = difference;

@@ -9,8 +9,10 @@ ghost use lib.ListN.{length};
 use crate::Answer;
 use book::Book;
 
-// Numbers of a report row.
-pub const ROW_WORDS: usize = 5;
+// Numbers of a report row, and of the report of any book.
+pub(crate) const ROW_WORDS: usize = 5;
+
+pub(crate) const ROWS_WORDS: usize = Book::MAX_LINES * ROW_WORDS;
 
 // The survey in tables that are lent.
 fn survey_in(

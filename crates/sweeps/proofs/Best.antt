@@ -21,7 +21,8 @@ use Rattle.sweeps.specs.Sweeps.{moveOf, sweep, settled, settle, maxSweep
 use Rattle.sweeps.specs.Squares.{moveMark, squares}
 use Rattle.divisions.proofs.Rounding.{nearest-is, no-rise, stays, nearest-size}
 use Rattle.sweeps.proofs.Moving.{moved-by, other-mark}
-use Rattle.sweeps.proofs.Keeping.{Kept, KeptTo, visited-kept, VisitsKeep, sweep-keeps, settle-keeps, Quiet, settle-quiet}
+use Rattle.sweeps.specs.Kept.{Kept, KeptTo}
+use Rattle.sweeps.proofs.Keeping.{visited-kept, VisitsKeep, sweep-keeps, settle-keeps, Quiet, settle-quiet}
 use Rattle.fields.proofs.Fair.{Fairs, fairs-each}
 
 -- an equation of whole numbers, as one of natural numbers

@@ -13,20 +13,10 @@ use Rattle.laws.specs.Tests.{eqZ}
 use Rattle.book.specs.Height.{workHeightOut}
 use Rattle.fields.specs.Heights.{height, setHeight}
 use Rattle.sights.specs.Sights.{Sight}
-use Rattle.sweeps.specs.Sweeps.{moveOf, Swept, still, moved, placed, visited, hasMoved, visit, sweep, Settled, settled, unsettled, onward, settleFrom}
+use Rattle.sweeps.specs.Sweeps.{moveOf, Swept, still, moved, placed, visited, hasMoved, visit, sweep, Settled, onward, settleFrom}
 use Rattle.sweeps.specs.Squares.{moveMark}
+use Rattle.sweeps.specs.Kept.{Kept, KeptTo}
 use Rattle.fields.proofs.Stands.{eqZ-zero}
-
--- P holds of the heights, unless one went outside
-abbrev pub Kept : (List ℤ → Type 0) → Swept → Type 0
-Kept P (still hs) = P hs
-Kept P (moved hs) = P hs
-Kept P (Swept.outside m) = Unit {0}
-
-abbrev pub KeptTo : (List ℤ → Type 0) → Settled → Type 0
-KeptTo P (settled n hs) = P hs
-KeptTo P (Settled.outside m) = Unit {0}
-KeptTo P unsettled = Unit {0}
 
 module _ (P : List ℤ → Type 0) where
   placed-kept : (o s : Bool) (m : ℕ) (z : ℤ) (hs : List ℤ) → (o ≡ false → P (setHeight hs m z)) → Kept P (placed o s m z hs)

@@ -85,7 +85,7 @@ pub working-set : (hs : List ℤ) (b v : ℕ) (z : ℤ) → Working hs b → wor
 unfolding workHeightOut
 working-set hs b v z w e = record {
   all = simp length-set (w .all);
-  inside = set-all (λ (x : ℤ). natAbs x ≤ mostHeight) hs v z (pos 0) (size-within 49999999999 z e) (w .inside);
+  inside = set-all (λ (x : ℤ). natAbs x ≤ mostHeight) hs v z (pos 0) (size-within mostHeight z e) (w .inside);
 }
 
 -- a visit by its tests: z is the new height, d the move

@@ -1,3 +1,4 @@
 pub mod Sweeps
 pub mod Squares
+pub mod Kept
 pub mod Turns

@@ -11,7 +11,14 @@ ghost use Rattle.sights.specs.Sights.{sightsOf, pull};
 ghost use Rattle.sights.specs.Table.{seen, rows, Ends, Span, Table};
 ghost use Rattle.sweeps.specs.Turns.{termAt, flags, swept, endedAt, joinedTurn, movedTurn, outsideTurn};
 ghost use Rattle.sweeps.specs.Sweeps.{moveOf, visited, visit, sweep, settle};
+use book::Book;
 use book::height::Height;
+use book::height::MadeHeight;
+
+// A place for each mark, and for each end of a line, of any book.
+const MARKS: usize = Book::MAX_MARKS as usize;
+
+const ENDS: usize = Book::MAX_LINES * 2;
 
 // "the 10,000th sweep still moved a mark"
 const MAX_SWEEPS: usize = 10_000;
@@ -103,10 +110,11 @@ fn visit(
     ensures { λ r. ⌜ (swept r (now (h .exit)) ≡ visited (rows (now (first .entry)) (now (other .entry)) (now (rise .entry)) (now (weight .entry)) (suc v)) (now (h .entry)) (suc v)) × Working (now (h .exit)) b ⌝ }
 {
     let d = move_of(first, other, rise, weight, total, h, b, v);
-    let z = signed::add(h[v], d);
-    if Height::outside_work(z) {
+    let made = Height::in_work(signed::add(h[v], d));
+    let MadeHeight::Good(height) = made else {
         return Turn::Outside(v + 1);
-    }
+    };
+    let z = height.micrometres;
     h[v] = z;
     if signed::same(d, 0) {
         Turn::Still
@@ -226,11 +234,11 @@ pub fn settle_lines(lines: &[i64], held: &[bool], h: &mut [i64], b: usize, n: us
     requires { ⌜ Lines (now lines) b n ⌝ ∗ ⌜ (0 < b) × (b ≤ mostMarks) ⌝ ∗ ⌜ Working (now h) b ⌝ ∗ ⌜ b ≤ length (now held) ⌝ }
     ensures { λ r. ⌜ endedAt r (now (h .exit)) ≡ settle (sightsOf (standing (now (lines .entry)))) (flags (now (held .entry))) b (now (h .entry)) ⌝ }
 {
-    let mut first = [0usize; 257];
-    let mut other = [0usize; 1024];
-    let mut rise = [0i64; 1024];
-    let mut weight = [0usize; 1024];
-    let mut total = [0usize; 256];
+    let mut first = [0usize; MARKS + 1];
+    let mut other = [0usize; ENDS];
+    let mut rise = [0i64; ENDS];
+    let mut weight = [0usize; ENDS];
+    let mut total = [0usize; MARKS];
     sights::fill_table(
         lines,
         &mut first,

@@ -3,7 +3,7 @@ use borrow.Author.Tests.{eq-eqb, ne-eqb, lt-ltb, le-ltb}
 use Rattle.book.specs.Held.{heldCount, firstBadHeld}
 use Rattle.book.specs.Line.{lineCount, firstBadLine}
 use Rattle.book.specs.Test.{bookOf, torn, testOf}
-use Rattle.book.proofs.Counts.{no-book, book-made}
+use Rattle.book.proofs.Made.{no-book, book-made}
 use borrow.Author.Needs.{needs}
 use Rattle.book.proofs.test.Statement.{statement}
 use Rattle.book.proofs.test.Tie as tie
@@ -44,21 +44,19 @@ enum-known-made c = search needs
 enum-told : tie.Need-enum-told
 enum-told c = search needs
 
-refuse-requires-3 : tie.Need-refuse-requires-3
-refuse-requires-3 c κs = search needs
-
 returns-3 : tie.Need-returns-3
 unfolding testOf torn
 returns-3 c =
-    let c₃ = c .before .before .before in
+    let c₃ = c .before .before in
     let c₂ = c₃ .before in
-    rw (eq-eqb _ _ (c₂ .before .if1 .left), eq-eqb _ _ (c₂ .if2 .left), no-book _ _ _ _ _ (made c₃) (c .before .enum-told .given .1)) (c .refuse3 .ensures)
+    let w = no-book _ _ _ _ _ (made c₃) _ (c .enum-told .given .1) in
+    rw (eq-eqb _ _ (c₂ .before .if1 .left), eq-eqb _ _ (c₂ .if2 .left), w .0) (w .1)
 
 first-bad-held-requires : tie.Need-first-bad-held-requires
 first-bad-held-requires c κs = search needs
 
-refuse-requires-4 : tie.Need-refuse-requires-4
-refuse-requires-4 c κs = search needs
+refuse-requires-3 : tie.Need-refuse-requires-3
+refuse-requires-3 c κs = search needs
 
 returns-4 : tie.Need-returns-4
 unfolding testOf torn
@@ -73,13 +71,13 @@ returns-4 c =
       book-made _ _ _ _ _ (made c₃) _ (known .made .given .1) .0,
       ← (bad-held c₅),
       lt-ltb _ _ (c .before .if3 .taken),
-    ) (c .refuse4 .ensures)
+    ) (c .refuse3 .ensures)
 
 first-bad-line-requires : tie.Need-first-bad-line-requires
 first-bad-line-requires c κs = search needs
 
-refuse-requires-5 : tie.Need-refuse-requires-5
-refuse-requires-5 c κs = search needs
+refuse-requires-4 : tie.Need-refuse-requires-4
+refuse-requires-4 c κs = search needs
 
 returns-5 : tie.Need-returns-5
 unfolding testOf torn
@@ -97,7 +95,7 @@ returns-5 c =
       le-ltb _ _ (c₇ .before .if3 .left),
       ← (bad-line c₇),
       lt-ltb _ _ (c .before .if4 .taken),
-    ) (c .refuse5 .ensures)
+    ) (c .refuse4 .ensures)
 
 returns-6 : tie.Need-returns-6
 unfolding testOf torn
@@ -130,12 +128,11 @@ test-spec =
     new-requires
     enum-known-made
     enum-told
-    refuse-requires-3
     returns-3
     first-bad-held-requires
-    refuse-requires-4
+    refuse-requires-3
     returns-4
     first-bad-line-requires
-    refuse-requires-5
+    refuse-requires-4
     returns-5
     returns-6)

@@ -3,7 +3,7 @@ use lib.IntN.{pos}
 use borrow.Author.Tests.{eq-eqb, ne-eqb, lt-ltb, le-ltb}
 use Rattle.laws.proofs.Signed.{stored}
 use Rattle.book.specs.Test.{bookOf}
-use Rattle.book.proofs.Counts.{no-book, book-made}
+use Rattle.book.proofs.Made.{no-book, book-made}
 use Rattle.file.specs.Read.{statedT, statedB, statedH, statedN, headOf}
 use borrow.Author.Needs.{needs}
 use Rattle.file.proofs.head_of.Statement.{statement}
@@ -83,7 +83,7 @@ returns-4 c =
       ← (c₂ .be4 .ensures .0),
       eq-eqb _ _ (c₃ .if2 .left),
       eq-eqb _ _ (c₄ .if3 .left),
-      no-book _ _ _ _ _ (made n) (c .enum-told .given .1),
+      no-book _ _ _ _ _ (made n) _ (c .enum-told .given .1) .0,
     )
 
 mul-if4 : tie.Need-mul-if4

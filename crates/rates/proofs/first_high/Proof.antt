@@ -1,6 +1,5 @@
-use mathlib.Core.Path.{_≡_, sym, _∙_}
+use mathlib.Core.Path.{_≡_, _∙_}
 use Prim.Native.Nat.{ℕ, _-_, _≤_}
-use Rattle.rates.specs.Rates.{firstHigh}
 use borrow.Author.Needs.{needs}
 use mathlib.Core.Bool.{Bool}
 use mathlib.Core.List.{List}
@@ -8,7 +7,9 @@ use lib.ListN.{length, getD}
 use lib.IntN.{ℤ, pos}
 use Rattle.laws.proofs.Scans.{Scanned, scan-start, scan-next, scan-stop, scan-end}
 use Rattle.laws.proofs.Signed.{back}
-use Rattle.book.specs.Height.{workHeightOut}
+use Rattle.book.specs.Height.{workHeightOut, workHeightOf}
+use Rattle.book.proofs.Made.{work-height-made, no-work-height}
+use Rattle.rates.specs.Rates.{firstHigh}
 use Rattle.rates.proofs.first_high.Statement.{statement}
 use Rattle.rates.proofs.first_high.Tie as tie
 
@@ -21,22 +22,28 @@ Inv-loop heights n i₀ i = (i ≤ length heights) × Scanned (highAt heights) (
 abbrev μ-loop : tie.MeasureT-loop
 μ-loop heights n i₀ i = length heights - i
 
-high-read : (c : tie.After-outside-work Inv-loop μ-loop) → (let entry : tie.Start Inv-loop μ-loop = search in highAt (entry .args .heights .now) (c .before .before .before .loop .i) ≡ c .outside-work .result)
-high-read c =
-    let entry : tie.Start Inv-loop μ-loop = search in
-    sym (c .outside-work .ensures ∙ rw (back (getD (entry .args .heights .now) (c .before .before .before .loop .i) (pos 0)) (c .before .outside-work-arg .given)))
+-- what the constructor answered of the height at place i
+made : (c : tie.After-in-work Inv-loop μ-loop) → (let s : tie.Start Inv-loop μ-loop = search in let at : tie.At-loop Inv-loop μ-loop = search in
+    c .in-work .result ≡ workHeightOf (getD (s .args .heights .now) (at .loop .i) (pos 0)))
+made c =
+    let s : tie.Start Inv-loop μ-loop = search in
+    let at : tie.At-loop Inv-loop μ-loop = search in
+    c .in-work .ensures ∙ rw (back (getD (s .args .heights .now) (at .loop .i) (pos 0)) (c .before .in-work-arg .given))
 
 loop-holds : tie.Need-loop-holds Inv-loop μ-loop
 loop-holds c = (search needs, scan-start (highAt (c .args .heights .now)) (length (c .args .heights .now)))
 
-mul-outside-work : tie.Need-mul-outside-work Inv-loop μ-loop
-mul-outside-work c = search needs
+mul-in-work : tie.Need-mul-in-work Inv-loop μ-loop
+mul-in-work c = search needs
 
-shared-slice-copy-out-outside-work : tie.Need-shared-slice-copy-out-outside-work Inv-loop μ-loop
-shared-slice-copy-out-outside-work c = search needs
+shared-slice-copy-out-in-work : tie.Need-shared-slice-copy-out-in-work Inv-loop μ-loop
+shared-slice-copy-out-in-work c = search needs
 
-outside-work-requires : tie.Need-outside-work-requires Inv-loop μ-loop
-outside-work-requires c κs = tt
+in-work-requires : tie.Need-in-work-requires Inv-loop μ-loop
+in-work-requires c κs = tt
+
+enum-told : tie.Need-enum-told Inv-loop μ-loop
+enum-told c = search needs
 
 add-result : tie.Need-add-result Inv-loop μ-loop
 add-result c = search needs
@@ -44,9 +51,14 @@ add-result c = search needs
 returns : tie.Need-returns Inv-loop μ-loop
 unfolding firstHigh
 returns c =
-    let at-loop : tie.At-loop Inv-loop μ-loop = search in
     let s : tie.Start Inv-loop μ-loop = search in
-    scan-stop (highAt (s .args .heights .now)) (length (s .args .heights .now)) (at-loop .loop .i) (c .before .before .before .loop-test .taken) (high-read (c .before) ∙ c .if1 .taken) (at-loop .loop .inv .1)
+    let at : tie.At-loop Inv-loop μ-loop = search in
+    let in-loop : tie.In-loop Inv-loop μ-loop = search in
+    scan-stop (highAt (s .args .heights .now)) (length (s .args .heights .now)) (at .loop .i) (in-loop .loop-test .taken)
+    (no-work-height _ _ (made (c .before .before)) _ (c .enum-told .given .1)) (at .loop .inv .1)
+
+enum-told-2 : tie.Need-enum-told-2 Inv-loop μ-loop
+enum-told-2 c = search needs
 
 add-i : tie.Need-add-i Inv-loop μ-loop
 add-i c = search needs
@@ -56,9 +68,13 @@ loop-less c = search needs
 
 loop-again : tie.Need-loop-again Inv-loop μ-loop
 loop-again c =
-    let at-loop : tie.At-loop Inv-loop μ-loop = search in
     let s : tie.Start Inv-loop μ-loop = search in
-    (search needs, scan-next (highAt (s .args .heights .now)) (length (s .args .heights .now)) (at-loop .loop .i) (c .before .before .before .loop-test .taken) (high-read (c .before) ∙ c .if1 .left) (at-loop .loop .inv .1))
+    let at : tie.At-loop Inv-loop μ-loop = search in
+    let in-loop : tie.In-loop Inv-loop μ-loop = search in (
+      search needs,
+      scan-next (highAt (s .args .heights .now)) (length (s .args .heights .now)) (at .loop .i) (in-loop .loop-test .taken)
+          (work-height-made _ _ (made (c .before .before)) _ (c .enum-told2 .given .1) .0) (at .loop .inv .1),
+    )
 
 returns-2 : tie.Need-returns-2 Inv-loop μ-loop
 unfolding firstHigh
@@ -71,11 +87,13 @@ first-high-spec =
     Inv-loop
     μ-loop
     loop-holds
-    mul-outside-work
-    shared-slice-copy-out-outside-work
-    outside-work-requires
+    mul-in-work
+    shared-slice-copy-out-in-work
+    in-work-requires
+    enum-told
     add-result
     returns
+    enum-told-2
     add-i
     loop-less
     loop-again

@@ -6,9 +6,9 @@ use mir.Facts.{toZ-ofZ}
 use borrow.Author.Tests.{lt-ltb, le-ltb}
 use Rattle.laws.specs.Tests.{outZ}
 use Rattle.laws.proofs.Signed.{stored}
-use Rattle.laws.proofs.Size.{Between, between, not-negative}
+use Rattle.laws.specs.Range.{Between}
+use Rattle.laws.proofs.Size.{between, not-negative}
 use Rattle.rates.specs.Rates.{goodRate}
-use Rattle.fields.proofs.Stands.{place-of}
 use Rattle.rates.proofs.Rating.{working-lent}
 use borrow.Author.Needs.{needs}
 use Rattle.rates.proofs.good_rate.Statement.{statement}
@@ -60,8 +60,8 @@ line-rate-requires c κs =
     let k = line-in (c .before .before .before) in
     let e : c .index .result ≡ natAbs (s .args .line) = c .index .ensures ∙ rw (toZ-ofZ (s .fits .line)) in
     let z : c .before .before .first-high .result ≡ 0 = omega (arith, c .before .if2 .left) in (
-      place-of (s .args .lines .now) (s .args .book .marks) (s .args .book .lines) (c .index .result - 1) (s .pre .0) (omega (arith, k .low, k .high)),
-      (working-lent (s .args .heights .now) (s .args .book .marks) (s .pre .1) (sym (c .before .before .first-high .ensures) ∙ z), omega (arith, k .low)),
+      (omega (arith, k .low), omega (arith, k .high, s .pre .0 .whole)),
+      (s .pre .0 .each (c .index .result - 1) (omega (arith, k .low, k .high)), working-lent (s .args .heights .now) (s .args .book .marks) (s .pre .1) (sym (c .before .before .first-high .ensures) ∙ z)),
     )
 
 returns-3 : tie.Need-returns-3

@@ -1,87 +1,144 @@
-use mathlib.Core.Path.{_≡_, sym, _∙_}
-use Prim.Native.Nat.{_-_}
+use mathlib.Core.Path.{_≡_, sym, _∙_, ap, subst}
+use Prim.Native.Nat.{ℕ, _-_}
+use native.Mathlib.Nat.{add-sub-cancel-left}
 use native.Mathlib.Omega.{arith}
-use lib.IntN.{pos}
+use lib.IntN.{ℤ, pos}
+use lib.ListN.{length-take, length-drop}
 use mir.Syntax.{w64}
 use mir.Val.{toZ, ofZ}
 use Rattle.laws.specs.Tests.{eqZ}
-use Rattle.laws.proofs.Signed.{back}
-use Rattle.book.specs.Line.{standingAt, lengthAt}
-use Rattle.rates.specs.Rates.{correctionAt, lineRate}
-use Rattle.fields.proofs.Readback.{read}
+use Rattle.laws.proofs.Signed.{back, stored}
+use Rattle.book.specs.Line.{lineAt, standingAt, lengthAt, entryOf}
+use Rattle.book.specs.declared.line.Line.{Line}
+use Rattle.book.specs.declared.line.MadeLine.the-variants as made
+use Rattle.book.proofs.Lines.{entryAt}
+use Rattle.book.proofs.Passing.{line-is-made}
+use Rattle.rates.specs.Rates.{correctionAt, correctionOf, lineRate, OfBook}
 use borrow.Author.Needs.{needs}
 use Rattle.rates.proofs.line_rate.Statement.{statement}
 use Rattle.rates.proofs.line_rate.Tie as tie
 
-withdrawn-read : (c : tie.After-same) → (let s = c .before .before in eqZ (standingAt (s .args .lines .now) (s .args .line - 1)) (pos 0) ≡ c .same .result)
-withdrawn-read c = let s = c .before .before in sym (c .same .ensures ∙ rw (back (standingAt (s .args .lines .now) (s .args .line - 1)) (c .before .same-arg .given)))
+-- a tested line is made of its entry
+line-made : (c : tie.After-line-of) → (let s : tie.Start = search in c .line-of .result ≡ made.Good (lineAt (s .args .lines .now) (s .args .line - 1)))
+line-made c =
+    let s : tie.Start = search in
+    let k = c .before .signed-count in
+    let b : toZ w64 (ofZ w64 (k .result)) ≡ pos (s .args .b) = stored (k .result) (k .ok) (k .ensures) in
+    simp add-sub-cancel-left at (c .line-of .ensures)
+    ∙ ap (λ (z : ℤ). entryOf z (entryAt (s .args .lines .now) (s .args .line - 1))) b
+    ∙ line-is-made (s .args .b) (s .args .lines .now) (s .args .line - 1) (s .pre .1 .0)
 
-length-read : (s : tie.Start) → toZ w64 (ofZ w64 (lengthAt (s .args .lines .now) (s .args .line - 1))) ≡ lengthAt (s .args .lines .now) (s .args .line - 1)
-length-read s = read (lengthAt (s .args .lines .now) (s .args .line - 1)) 100000 (s .pre .0 .good .long .high) (omega arith)
+-- it is the line at its place
+its-is : (c : tie.After-made) → (let s : tie.Start = search in c .made .given .0 .0 ≡ lineAt (s .args .lines .now) (s .args .line - 1))
+its-is c = let m = line-made (c .before .before) in let g = c .made .given .1 in cc
 
-sub-i : tie.Need-sub-i
-sub-i c = search needs
+withdrawn-read : (c : tie.After-same) → (let s : tie.Start = search in eqZ (standingAt (s .args .lines .now) (s .args .line - 1)) (pos 0) ≡ c .same .result)
+withdrawn-read c =
+    let known : tie.After-made = search in
+    let its = known .made .given .0 .0 in
+    let e = back (its .standing) (c .before .struct-told .given .1 .1 .1 .1 .0 .1) ∙ ap (λ (l : Line). l .standing) (its-is known) in
+    sym (c .same .ensures ∙ rw e)
+
+length-read : (c : tie.After-struct-told2) → (let s : tie.Start = search in let known : tie.After-made = search in
+    toZ w64 (ofZ w64 (known .made .given .0 .0 .length)) ≡ lengthAt (s .args .lines .now) (s .args .line - 1))
+length-read c =
+    let known : tie.After-made = search in
+    back (known .made .given .0 .0 .length) (c .struct-told2 .given .1 .1 .1 .0 .1) ∙ ap (λ (l : Line). l .length) (its-is known)
+
+sub-at : tie.Need-sub-at
+sub-at c = search needs
 
 mul-at : tie.Need-mul-at
 mul-at c = search needs
 
-add-same : tie.Need-add-same
-add-same c = search needs
+add-line-of : tie.Need-add-line-of
+add-line-of c = search needs
 
-mul-same : tie.Need-mul-same
-mul-same c = search needs
+mul-line-of : tie.Need-mul-line-of
+mul-line-of c = search needs
 
-shared-slice-copy-out-same : tie.Need-shared-slice-copy-out-same
-shared-slice-copy-out-same c = search needs
+sub-line-of : tie.Need-sub-line-of
+sub-line-of c = search needs
+
+part-line-of-start : tie.Need-part-line-of-start
+part-line-of-start c = search needs
+
+part-line-of-end : tie.Need-part-line-of-end
+part-line-of-end c = search needs
+
+signed-count-requires : tie.Need-signed-count-requires
+signed-count-requires c κs = search needs
+
+line-of-requires : tie.Need-line-of-requires
+line-of-requires c κs = simp (length-take, length-drop) (omega arith)
+
+enum-known-made : tie.Need-enum-known-made
+enum-known-made c = search needs
+
+enum-told : tie.Need-enum-told
+enum-told c = search needs
+
+refuse-requires : tie.Need-refuse-requires
+refuse-requires c κs = search needs
+
+returns : tie.Need-returns
+returns c =
+    let m = line-made (c .before .before .before) in
+    let g = c .before .enum-told .given .1 in
+    let z : _≡_ {A = ℕ} 0 1 = cc in
+    absurd (omega arith)
 
 same-requires : tie.Need-same-requires
 same-requires c κs = search needs
 
-returns : tie.Need-returns
+returns-2 : tie.Need-returns-2
 unfolding lineRate
-returns c = let s = c .before .before .before in rw (withdrawn-read (c .before) ∙ c .if1 .taken)
+returns-2 c = rw (withdrawn-read (c .before) ∙ c .if1 .taken)
 
 correction-of-requires : tie.Need-correction-of-requires
-correction-of-requires c κs = search needs
-
-add-per-km : tie.Need-add-per-km
-add-per-km c = search needs
-
-mul-per-km : tie.Need-mul-per-km
-mul-per-km c = search needs
-
-shared-slice-copy-out-per-km : tie.Need-shared-slice-copy-out-per-km
-shared-slice-copy-out-per-km c = search needs
+correction-of-requires c κs =
+    let s : tie.Start = search in
+    let known : tie.After-made = search in
+    let g = s .pre .1 .0 in
+    (subst (OfBook (s .args .b)) (sym (its-is known)) (record { from = g .from; to = g .to; difference = g .difference }), s .pre .1 .1)
 
 per-km-requires : tie.Need-per-km-requires
 per-km-requires c κs =
     let s : tie.Start = search in
-    let k = c .before .correction-of in (rw (back (k .result) (k .ok)) (k .ensures .1), rw (length-read s) (omega (arith, s .pre .0 .good .long .high)))
+    let k = c .before .correction-of in
+    (rw (back (k .result) (k .ok)) (k .ensures .1), rw (length-read c) (omega (arith, s .pre .1 .0 .long .high)))
 
-returns-2 : tie.Need-returns-2
-unfolding lineRate
-returns-2 c =
+returns-3 : tie.Need-returns-3
+unfolding lineRate correctionAt
+returns-3 c =
     let after-same : tie.After-same = search in
     let s : tie.Start = search in
+    let known : tie.After-made = search in
     let k = c .before .before .correction-of in
     let e = withdrawn-read after-same ∙ c .before .before .before .if1 .left in
-    let x : toZ w64 (ofZ w64 (k .result)) ≡ correctionAt (s .args .heights .now) (s .args .lines .now) (s .args .line - 1) = back (k .result) (k .ok) ∙ k .ensures .0 in
-    rw (e, c .per-km .ensures, length-read s, x)
+    let x : toZ w64 (ofZ w64 (k .result)) ≡ correctionAt (s .args .heights .now) (s .args .lines .now) (s .args .line - 1)
+    = back (k .result) (k .ok) ∙ k .ensures .0 ∙ ap (correctionOf (s .args .heights .now)) (its-is known) in
+    rw (e, c .per-km .ensures, length-read (c .before), x)
 
 pub line-rate-spec : {M : Type 1} → statement M
 line-rate-spec =
     tie.close
     (tie.spec
-    sub-i
+    sub-at
     mul-at
-    add-same
-    mul-same
-    shared-slice-copy-out-same
-    same-requires
+    add-line-of
+    mul-line-of
+    sub-line-of
+    part-line-of-start
+    part-line-of-end
+    signed-count-requires
+    line-of-requires
+    enum-known-made
+    enum-told
+    refuse-requires
     returns
+    same-requires
+    returns-2
     correction-of-requires
-    add-per-km
-    mul-per-km
-    shared-slice-copy-out-per-km
     per-km-requires
-    returns-2)
+    returns-3)

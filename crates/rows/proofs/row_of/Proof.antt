@@ -4,7 +4,7 @@ use mathlib.Core.Path.{_∙_}
 use lib.IntN.{natAbs}
 use lib.ListN.{length-take}
 use Rattle.laws.proofs.Signed.{back, stored}
-use Rattle.rows.specs.Sums.{steepest}
+use Rattle.book.specs.Limits.{mostDifference}
 use Rattle.rows.proofs.Totals.{rise-size, row-made}
 use borrow.Author.Needs.{needs}
 use Rattle.rows.proofs.row_of.Statement.{statement}
@@ -37,7 +37,7 @@ add-requires : tie.Need-add-requires
 add-requires c κs =
     let entry : tie.Start = search in
     let p = entry .pre .0 in
-    let s : natAbs (c .before .half-rise .result) ≤ steepest = rw (c .before .half-rise .ensures) (rise-size _ _ (p .gentle) (p .closing)) in
+    let s : natAbs (c .before .half-rise .result) ≤ mostDifference = rw (c .before .half-rise .ensures) (rise-size _ _ (p .gentle) (p .closing)) in
     rw (back _ (c .before .half-rise .ok), back _ (c .way-rise .ok)) (omega (arith, c .way-rise .ensures .1, p .coded .few))
 
 verdict-requires : tie.Need-verdict-requires

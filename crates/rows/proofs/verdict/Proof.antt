@@ -2,7 +2,8 @@ use Prim.Native.Nat.{_*_, _≤_}
 use native.Mathlib.Nat.{mul-le-mul, le-of-lt}
 use native.Mathlib.Omega.{arith}
 use mathlib.Core.Path.{sym, _∙_}
-use Rattle.rows.specs.Sums.{loosest, squareLimit}
+use Rattle.book.specs.Limits.{mostTolerance}
+use Rattle.rows.specs.Sums.{squareLimit}
 use Rattle.rows.proofs.Totals.{allow, verdict-big, verdict-within, verdict-over}
 use borrow.Author.Needs.{needs}
 use Rattle.rows.proofs.verdict.Statement.{statement}
@@ -18,7 +19,7 @@ mul-if2 : tie.Need-mul-if2
 mul-if2 c = let a = c .before .magnitude .result in let q : a * a ≤ squareLimit * squareLimit = mul-le-mul (le-of-lt (c .if1 .left)) (le-of-lt (c .if1 .left)) in omega arith
 
 mul-if2-2 : tie.Need-mul-if2-2
-mul-if2-2 c = let s = c .before .before in let q : s .args .t * s .args .t ≤ loosest * loosest = mul-le-mul (s .pre .0) (s .pre .0) in omega arith
+mul-if2-2 c = let s = c .before .before in let q : s .args .t * s .args .t ≤ mostTolerance * mostTolerance = mul-le-mul (s .pre .0) (s .pre .0) in omega arith
 
 mul-if2-3 : tie.Need-mul-if2-3
 mul-if2-3 c = let s = c .before .before in omega (arith, allow (s .args .t) (s .args .metres) (s .pre .0) (s .pre .1))

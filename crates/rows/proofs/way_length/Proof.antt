@@ -2,14 +2,14 @@ use Prim.Native.Nat.{_+_, _*_, _≤_, _-_, _/_}
 use native.Mathlib.Omega.{arith}
 use mathlib.Core.Path.{_≡_}
 use lib.ListN.{take, drop, getD}
-use Rattle.chains.specs.Chains.{longest}
+use Rattle.book.specs.Limits.{mostLength}
 use Rattle.rows.specs.Sums.{lengthOf}
 use Rattle.rows.proofs.Totals.{length-next, length-end}
 use Rattle.rows.proofs.way_length.Statement.{statement}
 use Rattle.rows.proofs.way_length.Tie as tie
 
 abbrev Inv-loop : tie.InvT-loop
-Inv-loop lines long out a sum₀ j₀ sum j = (j ≤ a) × (sum + lengthOf long (drop j (take a out)) ≡ lengthOf long (take a out)) × (sum ≤ j * longest)
+Inv-loop lines long out a sum₀ j₀ sum j = (j ≤ a) × (sum + lengthOf long (drop j (take a out)) ≡ lengthOf long (take a out)) × (sum ≤ j * mostLength)
 
 abbrev μ-loop : tie.MeasureT-loop
 μ-loop lines long out a sum₀ j₀ sum j = a - j

@@ -1,4 +1,5 @@
 use lib.IntN.{+ℤ-idl, natAbs, _+ℤ_}
+use Rattle.book.specs.Limits.{mostDifference}
 use Rattle.rows.proofs.Totals.{rise-size, rise-next, rise-end}
 use Prim.Native.Nat.{_*_, _≤_, _-_}
 use native.Mathlib.Omega.{arith}
@@ -8,12 +9,12 @@ use mir.Syntax.{w64}
 use mir.Val.{toZ}
 use Rattle.laws.proofs.Signed.{back, stored}
 use Rattle.laws.proofs.Size.{size-add}
-use Rattle.rows.specs.Sums.{riseOf, steepest}
+use Rattle.rows.specs.Sums.{riseOf}
 use Rattle.rows.proofs.way_rise.Statement.{statement}
 use Rattle.rows.proofs.way_rise.Tie as tie
 
 abbrev Inv-loop : tie.InvT-loop
-Inv-loop lines out a sum₀ j₀ sum j = (j ≤ a) × (toZ w64 sum +ℤ riseOf lines (drop j (take a out)) ≡ riseOf lines (take a out)) × (natAbs (toZ w64 sum) ≤ j * steepest)
+Inv-loop lines out a sum₀ j₀ sum j = (j ≤ a) × (toZ w64 sum +ℤ riseOf lines (drop j (take a out)) ≡ riseOf lines (take a out)) × (natAbs (toZ w64 sum) ≤ j * mostDifference)
 
 abbrev μ-loop : tie.MeasureT-loop
 μ-loop lines out a sum₀ j₀ sum j = a - j
@@ -38,7 +39,7 @@ add-requires : tie.Need-add-requires Inv-loop μ-loop
 add-requires c κs =
     let entry : tie.Start Inv-loop μ-loop = search in
     let p = entry .pre in
-    let s : natAbs (c .half-rise .result) ≤ steepest = rw (c .half-rise .ensures) (rise-size _ _ (p .0) (p .1 .ok (c .before .before .before .loop .j) (omega arith))) in
+    let s : natAbs (c .half-rise .result) ≤ mostDifference = rw (c .half-rise .ensures) (rise-size _ _ (p .0) (p .1 .ok (c .before .before .before .loop .j) (omega arith))) in
     rw (back _ (c .half-rise .ok)) (omega (arith, p .1 .few, c .before .before .before .loop .inv))
 
 add-j : tie.Need-add-j Inv-loop μ-loop
@@ -56,7 +57,7 @@ loop-again c =
     let p = entry .pre in
     let v = at-loop .loop .inv in
     let r = c .before .half-rise .result in
-    let s : natAbs r ≤ steepest = rw (c .before .half-rise .ensures) (rise-size _ _ (p .0) (p .1 .ok (at-loop .loop .j) (omega arith))) in
+    let s : natAbs r ≤ mostDifference = rw (c .before .half-rise .ensures) (rise-size _ _ (p .0) (p .1 .ok (at-loop .loop .j) (omega arith))) in
     let e = stored (c .add .result) (c .add .ok) (rw (back _ (c .before .half-rise .ok)) at (c .add .ensures)) in
     (omega arith, rw (e, c .before .half-rise .ensures) (rise-next _ _ _ (p .1 .places) (at-loop .loop .j) (toZ w64 (at-loop .loop .sum)) (omega arith) (v .1)), rw e (omega (arith, size-add (toZ w64 (at-loop .loop .sum)) r, v)))
 

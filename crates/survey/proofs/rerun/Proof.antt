@@ -46,7 +46,7 @@ tested c = c .test .ensures ∙ search needs
 -- the difference is inside its limit
 small : (c : tie.Else1) → natAbs (c .before .before .args .difference) ≤ mostDifference
 unfolding differenceOut
-small c = size-within 99999999 _ (sym (flag (c .before)) ∙ c .if1 .left)
+small c = size-within mostDifference _ (sym (flag (c .before)) ∙ c .if1 .left)
 
 rerun-good-requires : tie.Need-rerun-good-requires
 rerun-good-requires c κs =

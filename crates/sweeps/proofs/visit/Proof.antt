@@ -1,12 +1,17 @@
-use Rattle.laws.specs.Tests.{eqZ}
-use mathlib.Core.Path.{_≡_, sym, _∙_}
+use mathlib.Core.Path.{_≡_, sym, _∙_, ap}
+use mathlib.Core.Bool.{false}
 use Prim.Native.Nat.{suc}
 use native.Mathlib.Omega.{arith}
 use lib.ListN.{getD}
-use lib.IntN.{pos, _+ℤ_}
+use lib.IntN.{ℤ, pos, _+ℤ_}
 use mir.Syntax.{w64}
 use mir.Val.{toZ, ofZ}
+use Rattle.laws.specs.Tests.{eqZ}
 use Rattle.laws.proofs.Signed.{back, stored}
+use Rattle.book.specs.Limits.{mostHeight}
+use Rattle.book.specs.Height.{workHeightOut, workHeightOf}
+use Rattle.book.specs.declared.height.Height.{Height}
+use Rattle.book.proofs.Made.{work-height-made, no-work-height}
 use Rattle.sights.specs.Table.{rows}
 use Rattle.fields.proofs.Readback.{read}
 use Rattle.sweeps.proofs.Turns.{working-set, visit-outside, visit-still, visit-moved}
@@ -15,7 +20,7 @@ use Rattle.sweeps.proofs.visit.Statement.{statement}
 use Rattle.sweeps.proofs.visit.Tie as tie
 
 height-read : (s : tie.Start) → toZ w64 (ofZ w64 (getD (s .args .h .now) (s .args .v) (pos 0))) ≡ getD (s .args .h .now) (s .args .v) (pos 0)
-height-read s = read (getD (s .args .h .now) (s .args .v) (pos 0)) 50000000000 (s .pre .1 .0 .inside (s .args .v)) (omega arith)
+height-read s = read (getD (s .args .h .now) (s .args .v) (pos 0)) mostHeight (s .pre .1 .0 .inside (s .args .v)) (omega arith)
 
 move-read : (c : tie.After-move-of) → toZ w64 (ofZ w64 (c .move-of .result)) ≡ c .move-of .result
 move-read c = back (c .move-of .result) (c .move-of .ok)
@@ -25,6 +30,25 @@ start-of c = search
 
 sum-read : (c : tie.After-add) → toZ w64 (ofZ w64 (c .add .result)) ≡ getD (start-of c .args .h .now) (start-of c .args .v) (pos 0) +ℤ c .before .before .move-of .result
 sum-read c = stored (c .add .result) (c .add .ok) (c .add .ensures ∙ rw (height-read (start-of c), move-read (c .before .before)))
+
+-- what the constructor answered of the sum
+made : (c : tie.After-in-work) → c .in-work .result ≡ workHeightOf (toZ w64 (ofZ w64 (c .before .add .result)))
+made c = c .in-work .ensures ∙ search needs
+
+-- the height that was made is the sum, and not outside
+abbrev height-of : tie.After-struct-told → ℤ
+height-of c = toZ w64 (ofZ w64 (c .before .before .made .given .0 .0 .micrometres))
+
+height-is : (c : tie.After-struct-told) → (let a : tie.After-add = search in height-of c ≡ toZ w64 (ofZ w64 (a .add .result)))
+height-is c =
+    let known : tie.After-made = search in
+    back (known .made .given .0 .0 .micrometres) (c .struct-told .given .0 .1)
+    ∙ ap (λ (h : Height). h .micrometres) (work-height-made _ _ (made (known .before .before)) _ (known .made .given .1) .1)
+
+height-inside : (c : tie.After-struct-told) → workHeightOut (height-of c) ≡ false
+height-inside c =
+    let known : tie.After-made = search in
+    rw (height-is c) (work-height-made _ _ (made (known .before .before)) _ (known .made .given .1) .0)
 
 still-read : (c : tie.After-same) → (let after-move-of : tie.After-move-of = search in eqZ (after-move-of .move-of .result) (pos 0) ≡ c .same .result)
 still-read c =
@@ -47,20 +71,30 @@ add-requires c κs =
     let m = c .before .move-of .ensures .1 in
     rw (height-read s, move-read (c .before)) (omega arith)
 
-outside-work-requires : tie.Need-outside-work-requires
-outside-work-requires c κs = search needs
+in-work-requires : tie.Need-in-work-requires
+in-work-requires c κs = search needs
 
-add-t17 : tie.Need-add-t17
-add-t17 c = search needs
+enum-known-made : tie.Need-enum-known-made
+enum-known-made c = search needs
+
+enum-told : tie.Need-enum-told
+enum-told c = search needs
+
+add-t19 : tie.Need-add-t19
+add-t19 c = search needs
 
 same-length : tie.Need-same-length
 same-length c = search needs
 
 returns : tie.Need-returns
 returns c =
-    let a = c .before .before in
+    let a : tie.After-add = search in
     let s = start-of a in
-    (visit-outside (rows (s .args .first .now) (s .args .other .now) (s .args .rise .now) (s .args .weight .now) (suc (s .args .v))) (s .args .h .now) (s .args .v) (a .before .before .move-of .result) (toZ w64 (ofZ w64 (a .add .result))) (a .before .before .move-of .ensures .0) (sum-read (a)) (sym (c .before .outside-work .ensures) ∙ c .if1 .taken), s .pre .1 .0)
+    let out = no-work-height _ _ (made (c .before .before)) _ (c .enum-told .given .1) in (
+      visit-outside (rows (s .args .first .now) (s .args .other .now) (s .args .rise .now) (s .args .weight .now) (suc (s .args .v)))
+          (s .args .h .now) (s .args .v) (a .before .before .move-of .result) (toZ w64 (ofZ w64 (a .add .result))) (a .before .before .move-of .ensures .0) (sum-read a) out,
+      s .pre .1 .0,
+    )
 
 mul-z : tie.Need-mul-z
 mul-z c = search needs
@@ -76,20 +110,28 @@ same-length-2 c = search needs
 
 returns-2 : tie.Need-returns-2
 returns-2 c =
+    let told : tie.After-struct-told = search in
     let a : tie.After-add = search in
-    let s = start-of a in
-    let o = sym (c .before .before .before .outside-work .ensures) ∙ c .before .before .if1 .left in
-    (visit-still (rows (s .args .first .now) (s .args .other .now) (s .args .rise .now) (s .args .weight .now) (suc (s .args .v))) (s .args .h .now) (s .args .v) (a .before .before .move-of .result) (toZ w64 (ofZ w64 (a .add .result))) (a .before .before .move-of .ensures .0) (sum-read a) o (still-read (c .before) ∙ c .if2 .taken), working-set (s .args .h .now) (s .args .b) (s .args .v) (toZ w64 (ofZ w64 (a .add .result))) (s .pre .1 .0) o)
+    let s = start-of a in (
+      visit-still (rows (s .args .first .now) (s .args .other .now) (s .args .rise .now) (s .args .weight .now) (suc (s .args .v)))
+          (s .args .h .now) (s .args .v) (a .before .before .move-of .result) (height-of told) (a .before .before .move-of .ensures .0) (height-is told ∙ sum-read a)
+          (height-inside told) (still-read (c .before) ∙ c .if1 .taken),
+      working-set (s .args .h .now) (s .args .b) (s .args .v) (height-of told) (s .pre .1 .0) (height-inside told),
+    )
 
 same-length-3 : tie.Need-same-length-3
 same-length-3 c = search needs
 
 returns-3 : tie.Need-returns-3
 returns-3 c =
+    let told : tie.After-struct-told = search in
     let a : tie.After-add = search in
-    let s = start-of a in
-    let o = sym (c .before .before .before .outside-work .ensures) ∙ c .before .before .if1 .left in
-    (visit-moved (rows (s .args .first .now) (s .args .other .now) (s .args .rise .now) (s .args .weight .now) (suc (s .args .v))) (s .args .h .now) (s .args .v) (a .before .before .move-of .result) (toZ w64 (ofZ w64 (a .add .result))) (a .before .before .move-of .ensures .0) (sum-read a) o (still-read (c .before) ∙ c .if2 .left), working-set (s .args .h .now) (s .args .b) (s .args .v) (toZ w64 (ofZ w64 (a .add .result))) (s .pre .1 .0) o)
+    let s = start-of a in (
+      visit-moved (rows (s .args .first .now) (s .args .other .now) (s .args .rise .now) (s .args .weight .now) (suc (s .args .v)))
+          (s .args .h .now) (s .args .v) (a .before .before .move-of .result) (height-of told) (a .before .before .move-of .ensures .0) (height-is told ∙ sum-read a)
+          (height-inside told) (still-read (c .before) ∙ c .if1 .left),
+      working-set (s .args .h .now) (s .args .b) (s .args .v) (height-of told) (s .pre .1 .0) (height-inside told),
+    )
 
 pub visit-spec : {M : Type 1} → statement M
 visit-spec =
@@ -99,8 +141,10 @@ visit-spec =
     mul-add
     slice-copy-out-add
     add-requires
-    outside-work-requires
-    add-t17
+    in-work-requires
+    enum-known-made
+    enum-told
+    add-t19
     same-length
     returns
     mul-z

@@ -27,9 +27,12 @@ flag c =
     let c₁ = c₂ .before in
     rw (c₁ .outside .ensures, c₂ .outside2 .ensures, c₃ .outside-count .ensures, c .outside-count2 .ensures) (search needs)
 
+refuse-requires : tie.Need-refuse-requires
+refuse-requires c κs = search needs
+
 returns : tie.Need-returns
 unfolding bookOf
-returns c = rw (← (flag (c .before)), c .if1 .taken)
+returns c = rw (← (flag (c .before .before)), c .before .if1 .taken) (c .refuse .ensures)
 
 magnitude-requires : tie.Need-magnitude-requires
 magnitude-requires c κs = search needs
@@ -51,6 +54,7 @@ new-spec =
     outside-requires-2
     outside-count-requires
     outside-count-requires-2
+    refuse-requires
     returns
     magnitude-requires
     magnitude-requires-2

@@ -54,7 +54,7 @@ returns c =
     let in-loop : tie.In-loop Inv-loop μ-loop = search in
     let i = in-loop .before .loop .i in
     let e = simp add-sub-cancel-left at (c .before .before .line-of .ensures) in
-    scan-stop _ _ i (in-loop .loop-test .taken) (faulty-entry _ _ i _ e _ (c .enum-told .given .1)) (in-loop .before .loop .inv) ∙ search needs
+    scan-stop _ _ i (in-loop .loop-test .taken) (faulty-entry _ _ i _ e _ _ (c .enum-told .given .1)) (in-loop .before .loop .inv) ∙ search needs
 
 enum-told-2 : tie.Need-enum-told-2 Inv-loop μ-loop
 enum-told-2 c = omega arith

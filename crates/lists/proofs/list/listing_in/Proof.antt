@@ -4,7 +4,8 @@ use native.Mathlib.Omega.{arith}
 use lib.IntN.{pos, natAbs}
 use Rattle.laws.specs.Tests.{outZ}
 use Rattle.laws.proofs.Signed.{stored}
-use Rattle.laws.proofs.Size.{Between, between}
+use Rattle.laws.specs.Range.{Between}
+use Rattle.laws.proofs.Size.{between}
 use Rattle.survey.proofs.Working.{good-of, chained-of, soil-of, seats-of, nodes-of, rooms-of, tables-of, few-count}
 use Rattle.lists.proofs.Lists.{eight-is, loop-there, loop-listed}
 use borrow.Author.Needs.{needs}

@@ -6,7 +6,8 @@ use lib.IntN.{pos, natAbs}
 use Rattle.laws.specs.Tests.{outZ, eqZ}
 use Rattle.laws.proofs.Signed.{stored}
 use Rattle.laws.proofs.Tests.{or-here, or-next}
-use Rattle.laws.proofs.Size.{Between, between}
+use Rattle.laws.specs.Range.{Between}
+use Rattle.laws.proofs.Size.{between}
 use Rattle.book.specs.Line.{lineCount}
 use Rattle.survey.specs.Correction.{noLine}
 use borrow.Author.Needs.{needs}

@@ -4,12 +4,13 @@ use borrow.Author.Needs.{needs}
 use Rattle.book.proofs.height.Height.held.Statement.{statement}
 use Rattle.book.proofs.height.Height.held.Tie as tie
 
-outside-held-requires : tie.Need-outside-held-requires
-outside-held-requires c κs = search needs
+outside-requires : tie.Need-outside-requires
+outside-requires c κs = search needs
 
 -- the flag that the code has is the definition's test
-flag : (c : tie.After-outside-held) → c .outside-held .result ≡ heldHeightOut (c .before .args .x)
-flag c = c .outside-held .ensures ∙ search needs
+flag : (c : tie.After-outside) → c .outside .result ≡ heldHeightOut (c .before .args .x)
+unfolding heldHeightOut
+flag c = c .outside .ensures ∙ search needs
 
 returns : tie.Need-returns
 unfolding heldHeightOf
@@ -20,4 +21,4 @@ unfolding heldHeightOf
 returns-2 c = rw (← (flag (c .before)), c .if1 .left) (search needs)
 
 pub held-spec : {M : Type 1} → statement M
-held-spec = tie.close (tie.spec outside-held-requires returns returns-2)
+held-spec = tie.close (tie.spec outside-requires returns returns-2)

@@ -4,12 +4,13 @@ use borrow.Author.Needs.{needs}
 use Rattle.book.proofs.height.Height.in_work.Statement.{statement}
 use Rattle.book.proofs.height.Height.in_work.Tie as tie
 
-outside-work-requires : tie.Need-outside-work-requires
-outside-work-requires c κs = search needs
+outside-requires : tie.Need-outside-requires
+outside-requires c κs = search needs
 
 -- the flag that the code has is the definition's test
-flag : (c : tie.After-outside-work) → c .outside-work .result ≡ workHeightOut (c .before .args .x)
-flag c = c .outside-work .ensures ∙ search needs
+flag : (c : tie.After-outside) → c .outside .result ≡ workHeightOut (c .before .args .x)
+unfolding workHeightOut
+flag c = c .outside .ensures ∙ search needs
 
 returns : tie.Need-returns
 unfolding workHeightOf
@@ -20,4 +21,4 @@ unfolding workHeightOf
 returns-2 c = rw (← (flag (c .before)), c .if1 .left) (search needs)
 
 pub in-work-spec : {M : Type 1} → statement M
-in-work-spec = tie.close (tie.spec outside-work-requires returns returns-2)
+in-work-spec = tie.close (tie.spec outside-requires returns returns-2)
