@@ -18,7 +18,7 @@ use Rattle.sweeps.specs.Squares.{moveMark, squares}
 use Rattle.start.specs.Start.{heldHeight, isHeld, rootedBy, unheldPiece, startOf, startHeights}
 use Rattle.adjust.specs.Adjusted.{done, refused, ended, unlessUnheld, adjustment}
 use Rattle.fields.proofs.Fair.{fair-lines}
-use Rattle.sweeps.proofs.Keeping.{KeptTo}
+use Rattle.sweeps.specs.Kept.{KeptTo}
 use Rattle.sweeps.proofs.Best.{fairs-sound, Sound, settled-not-worse, settled-keeps-held, settled-best}
 use Rattle.start.proofs.Beginning.{start-length, start-height}
 

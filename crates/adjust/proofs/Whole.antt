@@ -1,17 +1,14 @@
 -- The whole adjustment: start, pieces without a held mark, sweeps and answer, joined.
 -- Assumes nothing.
-use Prim.Native.Nat.{ℕ, zero, suc, _*_, _-_, _≤_, _<_}
+use Prim.Native.Nat.{ℕ, zero, suc, _-_, _≤_, _<_}
 use native.Mathlib.Omega.{arith}
 use mathlib.Core.Path.{_≡_, refl, sym, _∙_, ap, subst}
-use mathlib.Core.Bool.{Bool, true, false, not}
+use mathlib.Core.Bool.{Bool, false}
 use mathlib.Core.List.{List}
-use mathlib.Core.Option.{some}
 use lib.ListN.{length, getD}
 use lib.Seq.{ext-getD}
-use lib.IntN.{ℤ, pos, natAbs, _-ℤ_}
-use borrow.Author.Tests.{not-false}
-use Rattle.laws.proofs.Scans.{none-bad}
-use Rattle.book.specs.Limits.{mostHeldHeight, mostDifference}
+use lib.IntN.{ℤ, pos}
+use Rattle.book.specs.Limits.{mostHeldHeight}
 use Rattle.network.specs.Standing.{standing}
 use Rattle.network.specs.Tree.{tree}
 use Rattle.network.proofs.Grown.{treeLine}
@@ -20,14 +17,15 @@ use Rattle.fields.specs.Heights.{Working}
 use Rattle.sights.specs.Sights.{Sight, sightsOf}
 use Rattle.sweeps.specs.Sweeps.{Swept, still, moved, visit, sweep, Settled, onward, settleFrom, maxSweeps, settle}
 use Rattle.sweeps.specs.Turns.{flags, endedAt}
-use Rattle.start.specs.Start.{heldHeight, isSome, isHeld, rootedBy, rootOf, unheldPiece, startOf, startHeights}
+use Rattle.start.specs.Start.{heldHeight, isSome, isHeld, rootedBy, unheldPiece, startOf, startHeights}
 use Rattle.start.specs.Along.{Entered, rooting, Placing, Given, Known, Lent, Raised}
 use Rattle.adjust.specs.Adjusted.{Outcome, refused, ended, unlessUnheld, adjustment}
 use Rattle.adjust.specs.Answers.{answer, answerOf, endAnswer, answered, Answers}
 use Rattle.fields.proofs.Fair.{fair-lines}
 use Rattle.sweeps.proofs.Best.{Sound, fairs-sound}
 use Rattle.start.proofs.Joining.{named, rooting-is}
-use Rattle.start.proofs.Starting.{is-some, start-working, apart-most, optional-some}
+use Rattle.start.proofs.Starting.{is-some}
+use Rattle.start.proofs.Inside.{start-working}
 use Rattle.start.proofs.Beginning.{start-length, start-height}
 use Rattle.adjust.specs.declared.Adjusted.{Adjusted}
 use Rattle.sweeps.specs.declared.End.{End}
@@ -127,21 +125,8 @@ module _ (lines held : List ℤ) (order came : List ℕ) (b n h : ℕ) (lent : L
           let e : suc i - 1 ≡ i = omega arith in
           each i k ∙ sym (start-height b held lines (suc i) (omega arith) k) ∙ ap (λ (x : ℕ). getD (startHeights b held lines) x (pos 0)) e)
 
-      all-held : (v : ℕ) → v < b → isSome (rootOf (rootedBy (tree b (standing lines))) (heldHeight held) b (suc v)) ≡ true
-      unfolding unheldPiece
-      all-held v l = not-false (isSome (rootOf (rootedBy (tree b (standing lines))) (heldHeight held) b (suc v))) (none-bad (λ i. not (isSome (rootOf (rootedBy (tree b (standing lines))) (heldHeight held) b (suc i)))) b (sym is-unheld ∙ none-unheld) v l)
-
-      small : (m : ℕ) (y : ℤ) → 0 < m → m ≤ b → heldHeight held m ≡ some y → natAbs y ≤ mostHeldHeight
-      small m y l u e =
-          let k : suc (m - 1) ≡ m = omega arith in
-          let w : getD own (m - 1) (pos 0) ≡ y = optional-some (getD flagged (m - 1) false) (getD own (m - 1) (pos 0)) y (g .is (m - 1) (omega arith) ∙ ap (heldHeight held) k ∙ e) in
-          rw (← w) (g .size (m - 1))
-
-      near : (m q : ℕ) → natAbs (rootedBy (tree b (standing lines)) m .over -ℤ rootedBy (tree b (standing lines)) q .over) ≤ b * mostDifference
-      near m q = rw (← at-tree m, ← at-tree q) (apart-most lines order came b n (lent .linesGood) (lent .growth .lines) b (omega arith) m q)
-
       pub working : Working z b
-      working = start-working b (lent .few) (rootedBy (tree b (standing lines))) (heldHeight held) small near z long each all-held
+      working = subst (λ (x : List ℤ). Working x b) (sym begun) (start-working b n h held lines (lent .few) (lent .linesGood) (lent .heldGood) (sym is-unheld ∙ none-unheld))
 
       -- the sweeps, from the start
       pub settled-answer : (a : Adjusted) (e : End) (hs : List ℤ) → a ≡ endAnswer e → endedAt e hs ≡ settle (sightsOf (standing lines)) (flags flagged) b z → Answers a hs (adjustment b held lines)

@@ -17,9 +17,12 @@ use Rattle.network.specs.Standing.{standing}
 use Rattle.network.specs.Sound.{Sound}
 use Rattle.network.specs.Tree.{tree}
 use Rattle.survey.proofs.Sounding.{good-sound}
-use Rattle.start.specs.Start.{heldHeight, isSome, isHeld, rootedBy, rootHeight, rootOf, unheldPiece, startOf}
+use Rattle.fields.specs.Heights.{Working}
+use Rattle.fields.proofs.Stands.{lines-of}
+use Rattle.start.specs.Start.{heldHeight, isSome, isHeld, rootedBy, rootHeight, rootOf, unheldPiece, startOf, startHeights}
 use Rattle.start.proofs.Beginning.{start-length, start-height}
 use Rattle.start.proofs.Pieces.{joined-one-root, piece-is-held}
+use Rattle.start.proofs.Inside.{start-working}
 use Rattle.start.proofs.Following.{followed, follows-tree-line, lowest-held-has-its-own}
 use Rattle.demands.specs.Heights.{unheldMark, PieceHeld, UnheldAt, StartIs}
 
@@ -46,6 +49,14 @@ module _ (b t : ℤ) (held lines : List ℤ) (k : Book) (passes : testOf b t hel
     held-set-to-its-own = λ m z low high own. start-height (k .marks) held lines m low high ∙ rw own;
     free-stays = λ m low high free. start-height (k .marks) held lines m low high ∙ rw free;
   }
+
+  -- 13 is a matter of the sweeps alone: a start that is not refused by 11 has every height inside its limit
+  pub start-is-never-outside : unheldMark (k .marks) held lines ≡ 0 → Working (startHeights (k .marks) held lines) (k .marks)
+  unfolding unheldMark
+  start-is-never-outside =
+      let g = tested-good b t held lines k passes in
+      start-working (k .marks) (k .lines) (k .held) held lines (g .few-marks) (lines-of b t held lines k passes)
+      (record { few = g .few-held; whole = g .whole-held; each = g .each-held })
 
   -- 11 is not given exactly if each mark's piece has a held mark
   pub each-piece-held-exactly-if : (unheldMark (k .marks) held lines ≡ 0) ↔ ((m : ℕ) → 0 < m → m ≤ k .marks → PieceHeld (k .marks) held lines m)

@@ -19,7 +19,7 @@ use Rattle.fields.proofs.Setting.{set-all}
 
 module _ (held : List ℤ) where
   -- one entry more in front
-  held-step : (i : ℕ) → i * 2 + 2 ≤ length held → (m : ℕ) → heldFrom held i m ≡ cond (eqb (natAbs (markAt held i)) m) (some (heightAt held i)) (heldFrom held (i + 1) m)
+  pub held-step : (i : ℕ) → i * 2 + 2 ≤ length held → (m : ℕ) → heldFrom held i m ≡ cond (eqb (natAbs (markAt held i)) m) (some (heightAt held i)) (heldFrom held (i + 1) m)
   unfolding heldHeight
   held-step i h m =
       let e₀ : 2 * i ≡ i * 2 + 0 = omega arith in

@@ -5,4 +5,6 @@ pub mod Beginning
 pub mod Joining
 pub mod Starting
 pub mod Pieces
+pub mod Reach
+pub mod Inside
 pub mod Following

@@ -1,6 +1,7 @@
 // The heights before the first sweep: document 01, "Adjustment", "Start". The tree comes as the marks in the order in which they enter, and
 // the number of the line by which each came in, 0 for a root.
 ghost use mathlib.Core.Path.{_≡_};
+ghost use mathlib.Core.Bool.{cond};
 ghost use Prim.Native.Nat.{_+_, _≤_, _<_};
 ghost use lib.ListN.{length};
 ghost use Rattle.book.specs.Limits.{mostMarks, mostHeldHeight};
@@ -186,6 +187,13 @@ fn first_unheld(root: &[usize], has: &[bool], b: usize) -> usize
     0
 }
 
+// "then every held mark is set to its own"
+fn reset(held: bool, own: i64, followed: i64) -> i64
+    ensures { λ r. ⌜ r ≡ cond held own followed ⌝ }
+{
+    if held { own } else { followed }
+}
+
 // The height at the start of the mark at place v.
 fn start_at(
     flags: &[bool],
@@ -199,10 +207,8 @@ fn start_at(
     requires { ⌜ v < b ⌝ ∗ ⌜ Known (now flags) (now own) (now root) (now over) b ⌝ ∗ ⌜ Based (now base) b ⌝ }
     ensures { λ r. ⌜ r ≡ startAt (now (flags .entry)) (now (own .entry)) (now (root .entry)) (now (over .entry)) (now (base .entry)) v ⌝ }
 {
-    if flags[v] {
-        return own[v];
-    }
-    signed::add(base[root[v] - 1], over[v])
+    let followed = signed::add(base[root[v] - 1], over[v]);
+    reset(flags[v], own[v], followed)
 }
 
 // The heights of b marks at the start.

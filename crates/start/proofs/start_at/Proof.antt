@@ -1,40 +1,26 @@
-use mathlib.Core.Path.{_≡_, sym, _∙_}
-use Prim.Native.Nat.{ℕ, _-_}
+use mathlib.Core.Path.{_≡_, _∙_}
+use Prim.Native.Nat.{ℕ, _*_, _-_}
 use native.Mathlib.Omega.{arith}
 use lib.ListN.{getD}
-use lib.IntN.{pos}
+use lib.IntN.{pos, _+ℤ_}
 use mir.Syntax.{w64}
 use mir.Val.{toZ, ofZ}
 use Rattle.laws.proofs.Signed.{stored}
-use Rattle.start.specs.Along.{startAt}
+use Rattle.book.specs.Limits.{mostMarks, mostDifference, mostHeldHeight}
+use Rattle.start.specs.Along.{mostRoot, startAt}
 use Rattle.fields.proofs.Readback.{read}
 use borrow.Author.Needs.{needs}
 use Rattle.start.proofs.start_at.Statement.{statement}
 use Rattle.start.proofs.start_at.Tie as tie
 
 own-read : (s : tie.Start) → toZ w64 (ofZ w64 (getD (s .args .own .now) (s .args .v) (pos 0))) ≡ getD (s .args .own .now) (s .args .v) (pos 0)
-own-read s = read (getD (s .args .own .now) (s .args .v) (pos 0)) 10000000000 (s .pre .1 .0 .small (s .args .v)) (omega arith)
+own-read s = read (getD (s .args .own .now) (s .args .v) (pos 0)) mostHeldHeight (s .pre .1 .0 .small (s .args .v)) (omega arith)
 
 over-read : (s : tie.Start) → toZ w64 (ofZ w64 (getD (s .args .over .now) (s .args .v) (pos 0))) ≡ getD (s .args .over .now) (s .args .v) (pos 0)
-over-read s = read (getD (s .args .over .now) (s .args .v) (pos 0)) 25600000000 (omega (arith, s .pre .1 .0 .spotted .size (s .args .v), s .pre .1 .0 .few)) (omega arith)
+over-read s = read (getD (s .args .over .now) (s .args .v) (pos 0)) (mostMarks * mostDifference) (omega (arith, s .pre .1 .0 .spotted .size (s .args .v), s .pre .1 .0 .few)) (omega arith)
 
 base-read : (s : tie.Start) (i : ℕ) → toZ w64 (ofZ w64 (getD (s .args .base .now) i (pos 0))) ≡ getD (s .args .base .now) i (pos 0)
-base-read s i = read (getD (s .args .base .now) i (pos 0)) 35600000000 (s .pre .1 .1 .size i) (omega arith)
-
-shared-slice-read-if1 : tie.Need-shared-slice-read-if1
-shared-slice-read-if1 c = search needs
-
-mul-result : tie.Need-mul-result
-mul-result c = search needs
-
-shared-slice-copy-out-result : tie.Need-shared-slice-copy-out-result
-shared-slice-copy-out-result c = search needs
-
-returns : tie.Need-returns
-unfolding startAt
-returns c =
-    let s : tie.Start = search in
-    own-read s ∙ sym (rw (c .before .if1 .taken))
+base-read s i = read (getD (s .args .base .now) i (pos 0)) mostRoot (s .pre .1 .1 .size i) (omega arith)
 
 mul-add : tie.Need-mul-add
 mul-add c = search needs
@@ -68,21 +54,32 @@ add-requires c κs =
     let s : tie.Start = search in
     let r = getD (s .args .root .now) (s .args .v) 0 - 1 in rw (base-read s r, over-read s) (omega (arith, s .pre .1 .1 .size r, s .pre .1 .0 .spotted .size (s .args .v), s .pre .1 .0 .few))
 
-returns-2 : tie.Need-returns-2
+shared-slice-read-reset : tie.Need-shared-slice-read-reset
+shared-slice-read-reset c = search needs
+
+mul-reset : tie.Need-mul-reset
+mul-reset c = search needs
+
+shared-slice-copy-out-reset : tie.Need-shared-slice-copy-out-reset
+shared-slice-copy-out-reset c = search needs
+
+reset-requires : tie.Need-reset-requires
+reset-requires c κs = search needs
+
+returns : tie.Need-returns
 unfolding startAt
-returns-2 c =
-    let else1 : tie.Else1 = search in
+returns c =
     let s : tie.Start = search in
-    let r = getD (s .args .root .now) (s .args .v) 0 - 1 in rw (else1 .if1 .left) (stored (c .add .result) (c .add .ok) (c .add .ensures ∙ rw (base-read s r, over-read s)))
+    let sum : tie.After-add = search in
+    let r = getD (s .args .root .now) (s .args .v) 0 - 1 in
+    let followed : toZ w64 (ofZ w64 (sum .add .result)) ≡ getD (s .args .base .now) r (pos 0) +ℤ getD (s .args .over .now) (s .args .v) (pos 0)
+    = stored (sum .add .result) (sum .add .ok) (sum .add .ensures ∙ rw (base-read s r, over-read s)) in
+    stored (c .reset .result) (c .reset .ok) (c .reset .ensures ∙ rw (own-read s, followed))
 
 pub start-at-spec : {M : Type 1} → statement M
 start-at-spec =
     tie.close
     (tie.spec
-    shared-slice-read-if1
-    mul-result
-    shared-slice-copy-out-result
-    returns
     mul-add
     shared-slice-read-add
     sub-add
@@ -91,4 +88,8 @@ start-at-spec =
     mul-add-3
     shared-slice-copy-out-add-2
     add-requires
-    returns-2)
+    shared-slice-read-reset
+    mul-reset
+    shared-slice-copy-out-reset
+    reset-requires
+    returns)
