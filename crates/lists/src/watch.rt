@@ -41,19 +41,19 @@ pub fn not_checked_good(book: Book, lines: &[i64], out: &mut [i64]) -> Listed
     let mut seg = [0u64; 514];
     let mut order = [0u64; 257];
     let mut marked = [0u64; 1024];
-    let mut list = [0u64; 512];
+    let mut list = [0u64; Book::MAX_LINES];
     let count = unchecked::list_book(
         lines,
-        &mut tip[..],
+        &mut tip,
         &mut long[..],
         &mut head[..],
         &mut next[..],
         &mut far[..],
         &mut add[..],
-        &mut best[..],
+        &mut best,
         &mut seg[..],
         &mut order[..],
-        &mut marked[..],
+        &mut marked,
         &mut list[..],
         book.marks + 1,
     );

@@ -1,5 +1,6 @@
--- The ways of the tree as the arrays hold them: one line of a way, and where two ways meet. Assumes nothing.
-use Prim.Native.Nat.{ℕ, _-_, _%_, _<_}
+-- The ways of the tree as the arrays hold them: one line of a way, and where two ways meet.
+-- Document 01: "A mark's way to its root is followed line by line, and the distance falls at each step." Assumes nothing.
+use Prim.Native.Nat.{ℕ, _+_, _-_, _/_, _%_, _≤_, _<_}
 use native.Mathlib.Omega.{arith}
 use mathlib.Core.Path.{_≡_, refl, sym, _∙_, ap}
 use mathlib.Core.Logic.{_⊎_, inl, inr}
@@ -8,6 +9,7 @@ use mathlib.Core.List.{List, [], _∷_, List·Memᴰ, List·Memᴰ·head, List·
 use mathlib.Core.Option.{none, some}
 use lib.ListN.{getD}
 use lib.Dec.{eqb}
+use Rattle.book.specs.Limits.{leastLength}
 use Rattle.network.specs.Standing.{Line}
 use Rattle.network.specs.Sound as so
 use Rattle.network.specs.Tree.{Entry, Tree, distance, tree}
@@ -32,6 +34,10 @@ use Rattle.unchecked.specs.Ways.{IsMark, TreeHeld, lineIn, nearerMark}
 pub tree-held : {n q : ℕ} {lines : List Line} {tip long best order : List ℕ} → Listed lines n q tip long → Holding (tree (n - 1) lines) best order tip → TreeHeld n lines tip best
 tree-held li ho = record { rising = li .rising; sound = li .sound; tipOf = li .tipOf; keyed = ho .keyed }
 
+-- the distance in the key of mark m
+abbrev pub distanceAt : List ℕ → ℕ → ℕ
+distanceAt best m = getD best m 0 / halves
+
 -- the entry of a mark has the line by which it came in
 pub entry-came : (es : Tree) (m d : ℕ) → distance es m ≡ some d → (x : Entry) × List·Memᴰ x es × (x .mark ≡ m) × (x .by ≡ came es m)
 unfolding distance
@@ -52,7 +58,7 @@ module _ (n : ℕ) (lines : List Line) (tip best : List ℕ) (t : TreeHeld n lin
   book-sound = record {
     placed = placed n lines (t .sound);
     apart = λ l i. t .sound l i .apart;
-    atLeastTen = λ l i. t .sound l i .long;
+    long-enough = λ l i. t .sound l i .long;
     rising = t .rising;
   }
 
@@ -66,7 +72,8 @@ module _ (n : ℕ) (lines : List Line) (tip best : List ℕ) (t : TreeHeld n lin
 
   -- ---- one line of a way
 
-  -- the mark m came in by the line l from the mark u, which is nearer; its way is l and the way of u, and l is on the way of no mark that is nearer than m
+  -- the mark m came in by the line l from the mark u, which is nearer by at least the least length of a line; its way is l and the way of
+  -- u, and l is on the way of no mark that is nearer than m
   pub record Step (m : ℕ) : Type 0 where
     pub l : Line
     pub u : ℕ
@@ -74,7 +81,7 @@ module _ (n : ℕ) (lines : List Line) (tip best : List ℕ) (t : TreeHeld n lin
     pub small : l .number < numberLimit
     pub nearer : nearerMark tip best m ≡ u
     pub u-is : IsMark n u
-    pub falls : getD best u 0 < getD best m 0
+    pub falls : distanceAt best u + leastLength ≤ distanceAt best m
     pub way : (j : ℕ) → onWay es j m ≡ (eqb (l .number) j || onWay es j u)
     pub clear : (v : ℕ) → IsMark n v → getD best v 0 < getD best m 0 → onWay es (l .number) v ≡ false
 

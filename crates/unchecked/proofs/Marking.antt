@@ -1,22 +1,24 @@
--- What is marked so far and what is still to be marked are together what is to be marked. Assumes nothing.
+-- Lines are marked along two ways of the tree, to where they meet: when a line is passed, the rest is the same task from a nearer mark.
+-- Assumes nothing.
 use Prim.Native.Nat.{ℕ, _+_, _*_, _-_, _≤_, _<_}
 use native.Mathlib.Omega.{arith}
 use native.Mathlib.Decide.{ℕ-discrete}
 use mathlib.Core.Path.{_≡_, refl, sym, _∙_, ap, ap₂, subst}
 use mathlib.Core.Bool.{Bool, true, false, _||_, or-false, or-assoc}
 use mathlib.Core.List.{List, List·Memᴰ}
-use lib.ListN.{length, getD, set}
+use lib.ListN.{length, getD, set, length-set}
 use lib.Seq.{getD-set-same, getD-set-other}
 use lib.Dec.{eqb}
 use borrow.Author.Tests.{eqb-true, eq-eqb, ne-eqb}
+use Rattle.book.specs.Limits.{leastLength}
 use Rattle.network.specs.Standing.{Line}
 use Rattle.network.specs.Tree.{Tree, tree}
 use Rattle.network.proofs.Subgraph.{or-right}
 use Rattle.loops.specs.Crossed.{onWay, differ, crosses}
 use Rattle.loops.proofs.Ways.{differ-turn, same-differ}
 use Rattle.chains.specs.Chains.{fore, aft, numberLimit}
-use Rattle.unchecked.specs.Ways.{checkedMark, isMarked, IsMark, TreeHeld, Climbed, Follows, Followed}
-use Rattle.unchecked.proofs.Following.{Step, step-at, meet}
+use Rattle.unchecked.specs.Ways.{checkedMark, isMarked, IsMark, TreeHeld, markLimit, Climbed, Follows, Followed}
+use Rattle.unchecked.proofs.Following.{distanceAt, Step, step-at, meet}
 
 -- ---- one mark more
 
@@ -32,104 +34,85 @@ marked-set marked i lt j = go (ℕ-discrete j i)
         ap (λ (k : ℕ). eqb k checkedMark) (getD-set-other marked i j checkedMark 0 d) ∙ sym (or-false (isMarked marked j))
         ∙ ap (λ (t : Bool). isMarked marked j || t) (sym (ne-eqb i j (λ z. d (sym z))))
 
--- ---- two ways, followed so far
+-- ---- two ways, to where they meet
 
--- the ways of u and v have been followed to the marks here and there, and the lines passed are marked
-pub record Going (n : ℕ) (lines : List Line) (marked₀ : List ℕ) (u v : ℕ) (marked : List ℕ) (here there : ℕ) : Type 0 where
-  pub here-is : IsMark n here
-  pub there-is : IsMark n there
-  pub same : (j : ℕ) → (isMarked marked j || differ (onWay (tree (n - 1) lines) j here) (onWay (tree (n - 1) lines) j there))
-      ≡ (isMarked marked₀ j || differ (onWay (tree (n - 1) lines) j u) (onWay (tree (n - 1) lines) j v))
+-- a line that is passed, as e says, is on this way and not on the other; any other is on the rest w exactly if it is on the whole way a
+passes : (e m : Bool) {a b : Bool} (w : Bool) → a ≡ (e || w) → (e ≡ true → b ≡ false) → ((m || e) || differ w b) ≡ (m || differ a b)
+passes e true w p q = refl
+passes true false w p q = sym (ap₂ differ p (q refl))
+passes false false {b = b} w p q = ap (λ (x : Bool). differ x b) (sym p)
 
--- at the start nothing has been passed
-pub going-start : (n : ℕ) (lines : List Line) (marked : List ℕ) (u v : ℕ) → IsMark n u → IsMark n v → Going n lines marked u v marked u v
-going-start n lines marked u v iu iv = record { here-is = iu; there-is = iv; same = λ j. refl }
-
--- the two ways change places
-pub going-turn : {n : ℕ} {lines : List Line} {marked₀ marked : List ℕ} {u v here there : ℕ} → Going n lines marked₀ u v marked here there → Going n lines marked₀ v u marked there here
-going-turn {n = n} {lines = lines} {marked₀ = marked₀} {marked = marked} {u = u} {v = v} {here = here} {there = there} g = record {
-  here-is = g .there-is;
-  there-is = g .here-is;
-  same = λ j. ap (λ (t : Bool). isMarked marked j || t) (differ-turn (onWay (tree (n - 1) lines) j there) (onWay (tree (n - 1) lines) j here)) ∙ g .same j
-      ∙ ap (λ (t : Bool). isMarked marked₀ j || t) (differ-turn (onWay (tree (n - 1) lines) j u) (onWay (tree (n - 1) lines) j v));
-}
-
-module _ {n : ℕ} {lines : List Line} {tip best : List ℕ} (t : TreeHeld n lines tip best) {marked₀ marked : List ℕ} {u v here there : ℕ}
-    (g : Going n lines marked₀ u v marked here there) where
+-- one line of the way of u is passed, to the mark r
+module _ {n : ℕ} {lines : List Line} {tip best : List ℕ} {t : TreeHeld n lines tip best} {u : ℕ} (s : Step n lines tip best t u)
+    {marked marked₁ : List ℕ} {r : ℕ} (c : Climbed tip best marked marked₁ u r) where
   abbrev es : Tree
   es = tree (n - 1) lines
 
-  -- the mark here is farther than the mark there: one line of its way is passed
-  module _ (farther : getD best there 0 < getD best here 0) where
-    -- it is no root, and its line leads nearer
-    step : Step n lines tip best t here
-    step = step-at n lines tip best t here (g .here-is) (omega arith)
+  r-is : r ≡ s .u
+  r-is = c .nearer ∙ s .nearer
+
+  r-mark : IsMark n r
+  r-mark = rw r-is (s .u-is)
+
+  r-nearer : distanceAt best r + leastLength ≤ distanceAt best u
+  r-nearer = rw r-is (s .falls)
+
+  -- what is marked and what is left stay together the same
+  same : (v : ℕ) → IsMark n v → getD best v 0 < getD best u 0 → numberLimit ≤ length marked → (j : ℕ)
+      → (isMarked marked₁ j || differ (onWay es j r) (onWay es j v)) ≡ (isMarked marked j || differ (onWay es j u) (onWay es j v))
+  same v iv farther room j =
+      rw (c .marks, s .number, marked-set marked (s .l .number) (omega (arith, s .small)) j, r-is)
+      (passes (eqb (s .l .number) j) (isMarked marked j) (onWay es j (s .u)) (s .way j) clear)
+    where
+      clear : eqb (s .l .number) j ≡ true → onWay es j v ≡ false
+      clear e = rw (← eqb-true (s .l .number) j e) (s .clear v iv farther)
+
+-- there is as much room as before
+pub climbed-length : {tip best marked marked₁ : List ℕ} {m r : ℕ} → Climbed tip best marked marked₁ m r → length marked₁ ≡ length marked
+climbed-length c = rw (c .marks, length-set)
+
+-- the two marks may change places
+pub follows-turn : {tip best marked : List ℕ} {u v : ℕ} → Follows tip best marked u v → Follows tip best marked v u
+follows-turn p =
+    record { marks = p .marks; n = p .n; bests = p .bests; lines = p .lines; held = p .held; u-is = p .v-is; v-is = p .u-is }
+
+module _ {tip best marked : List ℕ} {u v : ℕ} (p : Follows tip best marked u v) where
+  pub u-low : u < markLimit
+  u-low = omega (arith, p .u-is .1, p .bests)
+
+  -- where the ways meet nothing is left to mark
+  pub followed-met : getD best u 0 ≡ getD best v 0 → Followed tip best marked marked u v
+  followed-met e n lines t iu iv j = rw (same-differ _ _ (meet n lines tip best t u v iu iv e j), or-false)
+
+  -- u is farther than v, and so no root: one line of its way is passed
+  module _ (farther : getD best v 0 < getD best u 0) {marked₁ : List ℕ} {r : ℕ} (c : Climbed tip best marked marked₁ u r) where
+    step : {n : ℕ} {lines : List Line} (t : TreeHeld n lines tip best) → IsMark n u → Step n lines tip best t u
+    step t iu = step-at _ _ _ _ t u iu (omega arith)
 
     -- "the distance falls at each step"
-    pub climb-falls : {marked′ : List ℕ} {r : ℕ} → Climbed tip best marked marked′ here r → getD best r 0 < getD best here 0
-    climb-falls c = omega (arith, step .falls, ap (λ (k : ℕ). getD best k 0) (c .nearer ∙ step .nearer))
+    pub distance-falls : distanceAt best r + leastLength ≤ distanceAt best u
+    distance-falls = r-nearer (step (p .held) (p .u-is)) c
 
-    -- the line passed is on this way and not on the other, and any other line is on the rest of this way exactly if it was on the whole
-    passes : (i : ℕ) (a b w m : Bool) → a ≡ (eqb (step .l .number) i || w) → (eqb (step .l .number) i ≡ true → b ≡ false)
-        → ((m || eqb (step .l .number) i) || differ w b) ≡ (m || differ a b)
-    passes i a b w m p q = go (eqb (step .l .number) i) m p q
-      where
-        go : (e m : Bool) → a ≡ (e || w) → (e ≡ true → b ≡ false) → ((m || e) || differ w b) ≡ (m || differ a b)
-        go e true p q = refl
-        go true false p q = sym (ap₂ differ p (q refl))
-        go false false p q = ap (λ (x : Bool). differ x b) (sym p)
-
-    -- what is marked and what is left stay together the same
-    pub climb-going : {marked′ : List ℕ} {r : ℕ} → numberLimit ≤ length marked → Climbed tip best marked marked′ here r → Going n lines marked₀ u v marked′ r there
-    climb-going {marked′ = marked′} {r = r} room c = record {
-      here-is = subst (IsMark n) (sym r-is) (step .u-is);
-      there-is = g .there-is;
-      same = λ j.
-          ap₂ (λ (x y : Bool). x || differ y (onWay es j there)) (now-marked j) (ap (onWay es j) r-is)
-          ∙ passes j (onWay es j here) (onWay es j there) (onWay es j (step .u)) (isMarked marked j) (step .way j) (clear j)
-          ∙ g .same j;
+    -- the ways of r and v are followed next
+    pub follows-rest : Follows tip best marked₁ r v
+    follows-rest = record {
+      marks = rw (climbed-length c) (p .marks);
+      n = p .n;
+      bests = p .bests;
+      lines = p .lines;
+      held = p .held;
+      u-is = r-mark (step (p .held) (p .u-is)) c;
+      v-is = p .v-is;
     }
-      where
-        r-is : r ≡ step .u
-        r-is = c .nearer ∙ step .nearer
 
-        now-marked : (j : ℕ) → isMarked marked′ j ≡ (isMarked marked j || eqb (step .l .number) j)
-        now-marked j =
-            ap (λ (x : List ℕ). isMarked x j) (c .marks ∙ ap (λ (i : ℕ). set marked i checkedMark) (step .number))
-            ∙ marked-set marked (step .l .number) (omega (arith, step .small)) j
+    -- and then those of u and v have been, whichever of the two is named first
+    pub followed-rest : (marked′ : List ℕ) → Followed tip best marked₁ marked′ r v → Followed tip best marked marked′ u v
+    followed-rest marked′ f n lines t iu iv j =
+        let s = step t iu in
+        f n lines t (r-mark s c) iv j ∙ same s c v iv farther (p .marks) j
 
-        clear : (j : ℕ) → eqb (step .l .number) j ≡ true → onWay es j there ≡ false
-        clear j e = ap (λ (i : ℕ). onWay es i there) (sym (eqb-true (step .l .number) j e)) ∙ step .clear there (g .there-is) farther
-
-  -- where they meet all is marked
-  pub going-end : getD best here 0 ≡ getD best there 0 → (j : ℕ) → isMarked marked j ≡ (isMarked marked₀ j || differ (onWay es j u) (onWay es j v))
-  going-end e j =
-      sym (or-false (isMarked marked j))
-      ∙ ap (λ (x : Bool). isMarked marked j || x) (sym (ap (λ (x : Bool). differ x (onWay es j there)) (meet n lines tip best t here there (g .here-is) (g .there-is) e j) ∙ same-differ (onWay es j there) (onWay es j there) refl))
-      ∙ g .same j
-
--- whatever tree the arrays hold
-abbrev pub Goes : List ℕ → List ℕ → List ℕ → ℕ → ℕ → List ℕ → ℕ → ℕ → Type 0
-Goes tip best marked₀ u v marked here there =
-    (n : ℕ) (lines : List Line) → TreeHeld n lines tip best → IsMark n u → IsMark n v → Going n lines marked₀ u v marked here there
-
--- and there is one
-module _ {tip best marked₀ : List ℕ} {u v : ℕ} (p : Follows tip best marked₀ u v) {marked : List ℕ} {here there : ℕ} (go : Goes tip best marked₀ u v marked here there) where
-  -- the tree that the caller has in mind
-  its-going : Going (p .n) (p .lines) marked₀ u v marked here there
-  its-going = go (p .n) (p .lines) (p .held) (p .u-is) (p .v-is)
-
-  pub here-low : here < length best
-  here-low = omega (arith, its-going .here-is .1, p .bests)
-
-  pub there-low : there < length best
-  there-low = omega (arith, its-going .there-is .1, p .bests)
-
-  pub here-falls : getD best there 0 < getD best here 0 → {marked′ : List ℕ} {r : ℕ} → Climbed tip best marked marked′ here r → getD best r 0 < getD best here 0
-  here-falls lt c = climb-falls (p .held) its-going lt c
-
-  pub there-falls : getD best here 0 < getD best there 0 → {marked′ : List ℕ} {r : ℕ} → Climbed tip best marked marked′ there r → getD best r 0 < getD best there 0
-  there-falls lt c = climb-falls (p .held) (going-turn its-going) lt c
+    pub followed-turn : (marked′ : List ℕ) → Followed tip best marked₁ marked′ r v → Followed tip best marked marked′ v u
+    followed-turn marked′ f n lines t iv iu j = rw differ-turn (followed-rest marked′ f n lines t iu iv j)
 
 -- ---- one closing line
 

@@ -6,12 +6,13 @@ use lib.IntN.{ℤ}
 use lib.ListN.{length}
 use Rattle.network.specs.Standing.{standing}
 use Rattle.prepare.specs.Prepared.{Good, BookPlanted}
+use Rattle.unchecked.specs.Ways.{markLimit}
 use Rattle.unchecked.specs.List.{Ready}
 use Rattle.unchecked.specs.Book.{Shelf}
 
 -- the list can be made
-pub list-ready : {n : ℕ} {ls : List ℤ} (g : Good n ls) {tip long best order marked out : List ℕ} → BookPlanted n ls tip long best order → n ≤ length best → Shelf ls marked out
-    → Ready tip long best marked out (length ls / 5 + 1)
+pub list-ready : {n : ℕ} {ls : List ℤ} (g : Good n ls) {tip long best order marked out : List ℕ} → BookPlanted n ls tip long best order
+    → n ≤ markLimit → Shelf ls marked out → Ready tip long best marked out (length ls / 5 + 1)
 list-ready {n = n} {ls = ls} g {order = order} p bests shelf = record {
   closes = record {
     marks = shelf .marks;

@@ -6,6 +6,7 @@ use mathlib.Core.Bool.{Bool, true, false, not, _||_, cond}
 use mathlib.Core.List.{List, List·Memᴰ}
 use lib.ListN.{length, getD, set}
 use lib.Dec.{eqb}
+use Rattle.book.specs.Limits.{mostMarks}
 use Rattle.network.specs.Standing.{Line}
 use Rattle.network.specs.Sound.{Rising}
 use Rattle.network.specs.Tree.{tree}
@@ -37,10 +38,9 @@ pub record TreeHeld (n : ℕ) (lines : List Line) (tip best : List ℕ) : Type 0
   pub tipOf : (l : Line) (u v h : ℕ) → List·Memᴰ l lines → Half l u v h → getD tip h 0 ≡ v
   pub keyed : Keyed (tree (n - 1) lines) best tip
 
--- a place for each half and for the mark of each line
-pub record Tables (tip marked : List ℕ) : Type 0 where
-  pub tips : halves ≤ length tip
-  pub marks : numberLimit ≤ length marked
+-- more than any mark: best has so many places
+abbrev pub markLimit : ℕ
+markLimit = mostMarks + 1
 
 -- ---- one line of a way
 
@@ -59,9 +59,9 @@ pub record Climbed (tip best marked marked′ : List ℕ) (m r : ℕ) : Type 0 w
 
 -- there is a tree, and u and v are marks of it
 pub record Follows (tip best marked : List ℕ) (u v : ℕ) : Type 0 where
-  pub tables : Tables tip marked
+  pub marks : numberLimit ≤ length marked
   pub n : ℕ
-  pub bests : n ≤ length best
+  pub bests : n ≤ markLimit
   pub lines : List Line
   pub held : TreeHeld n lines tip best
   pub u-is : IsMark n u
@@ -77,9 +77,9 @@ Followed tip best marked marked′ u v =
 
 -- there is a tree, and a line of this number
 pub record Checks (tip best marked : List ℕ) (number : ℕ) : Type 0 where
-  pub tables : Tables tip marked
+  pub marks : numberLimit ≤ length marked
   pub n : ℕ
-  pub bests : n ≤ length best
+  pub bests : n ≤ markLimit
   pub lines : List Line
   pub held : TreeHeld n lines tip best
   pub c : Line
@@ -108,7 +108,7 @@ pub record Closes (tip long best marked : List ℕ) (q : ℕ) : Type 0 where
   pub longs : q ≤ length long
   pub n : ℕ
   pub tips : Tips n tip
-  pub bests : n ≤ length best
+  pub bests : n ≤ markLimit
   pub order : List ℕ
   pub lines : List Line
   pub listed : Listed lines n q tip long

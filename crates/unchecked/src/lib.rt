@@ -3,18 +3,29 @@ ghost use mathlib.Core.Path.{_≡_};
 ghost use Prim.Native.Nat.{_+_, _*_, _-_, _<_};
 ghost use lib.ListN.{length, getD};
 ghost use Rattle.closing.specs.Order.{Put};
-ghost use Rattle.unchecked.specs.Ways.{Tables, Climbed, Follows, Followed, Checks, LoopChecked, closesAt, Closes, Passed, LinesChecked};
+ghost use Rattle.unchecked.specs.Ways.{markLimit, Climbed, Follows, Followed, Checks, LoopChecked, closesAt, Closes, Passed, LinesChecked};
 ghost use Rattle.unchecked.specs.List.{isOpen, openFrom, Lists, Ready, NotChecked};
 ghost use Rattle.prepare.specs.Prepared.{Good, Chained, Soil};
 ghost use Rattle.unchecked.specs.Book.{Shelf, BookListed};
+use book::Book;
 use book::line::Line;
 
+// The places of tip, one for each half. tip, marked and best are lent as arrays, each by one pointer, so that the call at the end of
+// `follow` is compiled to a jump. Slices would be handed on by copies on the stack, and it would stay a call.
+const HALVES: usize = chains::HALVES as usize;
+
+// The places of marked, one for each line number.
+const NUMBERS: usize = chains::NUMBERS as usize;
+
+// The places of best, one for each mark and 0.
+const MARKS: usize = Book::MAX_MARKS as usize + 1;
+
 // What stands at the number of a line that is checked.
-pub const CHECKED: u64 = 1;
+const CHECKED: u64 = 1;
 
 // The line by which the mark m came in is checked. The answer is the mark at its other end.
-fn climb(tip: &[u64], best: &[u64], marked: &mut [u64], m: usize) -> usize
-    requires { ⌜ Tables (now tip) (now marked) ⌝ ∗ ⌜ m < length (now best) ⌝ }
+fn climb(tip: &[u64; HALVES], best: &[u64; MARKS], marked: &mut [u64; NUMBERS], m: usize) -> usize
+    requires { ⌜ m < markLimit ⌝ }
     ensures { λ r. ⌜ Climbed (now (tip .entry)) (now (best .entry)) (now (marked .entry)) (now (marked .exit)) m r ⌝ }
 {
     let h = best[m] % chains::HALVES;
@@ -22,26 +33,32 @@ fn climb(tip: &[u64], best: &[u64], marked: &mut [u64], m: usize) -> usize
     tip[(h / 2 * 4 + 1 - h) as usize] as usize
 }
 
-// The lines on the way of the mark u or of the mark v, but not of both, are checked: the two ways are followed until they meet, always from the farther mark.
-fn follow(tip: &[u64], best: &[u64], marked: &mut [u64], u: usize, v: usize)
+// The lines on the way of the mark u or of the mark v, but not of both, are checked: the two ways are followed until they meet, always from
+// the farther mark. Document 01: "A mark's way to its root is followed line by line, and the distance falls at each step."
+fn follow(tip: &[u64; HALVES], best: &[u64; MARKS], marked: &mut [u64; NUMBERS], u: usize, v: usize)
     requires { ⌜ Follows (now tip) (now best) (now marked) u v ⌝ }
     ensures { λ _. ⌜ Followed (now (tip .entry)) (now (best .entry)) (now (marked .entry)) (now (marked .exit)) u v ⌝ }
+    ensures { λ _. ⌜ length (now (marked .exit)) ≡ length (now (marked .entry)) ⌝ }
 {
-    let mut here = u;
-    let mut there = v;
-    while best[here] != best[there] {
-        if best[here] < best[there] {
-            there = climb(tip, best, marked, there);
-        } else {
-            here = climb(tip, best, marked, here);
-        }
+    let key_u = best[u];
+    let key_v = best[v];
+    if key_u == key_v {
+        return;
+    }
+    if key_u < key_v {
+        let nearer = climb(tip, best, marked, v);
+        follow(tip, best, marked, nearer, u);
+    } else {
+        let nearer = climb(tip, best, marked, u);
+        follow(tip, best, marked, nearer, v);
     }
 }
 
 // The closing line of this number is checked, and so is every line that it crosses.
-fn check_loop(tip: &[u64], best: &[u64], marked: &mut [u64], number: usize)
+fn check_loop(tip: &[u64; HALVES], best: &[u64; MARKS], marked: &mut [u64; NUMBERS], number: usize)
     requires { ⌜ Checks (now tip) (now best) (now marked) number ⌝ }
     ensures { λ _. ⌜ LoopChecked (now (tip .entry)) (now (best .entry)) (now (marked .entry)) (now (marked .exit)) number ⌝ }
+    ensures { λ _. ⌜ length (now (marked .exit)) ≡ length (now (marked .entry)) ⌝ }
 {
     marked[number] = CHECKED;
     let from = tip[number * 2 + 1] as usize;
@@ -66,9 +83,17 @@ fn closes(tip: &[u64], long: &[u64], best: &[u64], number: usize) -> bool
 }
 
 // If the line of this number closes a loop, it is checked with every line that it crosses.
-fn check_line(tip: &[u64], long: &[u64], best: &[u64], marked: &mut [u64], number: usize, q: usize)
+fn check_line(
+    tip: &[u64; HALVES],
+    long: &[u64],
+    best: &[u64; MARKS],
+    marked: &mut [u64; NUMBERS],
+    number: usize,
+    q: usize,
+)
     requires { ⌜ Closes (now tip) (now long) (now best) (now marked) q ⌝ ∗ ⌜ number < q ⌝ }
     ensures { λ _. ⌜ Passed (now (tip .entry)) (now (long .entry)) (now (best .entry)) (now (marked .entry)) (now (marked .exit)) number ⌝ }
+    ensures { λ _. ⌜ length (now (marked .exit)) ≡ length (now (marked .entry)) ⌝ }
 {
     if closes(tip, long, best, number) {
         check_loop(tip, best, marked, number);
@@ -76,11 +101,17 @@ fn check_line(tip: &[u64], long: &[u64], best: &[u64], marked: &mut [u64], numbe
 }
 
 // Every line that is checked is marked, and no other: the closing lines, in whatever order, and the lines that they cross. Line numbers are below q.
-fn check_lines(tip: &[u64], long: &[u64], best: &[u64], marked: &mut [u64], q: usize)
+fn check_lines(
+    tip: &[u64; HALVES],
+    long: &[u64],
+    best: &[u64; MARKS],
+    marked: &mut [u64; NUMBERS],
+    q: usize,
+)
     requires { ⌜ Closes (now tip) (now long) (now best) (now marked) q ⌝ }
     ensures { λ _. ⌜ LinesChecked (now (tip .entry)) (now (long .entry)) (now (best .entry)) (now (marked .exit)) q ⌝ }
 {
-    chains::zero(marked, chains::NUMBERS as usize);
+    chains::zero(marked, NUMBERS);
     let mut number = 1;
     while number < q {
         check_line(tip, long, best, marked, number, q);
@@ -118,10 +149,10 @@ fn list_open(long: &[u64], marked: &[u64], out: &mut [u64], q: usize) -> usize
 
 // The numbers of the standing lines that no loop checks, by rising number, into out from place 0 on, and how many there are. Line numbers are below q.
 fn not_checked(
-    tip: &[u64],
+    tip: &[u64; HALVES],
     long: &[u64],
-    best: &[u64],
-    marked: &mut [u64],
+    best: &[u64; MARKS],
+    marked: &mut [u64; NUMBERS],
     out: &mut [u64],
     q: usize,
 ) -> usize
@@ -136,16 +167,16 @@ fn not_checked(
 // The other tables are for the work. Marks are below n.
 pub fn list_book(
     lines: &[i64],
-    tip: &mut [u64],
+    tip: &mut [u64; HALVES],
     long: &mut [u64],
     head: &mut [u64],
     next: &mut [u64],
     far: &mut [u64],
     add: &mut [u64],
-    best: &mut [u64],
+    best: &mut [u64; MARKS],
     seg: &mut [u64],
     order: &mut [u64],
-    marked: &mut [u64],
+    marked: &mut [u64; NUMBERS],
     out: &mut [u64],
     n: usize,
 ) -> usize

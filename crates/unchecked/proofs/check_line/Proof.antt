@@ -6,7 +6,6 @@ use Rattle.network.proofs.ClosingLines.{closing-line-stands}
 use Rattle.unchecked.specs.Ways.{closing-line, other-line}
 use Rattle.unchecked.proofs.Following.{tree-held, book-sound}
 use Rattle.unchecked.proofs.Checking.{closes-closing}
-use borrow.Author.Needs.{needs}
 use Rattle.unchecked.proofs.check_line.Statement.{statement}
 use Rattle.unchecked.proofs.check_line.Tie as tie
 
@@ -30,7 +29,7 @@ check-loop-requires c κs =
     let held = tree-held (p .listed) (p .holding) in
     let k = closes-closing (p .listed) (p .holding) (entry .args .number) (entry .pre .1) (sym (after-closes .closes .ensures) ∙ closing .if1 .taken) in
     record {
-      tables = record { tips = p .tips .tips; marks = p .marks };
+      marks = p .marks;
       n = p .n;
       bests = p .bests;
       lines = p .lines;
@@ -40,21 +39,19 @@ check-loop-requires c κs =
       its = k .2;
     }
 
-same-length : tie.Need-same-length
-same-length c = search needs
-
 returns : tie.Need-returns
 returns c =
     let after-check-loop : tie.After-check-loop = search in
     let closing : tie.Then1 = search in
     let after-closes : tie.After-closes = search in
-    closing-line (sym (after-closes .closes .ensures) ∙ closing .if1 .taken) (after-check-loop .check-loop .ensures)
+    let looped = after-check-loop .check-loop .ensures in
+    (closing-line (sym (after-closes .closes .ensures) ∙ closing .if1 .taken) (looped .0), looped .1)
 
 returns-2 : tie.Need-returns-2
 returns-2 c =
     let after-closes : tie.After-closes = search in
-    other-line (sym (after-closes .closes .ensures) ∙ c .if1 .left) refl
+    (other-line (sym (after-closes .closes .ensures) ∙ c .if1 .left) refl, refl)
 
 pub check-line-spec : {M : Type 1} → statement M
 check-line-spec =
-    tie.close (tie.spec closes-requires check-loop-requires same-length returns returns-2)
+    tie.close (tie.spec closes-requires check-loop-requires returns returns-2)

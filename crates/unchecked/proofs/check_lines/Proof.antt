@@ -1,7 +1,6 @@
 -- The loop of `check_lines`: the lines with numbers below `number` are done. Assumes nothing.
 use Prim.Native.Nat.{ℕ, _-_, _≤_}
 use native.Mathlib.Omega.{arith}
-use mathlib.Core.Path.{_≡_}
 use mathlib.Core.List.{List}
 use lib.ListN.{length}
 use borrow.Author.Needs.{needs}
@@ -16,7 +15,9 @@ use Rattle.unchecked.proofs.check_lines.Tie as tie
 
 abbrev Inv-loop : tie.InvT-loop
 Inv-loop tip long best marked₀ q number₀ marked number =
-    (numberLimit ≤ length marked) × (length marked ≡ length marked₀) × ((n : ℕ) (order : List ℕ) (lines : List Line) → Listed lines n q tip long → Holding (tree (n - 1) lines) best order tip → SoFar n lines marked number)
+    (numberLimit ≤ length marked)
+    × ((n : ℕ) (order : List ℕ) (lines : List Line) → Listed lines n q tip long → Holding (tree (n - 1) lines) best order tip
+    → SoFar n lines marked number)
 
 abbrev μ-loop : tie.MeasureT-loop
 μ-loop tip long best marked₀ q number₀ marked number = q - number
@@ -30,7 +31,7 @@ loop-holds : tie.Need-loop-holds Inv-loop μ-loop
 loop-holds c =
     let after-zero : tie.After-zero Inv-loop μ-loop = search in
     let entry : tie.Start Inv-loop μ-loop = search in
-    (omega (arith, c, entry .pre .marks), omega (arith, c), λ n order lines li ho. start-so-far li ho (after-zero .zero .ensures))
+    (omega (arith, c, entry .pre .marks), λ n order lines li ho. start-so-far li ho (after-zero .zero .ensures))
 
 check-line-requires : tie.Need-check-line-requires Inv-loop μ-loop
 check-line-requires c κs =
@@ -63,13 +64,11 @@ loop-again c =
     let after-check-line : tie.After-check-line Inv-loop μ-loop = search in
     let at-loop : tie.At-loop Inv-loop μ-loop = search in
     let v = at-loop .loop .inv in
-    (omega (arith, c, v), omega (arith, c, v), λ n order lines li ho. next-so-far li ho (omega (arith, c)) (v .2 n order lines li ho) (after-check-line .check-line .ensures))
-
-same-length : tie.Need-same-length Inv-loop μ-loop
-same-length c = search needs
+    let checked = after-check-line .check-line .ensures in
+    (omega (arith, v .0, checked .1), λ n order lines li ho. next-so-far li ho (omega (arith, c)) (v .1 n order lines li ho) (checked .0))
 
 returns : tie.Need-returns Inv-loop μ-loop
-returns c = λ n order lines li ho. all-so-far li ho (omega arith) (c .before .loop .inv .2 n order lines li ho)
+returns c = λ n order lines li ho. all-so-far li ho (omega arith) (c .before .loop .inv .1 n order lines li ho)
 
 pub check-lines-spec : {M : Type 1} → statement M
 check-lines-spec =
@@ -83,5 +82,4 @@ check-lines-spec =
     add-number
     loop-less
     loop-again
-    same-length
     returns)

@@ -1,5 +1,6 @@
 -- `check_loop` marks the closing line itself and what `follow` marks from its two ends. Assumes nothing.
 use mathlib.Core.List.{List}
+use mathlib.Core.Path.{_∙_}
 use Prim.Native.Nat.{ℕ, _<_}
 use native.Mathlib.Omega.{arith}
 use lib.ListN.{length-set}
@@ -14,45 +15,37 @@ low : {tip best marked : List ℕ} {number : ℕ} → Checks tip best marked num
 low p = small-number (p .held) (p .c) (p .isLine) (p .its)
 
 mul-marked : tie.Need-mul-marked
-mul-marked c = omega (arith, low (c .before .before .before .pre))
+mul-marked c = omega (arith, low (c .pre))
 
-slice-write-marked : tie.Need-slice-write-marked
-slice-write-marked c = omega (arith, low (c .before .before .before .pre), c .before .before .before .pre .tables .marks)
+element-write-marked : tie.Need-element-write-marked
+element-write-marked c = omega (arith, low (c .pre))
 
 mul-from : tie.Need-mul-from
-mul-from c = omega (arith, low (c .before .before .before .pre))
+mul-from c = omega (arith, low (c .pre))
 
 add-from : tie.Need-add-from
-add-from c = omega (arith, low (c .before .before .before .pre))
+add-from c = omega (arith, low (c .pre))
 
 mul-from-2 : tie.Need-mul-from-2
-mul-from-2 c = omega (arith, low (c .before .before .before .pre))
+mul-from-2 c = omega (arith, low (c .pre))
 
-shared-slice-read-from : tie.Need-shared-slice-read-from
-shared-slice-read-from c =
-    let entry : tie.Start = search in
-    omega (arith, low (entry .pre), entry .pre .tables .tips)
+element-copy-out-from : tie.Need-element-copy-out-from
+element-copy-out-from c = omega (arith, low (c .pre))
 
 mul-to : tie.Need-mul-to
-mul-to c =
-    let entry : tie.Start = search in
-    omega (arith, low (entry .pre))
+mul-to c = omega (arith, low (c .before .pre))
 
 mul-to-2 : tie.Need-mul-to-2
-mul-to-2 c =
-    let entry : tie.Start = search in
-    omega (arith, low (entry .pre))
+mul-to-2 c = omega (arith, low (c .before .pre))
 
-shared-slice-read-to : tie.Need-shared-slice-read-to
-shared-slice-read-to c =
-    let entry : tie.Start = search in
-    omega (arith, low (entry .pre), entry .pre .tables .tips)
+element-copy-out-to : tie.Need-element-copy-out-to
+element-copy-out-to c = omega (arith, low (c .before .pre))
 
 follow-requires : tie.Need-follow-requires
 follow-requires c κs =
     let entry : tie.Start = search in
     let p = entry .pre in record {
-      tables = record { tips = p .tables .tips; marks = simp length-set (p .tables .marks) };
+      marks = simp length-set (p .marks);
       n = p .n;
       bests = p .bests;
       lines = p .lines;
@@ -61,29 +54,26 @@ follow-requires c κs =
       v-is = to-mark (p .held) (p .c) (p .isLine) (p .its);
     }
 
-same-length : tie.Need-same-length
-same-length c =
-    let s : tie.Start = search in
-    omega (arith, c .before .before .follow .kept .1 .1 .0, length-set (s .args .marked .now) (s .args .number) 1)
-
 returns : tie.Need-returns
 returns c =
     let s : tie.Start = search in
-    λ n lines t l i e. loop-checked t l i e (s .args .marked .now) (c .before .before .follow .last .1 .1 .0) (s .pre .tables .marks) (c .before .before .follow .ensures)
+    let f = c .follow in (
+      λ n lines t l i e. loop-checked t l i e (s .args .marked .now) (f .last .1 .1 .0) (s .pre .marks) (f .ensures .0),
+      f .ensures .1 ∙ simp length-set,
+    )
 
 pub check-loop-spec : {M : Type 1} → statement M
 check-loop-spec =
     tie.close
     (tie.spec
     mul-marked
-    slice-write-marked
+    element-write-marked
     mul-from
     add-from
     mul-from-2
-    shared-slice-read-from
+    element-copy-out-from
     mul-to
     mul-to-2
-    shared-slice-read-to
+    element-copy-out-to
     follow-requires
-    same-length
     returns)

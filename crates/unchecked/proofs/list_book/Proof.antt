@@ -20,9 +20,10 @@ not-checked-requires : tie.Need-not-checked-requires
 not-checked-requires c κs =
     let after-plant-book : tie.After-plant-book = search in
     let entry : tie.Start = search in
+    let best-lent : tie.After-plant-book-arg7 = search in
     let p = entry .pre in
-    let planted = after-plant-book .plant-book in
-    list-ready (p .0) (planted .ensures) (omega (arith, p .1 .1 .0 .bests, planted .kept)) (p .1 .1 .1)
+    list-ready (p .0) (after-plant-book .plant-book .ensures)
+    (omega (arith, p .1 .1 .0 .bests, best-lent .plant-book-arg7 .given)) (p .1 .1 .1)
 
 same-length : tie.Need-same-length
 same-length c = search needs
@@ -48,15 +49,6 @@ same-length-7 c = search needs
 same-length-8 : tie.Need-same-length-8
 same-length-8 c = search needs
 
-same-length-9 : tie.Need-same-length-9
-same-length-9 c = search needs
-
-same-length-10 : tie.Need-same-length-10
-same-length-10 c = search needs
-
-same-length-11 : tie.Need-same-length-11
-same-length-11 c = search needs
-
 returns : tie.Need-returns
 returns c =
     let after-not-checked : tie.After-not-checked = search in
@@ -79,7 +71,4 @@ list-book-spec =
     same-length-6
     same-length-7
     same-length-8
-    same-length-9
-    same-length-10
-    same-length-11
     returns)

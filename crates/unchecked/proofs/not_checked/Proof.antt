@@ -13,9 +13,6 @@ list-open-requires c κs = search needs
 same-length : tie.Need-same-length
 same-length c = search needs
 
-same-length-2 : tie.Need-same-length-2
-same-length-2 c = search needs
-
 returns : tie.Need-returns
 returns c =
     let after-list-open : tie.After-list-open = search in
@@ -25,4 +22,4 @@ returns c =
 
 pub not-checked-spec : {M : Type 1} → statement M
 not-checked-spec =
-    tie.close (tie.spec check-lines-requires list-open-requires same-length same-length-2 returns)
+    tie.close (tie.spec check-lines-requires list-open-requires same-length returns)

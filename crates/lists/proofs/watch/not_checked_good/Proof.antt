@@ -30,15 +30,6 @@ slice-aggregate-list-book-7 c = search needs
 slice-aggregate-list-book-8 : tie.Need-slice-aggregate-list-book-8
 slice-aggregate-list-book-8 c = search needs
 
-slice-aggregate-list-book-9 : tie.Need-slice-aggregate-list-book-9
-slice-aggregate-list-book-9 c = search needs
-
-slice-aggregate-list-book-10 : tie.Need-slice-aggregate-list-book-10
-slice-aggregate-list-book-10 c = search needs
-
-slice-aggregate-list-book-11 : tie.Need-slice-aggregate-list-book-11
-slice-aggregate-list-book-11 c = search needs
-
 add-list-book : tie.Need-add-list-book
 add-list-book c = search needs
 
@@ -90,9 +81,6 @@ not-checked-good-spec =
     slice-aggregate-list-book-6
     slice-aggregate-list-book-7
     slice-aggregate-list-book-8
-    slice-aggregate-list-book-9
-    slice-aggregate-list-book-10
-    slice-aggregate-list-book-11
     add-list-book
     list-book-requires
     array-share-prefix-list
