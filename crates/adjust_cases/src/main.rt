@@ -1,6 +1,7 @@
 // Adjusts many books and rates their lines, spoils a height, withdraws a line, and prints every answer and what the heights then are.
 // A case on standard input: 48 bytes of name, how many heights are lent, the place of the height that is spoilt, the file's length (2 bytes
 // each), the file. tests/adjust_cases.py makes the cases and, on its own, what is printed of them.
+use book::Book;
 use rates::Rate;
 
 const NAME_BYTES: usize = 48;
@@ -136,8 +137,8 @@ fn read_and_run(
 fn one_case(name: &[u8], file: &[u8], room: usize, spoilt: usize) {
     put(name);
     put(b"\n");
-    let mut held = [0i64; 512];
-    let mut lines = [0i64; 2560];
+    let mut held = [0i64; Book::HELD_WORDS];
+    let mut lines = [0i64; Book::LINE_WORDS];
     let mut heights = [0i64; 300];
     let r = cases::at_most(room, 300);
     read_and_run(

@@ -191,7 +191,9 @@ fn put_verdict(verdict: i64) {
     match verdict {
         0 => put(b", WITHIN"),
         1 => put(b", OVER"),
-        _ => cases::put_signed(verdict),
+        _ => {
+            cases::put_signed(verdict);
+        }
     }
 }
 

@@ -1,5 +1,6 @@
 // Adjusts the book file on standard input and prints a sheet to pin to the wall: the height of every mark in metres, and of every line its
 // correction in mm and its rate in mm per km. A refused book is one line, as in the report.
+use book::Book;
 use rates::RateRow;
 
 fn put(text: &[u8]) {
@@ -184,9 +185,9 @@ fn run(file: &[u8], held: &mut [i64], lines: &mut [i64], heights: &mut [i64]) {
 fn main() {
     let mut space = [0u8; 16384];
     let got = io::read_full(cases::STDIN, &mut space);
-    let mut held = [0i64; 512];
-    let mut lines = [0i64; 2560];
-    let mut heights = [0i64; 256];
+    let mut held = [0i64; Book::HELD_WORDS];
+    let mut lines = [0i64; Book::LINE_WORDS];
+    let mut heights = [0i64; Book::MAX_MARKS as usize];
     run(
         &space[..got],
         &mut held[..],

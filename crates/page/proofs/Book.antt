@@ -6,6 +6,7 @@ use mathlib.Core.List.{List, _++_}
 use lib.IntN.{ℤ}
 use lib.ListN.{length, take, drop}
 use lib.Seq.{take-at}
+use Rattle.book.specs.Limits.{mostLines}
 use Rattle.book.specs.declared.Book.{Book}
 use Rattle.network.specs.Standing.{standing}
 use Rattle.loops.specs.Loops.{loops}
@@ -35,7 +36,7 @@ module _ (k : Book) (ls : List ℤ) (g : GoodLines k ls) where
       rw (n, w, m) at (p then q)
 
   -- the list of the lines that are not checked, in room for the most there can be
-  module _ (out : List ℤ) {out′ : List ℤ} {r : Listed} (room : 512 ≤ length out) (e : listing r out′ ≡ listOf (uncheckedOf (k .marks) ls) out) where
+  module _ (out : List ℤ) {out′ : List ℤ} {r : Listed} (room : mostLines ≤ length out) (e : listing r out′ ≡ listOf (uncheckedOf (k .marks) ls) out) where
     both : listing r out′ ≡ listing (record { number = 0; place = 0; entries = length (uncheckedOf (k .marks) ls) }) (uncheckedOf (k .marks) ls ++ drop (length (uncheckedOf (k .marks) ls)) out)
     both = e ∙ sym (list-whole (uncheckedOf (k .marks) ls) out (omega (arith, few-listed k ls g)))
 

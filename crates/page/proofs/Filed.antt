@@ -9,6 +9,9 @@ use lib.IntN.{ℤ, pos}
 use lib.ListN.{length, take, drop}
 use lib.Seq.{take-at}
 use borrow.Author.Tests.{ne-eqb, le-ltb}
+use Rattle.book.specs.Line.{lineWords}
+use Rattle.book.specs.Held.{heldWords}
+use Rattle.book.specs.Limits.{mostLines, mostHeld}
 use Rattle.book.specs.Test.{testOf}
 use Rattle.book.specs.declared.Book.{Book}
 use Rattle.book.specs.declared.Tested.{Tested}
@@ -38,8 +41,8 @@ lines-length : (file : List ℕ) (h n : ℕ) → length (linesOf file h n) ≡ n
 unfolding linesOf
 lines-length file h n = entries-length Line file (13 + h * 10) n
 
-module _ (file : List ℕ) (held lines : List ℤ) (held-room : 512 ≤ length held) (lines-room : 2560 ≤ length lines) where
-  room-page : (k : Book) → k .held ≤ 256 → k .lines ≤ 512 → readPage (roomOf file k held lines) ≡ bookPage (k .marks) (k .tolerance) (k .lines) (linesOf file (k .held) (k .lines))
+module _ (file : List ℕ) (held lines : List ℤ) (held-room : mostHeld * heldWords ≤ length held) (lines-room : mostLines * lineWords ≤ length lines) where
+  room-page : (k : Book) → k .held ≤ mostHeld → k .lines ≤ mostLines → readPage (roomOf file k held lines) ≡ bookPage (k .marks) (k .tolerance) (k .lines) (linesOf file (k .held) (k .lines))
   unfolding readPage roomOf
   room-page k h n = rw (
     le-ltb (length held) (k .held * 2) (omega arith),
@@ -47,7 +50,7 @@ module _ (file : List ℕ) (held lines : List ℤ) (held-room : 512 ≤ length h
     take-at (linesOf file (k .held) (k .lines)) (drop (k .lines * 5) lines) (k .lines * 5) (lines-length file (k .held) (k .lines)),
   )
 
-  body-page : (k : Book) → k .held ≤ 256 → k .lines ≤ 512
+  body-page : (k : Book) → k .held ≤ mostHeld → k .lines ≤ mostLines
       → readPage (bodyOf file k held lines) ≡ testedPage k (linesOf file (k .held) (k .lines)) (testOf (pos (k .marks)) (pos (k .tolerance)) (heldOf file (k .held)) (linesOf file (k .held) (k .lines)))
   unfolding readPage bodyOf testedOf testedPage
   body-page k h n = go (testOf (pos (k .marks)) (pos (k .tolerance)) (heldOf file (k .held)) (linesOf file (k .held) (k .lines))) refl
@@ -89,7 +92,7 @@ module _ (file : List ℕ) (held lines : List ℤ) (held-room : 512 ≤ length h
           ap (take (r .book .lines * 5)) (r .lines-now)
           ∙ take-at (linesOf file (r .book .held) (r .book .lines)) (drop (r .book .lines * 5) lines) (r .book .lines * 5) (lines-length file (r .book .held) (r .book .lines))
 
-      pub few-read : o .answer .n ≤ 512
+      pub few-read : o .answer .n ≤ mostLines
       few-read = omega (arith, ap (λ (x : ReadAnswer). x .n) (r .answer), r .good .few-lines)
 
       pub good-read : GoodLines (record { marks = o .answer .b; tolerance = o .answer .t; held = o .answer .h; lines = o .answer .n }) (take (o .answer .n * 5) (o .lines))

@@ -7,7 +7,10 @@ use mathlib.Core.Path.{_≡_, refl, sym, ap, subst}
 use mathlib.Core.Logic.{inl, inr}
 use mathlib.Core.List.{List, [], _∷_, _++_, map, List·Memᴰ, List·Memᴰ·head, List·Memᴰ·tail}
 use lib.IntN.{ℤ, pos}
-use lib.ListN.{length, replicate, length-replicate, length-append, length-map}
+use lib.ListN.{length, take, replicate, length-replicate, length-append, length-map}
+use Rattle.book.specs.Limits.{mostLines, mostHeld, mostLength, mostDifference}
+use Rattle.book.specs.Held.{heldWords}
+use Rattle.book.specs.Line.{lineWords}
 use Rattle.book.specs.declared.Book.{Book}
 use Rattle.file.specs.Read.{Outcome, readOf}
 use Rattle.file.specs.declared.ReadAnswer.{ReadAnswer}
@@ -28,12 +31,18 @@ use Rattle.survey.proofs.Sounding.{LineLimits, lines-sound, line-limits, few-lo
 use Rattle.lists.specs.NotChecked.{uncheckedOf}
 use Rattle.lists.proofs.Lists.{few-listed, listed-numbers}
 use Rattle.text.specs.Report.{headText, notCheckedText}
+use Rattle.text.specs.Put.{Put}
+use Rattle.text.proofs.Puts.{put-whole}
 use Rattle.text.proofs.Room.{LoopNumbers, head-room, loop-room, not-checked-room, refused-room}
 use Rattle.page.specs.Page.{loopLine, loopLines, loopsPage, bookPage, pageOf}
 use Rattle.page.proofs.Filed.{refused-page, good-read, book-page}
 
+-- the bytes that the report program lends
+abbrev pub pageRoom : ℕ
+pageRoom = 690000
+
 abbrev Fits : List ℕ → Type 0
-Fits page = length page ≤ 690000
+Fits page = length page ≤ pageRoom
 
 -- three texts, one after the other
 together : (a b c : List ℕ) {x y z : ℕ} → length a ≤ x → length b ≤ y → length c ≤ z → length ((a ++ b) ++ c) ≤ x + y + z
@@ -44,14 +53,14 @@ module _ (k : Book) (ls : List ℤ) (g : GoodLines k ls) where
   sound = lines-sound k ls g
 
   -- a loop runs over standing lines, and over no more of them than there are marks
-  loop-numbers : (number : ℕ) → number ≤ 512 → (lp : Loop) → List·Memᴰ lp (loopsOf (k .marks) ls) → LoopNumbers number (pos (wayLength lp)) (misclosure lp) (map listed lp)
+  loop-numbers : (number : ℕ) → number ≤ mostLines → (lp : Loop) → List·Memᴰ lp (loopsOf (k .marks) ls) → LoopNumbers number (pos (wayLength lp)) (misclosure lp) (map listed lp)
   unfolding loopsOf
   loop-numbers number high lp i = record {
     few-loops = high;
-    short = omega (arith, few, g .few-marks, length-at-most 100000 lp (λ p j. limits p j .length));
-    small = omega (arith, few, g .few-marks, misclosure-at-most 100000000 lp (λ p j. limits p j .difference));
+    short = omega (arith, few, g .few-marks, length-at-most mostLength lp (λ p j. limits p j .length));
+    small = omega (arith, few, g .few-marks, misclosure-at-most mostDifference lp (λ p j. limits p j .difference));
     few-lines = omega (arith, few, g .few-marks, length-map lp listed);
-    lines = listed-at-most 512 lp (λ p j. limits p j .number);
+    lines = listed-at-most mostLines lp (λ p j. limits p j .number);
   }
     where
       few : length lp ≤ k .marks
@@ -61,7 +70,7 @@ module _ (k : Book) (ls : List ℤ) (g : GoodLines k ls) where
       limits p j = line-limits k ls g (p .line) (pass-line (all-closed (k .marks) (standing ls) sound lp i .1) p j)
 
   -- the lines of loops of the book, the first of them under this number
-  loops-room : (number : ℕ) (lps : List Loop) → ((lp : Loop) → List·Memᴰ lp lps → List·Memᴰ lp (loopsOf (k .marks) ls)) → number + length lps ≤ 513
+  loops-room : (number : ℕ) (lps : List Loop) → ((lp : Loop) → List·Memᴰ lp lps → List·Memᴰ lp (loopsOf (k .marks) ls)) → number + length lps ≤ mostLines + 1
       → length (loopLines (k .tolerance) number lps) ≤ length lps * 1338
   unfolding loopLines loopLine
   loops-room number [] h few = omega arith
@@ -87,7 +96,7 @@ module _ (k : Book) (ls : List ℤ) (g : GoodLines k ls) where
 
 -- ---- of every file, as it is read into buffers that have room for every book
 
-module _ (file : List ℕ) (held lines : List ℤ) (held-room : 512 ≤ length held) (lines-room : 2560 ≤ length lines) where
+module _ (file : List ℕ) (held lines : List ℤ) (held-room : mostHeld * heldWords ≤ length held) (lines-room : mostLines * lineWords ≤ length lines) where
   abbrev o : Outcome
   o = readOf file held lines
 
@@ -101,8 +110,12 @@ module _ (file : List ℕ) (held lines : List ℤ) (held-room : 512 ≤ length h
       let r = refused-room (o .answer .number) (o .answer .place) (omega (arith, f .high)) (omega (arith, f .near)) in
       subst Fits (refused-page file held lines held-room lines-room o refl (λ z. omega (arith, f .low))) (omega arith)
 
-pub page-fits : (file : List ℕ) → length (pageOf file) ≤ 690000
+pub page-fits : (file : List ℕ) → length (pageOf file) ≤ pageRoom
 page-fits file =
-    let held = replicate 512 (pos 0) in
-    let lines = replicate 2560 (pos 0) in
-    read-fits file held lines (le-of-eq (sym (length-replicate 512 (pos 0)))) (le-of-eq (sym (length-replicate 2560 (pos 0)))) (read-or-refused file held lines)
+    let held = replicate (mostHeld * heldWords) (pos 0) in
+    let lines = replicate (mostLines * lineWords) (pos 0) in
+    read-fits file held lines (le-of-eq (sym (length-replicate (mostHeld * heldWords) (pos 0)))) (le-of-eq (sym (length-replicate (mostLines * lineWords) (pos 0)))) (read-or-refused file held lines)
+
+-- so that the program prints the whole report: what it hands on are the bytes up to the place after the page
+pub page-whole : (file out out′ : List ℕ) (next : ℕ) → pageRoom ≤ length out → Put out out′ 0 next (pageOf file) → take next out′ ≡ pageOf file
+page-whole file out out′ next room p = put-whole p (omega (arith, page-fits file))

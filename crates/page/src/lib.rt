@@ -12,8 +12,8 @@ use book::line::Line;
 pub fn write_page(file: &[u8], out: &mut [u8]) -> usize
     ensures { λ r. ⌜ Put (now (out .entry)) (now (out .exit)) 0 r (pageOf (now (file .entry))) ⌝ }
 {
-    let mut held = [0i64; 512];
-    let mut lines = [0i64; 2560];
+    let mut held = [0i64; Book::HELD_WORDS];
+    let mut lines = [0i64; Book::LINE_WORDS];
     let read = file::read(file, &mut held[..], &mut lines[..]);
     if read.number != 0 {
         return text::refused_text(out, 0, read.number, read.place);

@@ -1,6 +1,8 @@
 // Surveys many books, and corrects each of them, line after line, until none stands; prints every answer and what the buffers then hold.
 // A case on standard input: 48 bytes of name, the file's length (2 bytes), the file. tests/survey_cases.py makes the cases and, on its own,
 // what is printed of them.
+use book::Book;
+
 const NAME_BYTES: usize = 48;
 
 const CASE_BYTES: usize = 50;
@@ -101,8 +103,8 @@ fn run(file: &[u8], held: &mut [i64], lines: &mut [i64], report: &mut [i64]) {
 fn one_case(name: &[u8], file: &[u8]) {
     io::write_all(cases::STDOUT, name);
     io::write_all(cases::STDOUT, b"\n");
-    let mut held = [0i64; 512];
-    let mut lines = [0i64; 2560];
+    let mut held = [0i64; Book::HELD_WORDS];
+    let mut lines = [0i64; Book::LINE_WORDS];
     let mut report = [0i64; 2600];
     run(file, &mut held[..], &mut lines[..], &mut report[..]);
 }

@@ -9,6 +9,7 @@ use lib.IntN.{ℤ, pos, negsuc, natAbs}
 use lib.ListN.{length, getD, length-append}
 use Rattle.laws.proofs.Tests.{cond-ind}
 use Rattle.laws.specs.Tests.{eqZ}
+use Rattle.book.specs.Limits.{mostMarks, mostLines, mostLength, mostDifference}
 use Rattle.text.specs.Bytes.{bytes}
 use Rattle.text.specs.Number.{decimal, signedText}
 use Rattle.text.specs.Report.{headText, listedText, verdictText, loopText, notCheckedText, refusedText}
@@ -31,9 +32,9 @@ unfolding signedText bytes
 signed-room k (pos n) h = let d = decimal-room k n h in omega arith
 signed-room k (negsuc n) h = let d = decimal-room k (suc n) h in omega arith
 
--- each line's number is at most 512, whatever its sense
+-- each line's number is one of a book, whatever its sense
 abbrev pub LineNumbers : List ℤ → Type 0
-LineNumbers list = (i : ℕ) → i < length list → natAbs (getD list i (pos 0)) ≤ 512
+LineNumbers list = (i : ℕ) → i < length list → natAbs (getD list i (pos 0)) ≤ mostLines
 
 pub listed-room : (list : List ℤ) → LineNumbers list → length (listedText list) ≤ length list * 5
 unfolding listedText bytes
@@ -58,7 +59,7 @@ pub refused-room : (number place : ℕ) → number < 2 ^ 64 → place < 2 ^ 64 �
 unfolding refusedText bytes
 refused-room number place n p = simp length-append (omega (arith, machine-room number n, machine-room place p))
 
-pub not-checked-room : (list : List ℤ) → length list ≤ 512 → LineNumbers list → length (notCheckedText list) ≤ 2577
+pub not-checked-room : (list : List ℤ) → length list ≤ mostLines → LineNumbers list → length (notCheckedText list) ≤ 2577
 unfolding notCheckedText bytes
 not-checked-room list few h =
     let d = decimal-room 2 (length list) (omega arith) in
@@ -66,10 +67,10 @@ not-checked-room list few h =
 
 -- the numbers of a loop in a book within its limits
 pub record LoopNumbers (number : ℕ) (len misclosure : ℤ) (listing : List ℤ) : Type 0 where
-  pub few-loops : number ≤ 512
-  pub short : natAbs len ≤ 51200000
-  pub small : natAbs misclosure ≤ 51200000000
-  pub few-lines : length listing ≤ 256
+  pub few-loops : number ≤ mostLines
+  pub short : natAbs len ≤ mostLines * mostLength
+  pub small : natAbs misclosure ≤ mostLines * mostDifference
+  pub few-lines : length listing ≤ mostMarks
   pub lines : LineNumbers listing
 
 pub loop-room : (number : ℕ) (len misclosure verdict : ℤ) (listing : List ℤ) → LoopNumbers number len misclosure listing → length (loopText number len misclosure verdict listing) ≤ 1338

@@ -84,7 +84,7 @@ fn put_verdict(out: &mut [u8], at: usize, verdict: i64) -> usize
 }
 
 // Each line of a list, after a space.
-fn put_listed(out: &mut [u8], at: usize, list: &[i64]) -> usize
+pub fn put_listed(out: &mut [u8], at: usize, list: &[i64]) -> usize
     ensures { λ r. ⌜ Put (now (out .entry)) (now (out .exit)) at r (listedText (now (list .entry))) ⌝ }
 {
     let mut next = at;
@@ -97,7 +97,7 @@ fn put_listed(out: &mut [u8], at: usize, list: &[i64]) -> usize
 }
 
 // One line of a list, after its space.
-fn put_line(out: &mut [u8], at: usize, line: i64) -> usize
+pub fn put_line(out: &mut [u8], at: usize, line: i64) -> usize
     ensures { λ r. ⌜ Put (now (out .entry)) (now (out .exit)) at r (listedText (line ∷ [])) ⌝ }
 {
     let at = put_byte(out, at, b' ');
@@ -105,7 +105,7 @@ fn put_line(out: &mut [u8], at: usize, line: i64) -> usize
 }
 
 // A number with its sign, if it is below 0.
-pub fn put_signed(out: &mut [u8], at: usize, x: i64) -> usize
+fn put_signed(out: &mut [u8], at: usize, x: i64) -> usize
     ensures { λ r. ⌜ Put (now (out .entry)) (now (out .exit)) at r (signedText x) ⌝ }
 {
     let size = signed::magnitude(x);

@@ -1,18 +1,22 @@
-use mathlib.Core.Path.{_≡_}
-use Prim.Native.Nat.{_-_}
-use lib.ListN.{length}
+use mathlib.Core.Path.{sym, _∙_}
+use mathlib.Core.List.{append-nil}
+use Prim.Native.Nat.{_-_, _≤_}
+use native.Mathlib.Omega.{arith}
 use borrow.Author.Needs.{needs}
+use lib.ListN.{length, replicate, length-replicate, getD-replicate, drop-of-length-le}
+use Rattle.laws.proofs.Laid.{Laid, laid-start, laid-next, laid-end}
+use Rattle.cases.specs.Cases.{untouched}
 use Rattle.cases.proofs.clear.Statement.{statement}
 use Rattle.cases.proofs.clear.Tie as tie
 
 abbrev Inv-loop : tie.InvT-loop
-Inv-loop s₀ i₀ s i = length s ≡ length s₀
+Inv-loop s₀ i₀ s i = Laid (replicate (length s₀) untouched) s₀ s i
 
 abbrev μ-loop : tie.MeasureT-loop
 μ-loop s₀ i₀ s i = length s₀ - i
 
 loop-holds : tie.Need-loop-holds Inv-loop μ-loop
-loop-holds c = search needs
+loop-holds c = laid-start _ _
 
 mul-s : tie.Need-mul-s Inv-loop μ-loop
 mul-s c = search needs
@@ -27,13 +31,23 @@ loop-less : tie.Need-loop-less Inv-loop μ-loop
 loop-less c = search needs
 
 loop-again : tie.Need-loop-again Inv-loop μ-loop
-loop-again c = search needs
+loop-again c =
+    let l = c .before in
+    let s₀ = l .before .args .s .now in
+    let n = length-replicate (length s₀) untouched in
+    laid-next _ _ _ (l .loop .i) _ untouched (omega (arith, n)) (omega (arith, n, l .loop .inv .as-long)) (sym (getD-replicate (length s₀) (l .loop .i) untouched untouched (omega (arith, l .loop .inv .as-long)))) (l .loop .inv)
 
 same-length : tie.Need-same-length Inv-loop μ-loop
 same-length c = search needs
 
 returns : tie.Need-returns Inv-loop μ-loop
-returns c = search needs
+returns c =
+    let l = c .before in
+    let s₀ = l .before .args .s .now in
+    let n = length-replicate (length s₀) untouched in
+    let e = laid-end (replicate (length s₀) untouched) s₀ _ (l .loop .i) (omega (arith, n, l .loop .inv .as-long)) (l .loop .inv) in
+    let past : length s₀ ≤ length (replicate (length s₀) untouched) = omega (arith, n) in
+    e ∙ rw (drop-of-length-le s₀ past) (append-nil (replicate (length s₀) untouched))
 
 pub clear-spec : {M : Type 1} → statement M
 clear-spec =

@@ -1,0 +1,39 @@
+use mir.Facts.{toZ-ofZ}
+use mathlib.Core.List.{[], _∷_}
+use native.Mathlib.Omega.{arith}
+use borrow.Author.Needs.{needs}
+use Rattle.text.proofs.Puts.{put-part}
+use Rattle.cases.proofs.Printed.{put-all, listed-room, one-machine}
+use Rattle.cases.proofs.put_signed.Statement.{statement}
+use Rattle.cases.proofs.put_signed.Tie as tie
+
+slice-aggregate-put-line : tie.Need-slice-aggregate-put-line
+slice-aggregate-put-line c = search needs
+
+put-line-requires : tie.Need-put-line-requires
+put-line-requires c κs = search needs
+
+array-share-prefix-out : tie.Need-array-share-prefix-out
+array-share-prefix-out c = search needs
+
+slice-aggregate-write-all : tie.Need-slice-aggregate-write-all
+slice-aggregate-write-all c = put-part (c .before .before .put-line .ensures) (omega arith)
+
+write-all-requires : tie.Need-write-all-requires
+write-all-requires c κs = search needs
+
+returns : tie.Need-returns
+returns c =
+    let s : tie.Start = search in
+    put-all (rw (toZ-ofZ (s .fits .x)) at (c .before .before .before .put-line .ensures)) (listed-room (s .args .x ∷ []) (one-machine (s .args .x) (s .fits .x .sfits)))
+
+pub put-signed-spec : {M : Type 1} → statement M
+put-signed-spec =
+    tie.close
+    (tie.spec
+    slice-aggregate-put-line
+    put-line-requires
+    array-share-prefix-out
+    slice-aggregate-write-all
+    write-all-requires
+    returns)

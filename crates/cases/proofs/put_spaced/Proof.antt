@@ -1,0 +1,28 @@
+use borrow.Author.Needs.{needs}
+use Rattle.text.specs.Bytes.{bytes}
+use Rattle.text.proofs.Puts.{_then_}
+use Rattle.cases.specs.Cases.{spaced}
+use Rattle.cases.proofs.put_spaced.Statement.{statement}
+use Rattle.cases.proofs.put_spaced.Tie as tie
+
+slice-aggregate-put : tie.Need-slice-aggregate-put
+slice-aggregate-put c = search needs
+
+put-requires : tie.Need-put-requires
+put-requires c κs = search needs
+
+put-number-requires : tie.Need-put-number-requires
+put-number-requires c κs = search needs
+
+same-length : tie.Need-same-length
+same-length c = search needs
+
+returns : tie.Need-returns
+unfolding spaced bytes
+returns c =
+    let space : tie.After-put = search in
+    space .put .ensures then c .before .before .put-number .ensures
+
+pub put-spaced-spec : {M : Type 1} → statement M
+put-spaced-spec =
+    tie.close (tie.spec slice-aggregate-put put-requires put-number-requires same-length returns)
