@@ -10,7 +10,8 @@ use lib.Seq.{take-at}
 use lib.IntN.{ℤ, pos, natAbs}
 use borrow.Author.Tests.{not-false, eqb-true, eq-eqb, ltb-false, le-ltb}
 use Rattle.laws.proofs.Tests.{or-left, or-right}
-use Rattle.laws.proofs.Size.{Between, between, size-within}
+use Rattle.laws.specs.Range.{Between}
+use Rattle.laws.proofs.Size.{between, size-within}
 use Rattle.laws.proofs.Inside.{between-inside, size-inside}
 use Rattle.book.specs.Limits.{mostDifference}
 use Rattle.book.specs.Held.{heldWords, heldCount}
@@ -99,11 +100,11 @@ module _ (b t : ℤ) (held lines : List ℤ) where
             let h = w .0 z in
             let four = first-of h in
             let fault = or-right (differenceOut difference) (bookFault b t held lines) four in
-            (size-within 99999999 difference (or-left (differenceOut difference) (bookFault b t held lines) four), correction-only-if report number (passes-if b t held lines (none-and fault (rest-of h))) (rest-of (rest-of (rest-of h)))),
+            (size-within mostDifference difference (or-left (differenceOut difference) (bookFault b t held lines) four), correction-only-if report number (passes-if b t held lines (none-and fault (rest-of h))) (rest-of (rest-of (rest-of h)))),
         λ p.
             let a = p .1 in
             let h = passes-only-if b t held lines (a .book) (a .passes) (correction-if report number a) in
-            w .1 (none-and (rw (size-inside 99999999 difference (p .0)) (first-of h)) (rest-of h)),
+            w .1 (none-and (rw (size-inside mostDifference difference (p .0)) (first-of h)) (rest-of h)),
       )
 
 -- ---- the file

@@ -7,15 +7,16 @@ use mathlib.Core.List.{List}
 use mathlib.Core.Option.{some}
 use Prim.Native.Nat.{ℕ, zero, suc, _-_, _≤_, _<_}
 use native.Mathlib.Omega.{arith}
-use lib.Dec.{T, ltb}
+use lib.Dec.{ltb}
 use lib.ListN.{length, take, drop}
 use lib.Seq.{take-at, drop-at}
 use lib.IntN.{ℤ, pos, negsuc, natAbs, _-ℤ_}
-use lib.Ieee.{fin, binary64, inFloat, ofInt, div}
+use lib.Ieee.{fin, binary64, ofInt, div}
 use borrow.Author.Tests.{ltb-false, lt-ltb, le-ltb, not-false}
 use Rattle.laws.specs.Tests.{eqZ}
 use Rattle.laws.proofs.Tests.{or-left, or-right}
-use Rattle.laws.proofs.Size.{Between, between, size-sub}
+use Rattle.laws.specs.Range.{Between}
+use Rattle.laws.proofs.Size.{between, size-sub}
 use Rattle.book.specs.Held.{heldCount}
 use Rattle.book.specs.Line.{fromAt, toAt, differenceAt, lengthAt, standingAt, lineCount}
 use Rattle.book.specs.Test.{counts, testOf}
@@ -29,11 +30,11 @@ use Rattle.fields.proofs.Fair.{fair-lines}
 use Rattle.sights.specs.Sights.{sightsOf}
 use Rattle.sweeps.specs.Sweeps.{Settled, settled, unsettled, sweep}
 use Rattle.sweeps.specs.Squares.{squares, moveMark}
-use Rattle.sweeps.proofs.Keeping.{Kept}
+use Rattle.sweeps.specs.Kept.{Kept}
 use Rattle.sweeps.proofs.Best.{fairs-sound, sweep-not-worse}
 use Rattle.start.specs.Start.{heldHeight, isHeld, startHeights}
-use Rattle.rates.specs.Rates.{correctionAt, quotient, refusedRate, lineRate, goodRate, testedRate, rateAnswer, firstHigh}
-use Rattle.rates.proofs.Exact.{exact-below}
+use Rattle.rates.specs.Rates.{correctionAt, correctionOf, quotient, refusedRate, lineRate, goodRate, testedRate, rateAnswer, firstHigh}
+use Rattle.rates.proofs.Exact.{there-and-back}
 use Rattle.rates.proofs.Rating.{marks-of, working-lent}
 use Rattle.rates.specs.declared.Rate.the-variants.{PerKm, Withdrawn}
 use Rattle.rates.specs.declared.RateAnswer.{RateAnswer}
@@ -42,7 +43,7 @@ use Rattle.adjust.specs.Answers.{answer}
 use Rattle.adjust.specs.Call.{Given, adjusted, givenBy, adjustTested, adjustOf}
 use Rattle.adjust.proofs.Promises.{as-many, never-worse, best-at-every-mark, held-marks-keep}
 use Rattle.demands.specs.Tables.{bookFault}
-use Rattle.demands.specs.Heights.{sweepsOf, unheldMark, stillMoves, wentOutside, outsideMark, countOf, heightsOf, sweepRules, adjustRules, adjustDone, AdjustmentKeepsToTable, marksHeights, heightRules, rateRules, rateDone, RateKeepsToTable}
+use Rattle.demands.specs.Heights.{sweepsOf, unheldMark, stillMoves, wentOutside, outsideMark, countOf, heightsOf, sweepRules, adjustRules, adjustDone, AdjustmentKeepsToTable, marksHeights, heightRules, rateRules, ExactFloat, rateDone, RateKeepsToTable}
 use Rattle.demands.proofs.Rules.{byRules, cond-or, keeps-to-table}
 use Rattle.demands.proofs.BookRules.{None, none-in, none-and, first-of, rest-of, by-the-test, passes-if, passes-only-if}
 
@@ -140,22 +141,22 @@ module _ (b t : ℤ) (held lines : List ℤ) where
         (no-mark (firstHigh heights) (first-of (rest-of (rest-of (rest-of (rest-of h))))))
 
     -- "Both numbers are exact as 64-bit floats"
-    pub both-numbers-are-exact : T (inFloat binary64 (correctionAt heights lines at)) × T (inFloat binary64 (lengthAt lines at))
-    unfolding correctionAt
+    pub both-numbers-are-exact : ExactFloat (correctionAt heights lines at) × ExactFloat (lengthAt lines at)
+    unfolding correctionAt correctionOf
     both-numbers-are-exact =
         let g = lines-of b t held lines (counts b t (heldCount held) (lineCount lines)) passed .each at (omega (arith, there .low, there .high)) in
         let x = height heights (natAbs (toAt lines at)) in
         let y = height heights (natAbs (fromAt lines at)) in (
-          exact-below (x -ℤ y -ℤ differenceAt lines at)
+          there-and-back (x -ℤ y -ℤ differenceAt lines at)
               (omega (arith, size-sub (x -ℤ y) (differenceAt lines at), size-sub x y, inside .inside (natAbs (toAt lines at) - 1), inside .inside (natAbs (fromAt lines at) - 1), g .difference)),
-          exact-below (lengthAt lines at) (omega (arith, g .long .high)),
+          there-and-back (lengthAt lines at) (omega (arith, g .long .high)),
         )
 
     -- of a standing line: "adjusted minus observed difference", and the one rounded quotient of two whole numbers
     pub rate-is-one-quotient : standingAt lines at ≡ pos 1 → let c = height heights (natAbs (toAt lines at)) -ℤ height heights (natAbs (fromAt lines at)) -ℤ differenceAt lines at in
         rateAnswer b t held lines heights line
         ≡ record { number = 0; place = 0; line = natAbs line; correction = c; rate = PerKm (div binary64 (ofInt binary64 c) (ofInt binary64 (lengthAt lines at))) }
-    unfolding lineRate correctionAt quotient eqZ
+    unfolding lineRate correctionAt correctionOf quotient eqZ
     rate-is-one-quotient stands = rate-keeps-to-table heights line .finished given ∙ rw stands
 
     -- "or that the line is withdrawn"; its correction is 0

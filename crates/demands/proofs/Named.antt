@@ -44,7 +44,7 @@ faulty-book-same-at-every-call b t held lines number place e = record {
   listing-of = λ loop out. rw e;
   not-checked = λ out. rw e;
   withdrawal = λ report line. rw e;
-  re-run = λ report line difference small. rw (size-inside 99999999 difference small, e);
+  re-run = λ report line difference small. rw (size-inside mostDifference difference small, e);
   adjustment = λ out. rw e;
   rate = λ heights line as-many. rw (as-many, eqZ-same b, e);
 }
@@ -96,4 +96,4 @@ module _ (b t : ℤ) (held lines report : List ℤ) (k : Book) (passes : testOf 
   -- and so is a re-run
   pub other-report-is-refused-in-rerun : (difference : ℤ) → natAbs difference ≤ mostDifference → rerunOf b t held lines report number difference ≡ corrected (refusal 9 0) lines report
   unfolding rerunOf correctTested correctGood differenceOut
-  other-report-is-refused-in-rerun difference small = rw (size-inside 99999999 difference small, passes, line-exactly-if-stands lines number .1 (i, stands), differs)
+  other-report-is-refused-in-rerun difference small = rw (size-inside mostDifference difference small, passes, line-exactly-if-stands lines number .1 (i, stands), differs)

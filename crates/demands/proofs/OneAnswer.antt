@@ -1,55 +1,145 @@
--- "any two answers allowed are equal": each call's contract is an equation with a definition, so two answers that it allows are one. Assumes nothing.
+-- "any two answers allowed are equal": each contract is an equation with a definition, or a text put by a definition, so that two answers that it allows are one.
+-- Assumes nothing.
 use mathlib.Core.Path.{_≡_, sym, _∙_}
 use mathlib.Core.List.{List}
 use Prim.Native.Nat.{ℕ}
 use lib.IntN.{ℤ}
-use Rattle.book.specs.Test.{testOf}
+use Rattle.book.specs.Height.{heldHeightOf, workHeightOf}
+use Rattle.book.specs.Held.{heldEntryOf}
+use Rattle.book.specs.Line.{lineOf}
+use Rattle.book.specs.Test.{bookOf, testOf}
 use Rattle.book.specs.declared.Tested.{Tested}
+use Rattle.book.specs.declared.height.MadeHeight.{MadeHeight}
+use Rattle.book.specs.declared.held.MadeHeld.{MadeHeld}
+use Rattle.book.specs.declared.line.MadeLine.{MadeLine}
 use Rattle.file.specs.Read.{Outcome, readOf}
 use Rattle.survey.specs.Survey.{Surveyed, surveyOf}
 use Rattle.lists.specs.Listing.{Listing, listingOf}
 use Rattle.lists.specs.NotChecked.{notCheckedOf}
 use Rattle.survey.specs.Correction.{Corrected, rerunOf, withdrawOf}
-use Rattle.rates.specs.Rates.{rateAnswer}
+use Rattle.rates.specs.Rates.{rowOf, rateAnswer}
+use Rattle.rates.specs.declared.Rate.{Rate}
+use Rattle.rates.specs.declared.RateRow.{RateRow}
 use Rattle.rates.specs.declared.RateAnswer.{RateAnswer}
 use Rattle.adjust.specs.Call.{Given, adjustOf}
+use Rattle.text.specs.Put.{Put}
+use Rattle.text.proofs.Puts.{put-unique}
+use Rattle.page.specs.Page.{pageOf}
+use Rattle.level.specs.Signed.{ReadNow, ofRead}
+use Rattle.level.specs.Answers.{SurveyNow, ofSurvey, CorrectionNow, ofCorrection}
+use Rattle.level.specs.Listings.{ListingNow, ofListing}
+use Rattle.level.specs.Heights.{AdjustNow, ofAdjust}
+use Rattle.level.specs.Rating.{signedRate}
+use Rattle.level.specs.declared.Rated.{Rated}
+
+-- two answers that are what a definition gives are one
+one-answer : {A : Type 0} (given x y : A) → x ≡ given → y ≡ given → x ≡ y
+one-answer given x y e f = e ∙ sym f
+
+-- ---- the calls
 
 -- the reader: b, t, h and n, and both buffers
 pub reader-has-one-answer : (file : List ℕ) (held lines : List ℤ) (x y : Outcome) → x ≡ readOf file held lines → y ≡ readOf file held lines → x ≡ y
-reader-has-one-answer file held lines x y e f = e ∙ sym f
-
--- the test of a lent book
-pub test-has-one-answer : (b t : ℤ) (held lines : List ℤ) (x y : Tested) → x ≡ testOf b t held lines → y ≡ testOf b t held lines → x ≡ y
-test-has-one-answer b t held lines x y e f = e ∙ sym f
+reader-has-one-answer file held lines = one-answer (readOf file held lines)
 
 -- the survey: answer and rows
 pub survey-has-one-answer : (b t : ℤ) (held lines out : List ℤ) (x y : Surveyed) → x ≡ surveyOf b t held lines out → y ≡ surveyOf b t held lines out → x ≡ y
-survey-has-one-answer b t held lines out x y e f = e ∙ sym f
+survey-has-one-answer b t held lines out = one-answer (surveyOf b t held lines out)
 
 -- the listing of a loop: answer and output
-pub listing-has-one-answer : (b t : ℤ) (held lines : List ℤ) (loop : ℤ) (out : List ℤ) (x y : Listing) → x ≡ listingOf b t held lines loop out
-    → y ≡ listingOf b t held lines loop out → x ≡ y
-listing-has-one-answer b t held lines loop out x y e f = e ∙ sym f
+pub listing-has-one-answer : (b t : ℤ) (held lines : List ℤ) (loop : ℤ) (out : List ℤ) (x y : Listing)
+    → x ≡ listingOf b t held lines loop out → y ≡ listingOf b t held lines loop out → x ≡ y
+listing-has-one-answer b t held lines loop out = one-answer (listingOf b t held lines loop out)
 
 -- the not-checked list: answer and output
-pub not-checked-has-one-answer : (b t : ℤ) (held lines out : List ℤ) (x y : Listing) → x ≡ notCheckedOf b t held lines out → y ≡ notCheckedOf b t held lines out → x ≡ y
-not-checked-has-one-answer b t held lines out x y e f = e ∙ sym f
+pub not-checked-has-one-answer : (b t : ℤ) (held lines out : List ℤ) (x y : Listing)
+    → x ≡ notCheckedOf b t held lines out → y ≡ notCheckedOf b t held lines out → x ≡ y
+not-checked-has-one-answer b t held lines out = one-answer (notCheckedOf b t held lines out)
 
 -- re-run: answer, lines and report
-pub rerun-has-one-answer : (b t : ℤ) (held lines report : List ℤ) (line difference : ℤ) (x y : Corrected) → x ≡ rerunOf b t held lines report line difference
-    → y ≡ rerunOf b t held lines report line difference → x ≡ y
-rerun-has-one-answer b t held lines report line difference x y e f = e ∙ sym f
+pub rerun-has-one-answer : (b t : ℤ) (held lines report : List ℤ) (line difference : ℤ) (x y : Corrected)
+    → x ≡ rerunOf b t held lines report line difference → y ≡ rerunOf b t held lines report line difference → x ≡ y
+rerun-has-one-answer b t held lines report line difference = one-answer (rerunOf b t held lines report line difference)
 
 -- withdrawal: answer, lines and report
-pub withdrawal-has-one-answer : (b t : ℤ) (held lines report : List ℤ) (line : ℤ) (x y : Corrected) → x ≡ withdrawOf b t held lines report line
-    → y ≡ withdrawOf b t held lines report line → x ≡ y
-withdrawal-has-one-answer b t held lines report line x y e f = e ∙ sym f
+pub withdrawal-has-one-answer : (b t : ℤ) (held lines report : List ℤ) (line : ℤ) (x y : Corrected)
+    → x ≡ withdrawOf b t held lines report line → y ≡ withdrawOf b t held lines report line → x ≡ y
+withdrawal-has-one-answer b t held lines report line = one-answer (withdrawOf b t held lines report line)
 
 -- the adjustment: answer and heights
 pub adjustment-has-one-answer : (b t : ℤ) (held lines out : List ℤ) (x y : Given) → x ≡ adjustOf b t held lines out → y ≡ adjustOf b t held lines out → x ≡ y
-adjustment-has-one-answer b t held lines out x y e f = e ∙ sym f
+adjustment-has-one-answer b t held lines out = one-answer (adjustOf b t held lines out)
 
 -- the correction rate
-pub rate-has-one-answer : (b t : ℤ) (held lines heights : List ℤ) (line : ℤ) (x y : RateAnswer) → x ≡ rateAnswer b t held lines heights line
-    → y ≡ rateAnswer b t held lines heights line → x ≡ y
-rate-has-one-answer b t held lines heights line x y e f = e ∙ sym f
+pub rate-has-one-answer : (b t : ℤ) (held lines heights : List ℤ) (line : ℤ) (x y : RateAnswer)
+    → x ≡ rateAnswer b t held lines heights line → y ≡ rateAnswer b t held lines heights line → x ≡ y
+rate-has-one-answer b t held lines heights line = one-answer (rateAnswer b t held lines heights line)
+
+-- ---- the calls as C sees them
+
+pub level-read-has-one-answer : (file : List ℕ) (held lines : List ℤ) (x y : ReadNow)
+    → x ≡ ofRead (readOf file held lines) → y ≡ ofRead (readOf file held lines) → x ≡ y
+level-read-has-one-answer file held lines = one-answer (ofRead (readOf file held lines))
+
+pub level-survey-has-one-answer : (b t : ℤ) (held lines out : List ℤ) (x y : SurveyNow)
+    → x ≡ ofSurvey (surveyOf b t held lines out) → y ≡ ofSurvey (surveyOf b t held lines out) → x ≡ y
+level-survey-has-one-answer b t held lines out = one-answer (ofSurvey (surveyOf b t held lines out))
+
+pub level-listing-has-one-answer : (b t : ℤ) (held lines : List ℤ) (loop : ℤ) (out : List ℤ) (x y : ListingNow)
+    → x ≡ ofListing (listingOf b t held lines loop out) → y ≡ ofListing (listingOf b t held lines loop out) → x ≡ y
+level-listing-has-one-answer b t held lines loop out = one-answer (ofListing (listingOf b t held lines loop out))
+
+pub level-not-checked-has-one-answer : (b t : ℤ) (held lines out : List ℤ) (x y : ListingNow)
+    → x ≡ ofListing (notCheckedOf b t held lines out) → y ≡ ofListing (notCheckedOf b t held lines out) → x ≡ y
+level-not-checked-has-one-answer b t held lines out = one-answer (ofListing (notCheckedOf b t held lines out))
+
+pub level-rerun-has-one-answer : (b t : ℤ) (held lines report : List ℤ) (line difference : ℤ) (x y : CorrectionNow)
+    → x ≡ ofCorrection (rerunOf b t held lines report line difference) → y ≡ ofCorrection (rerunOf b t held lines report line difference) → x ≡ y
+level-rerun-has-one-answer b t held lines report line difference = one-answer (ofCorrection (rerunOf b t held lines report line difference))
+
+pub level-withdraw-has-one-answer : (b t : ℤ) (held lines report : List ℤ) (line : ℤ) (x y : CorrectionNow)
+    → x ≡ ofCorrection (withdrawOf b t held lines report line) → y ≡ ofCorrection (withdrawOf b t held lines report line) → x ≡ y
+level-withdraw-has-one-answer b t held lines report line = one-answer (ofCorrection (withdrawOf b t held lines report line))
+
+pub level-adjust-has-one-answer : (b t : ℤ) (held lines out : List ℤ) (x y : AdjustNow)
+    → x ≡ ofAdjust (adjustOf b t held lines out) → y ≡ ofAdjust (adjustOf b t held lines out) → x ≡ y
+level-adjust-has-one-answer b t held lines out = one-answer (ofAdjust (adjustOf b t held lines out))
+
+pub level-rate-has-one-answer : (b t : ℤ) (held lines heights : List ℤ) (line : ℤ) (x y : Rated)
+    → x ≡ signedRate (rateAnswer b t held lines heights line) → y ≡ signedRate (rateAnswer b t held lines heights line) → x ≡ y
+level-rate-has-one-answer b t held lines heights line = one-answer (signedRate (rateAnswer b t held lines heights line))
+
+-- ---- what is printed
+
+-- each text function: the bytes after it and the place after the text
+pub text-has-one-answer : (out a b : List ℕ) (at r s : ℕ) (text : List ℕ) → Put out a at r text → Put out b at s text → (a ≡ b) × (r ≡ s)
+text-has-one-answer out a b at r s text p q = put-unique p q
+
+-- the whole report of a file
+pub report-has-one-text : (file out a b : List ℕ) (r s : ℕ) → Put out a 0 r (pageOf file) → Put out b 0 s (pageOf file) → (a ≡ b) × (r ≡ s)
+report-has-one-text file out a b r s p q = put-unique p q
+
+-- a row for printing
+pub row-has-one-answer : (line : ℕ) (correction : ℤ) (rate : Rate) (x y : RateRow) → x ≡ rowOf line correction rate → y ≡ rowOf line correction rate → x ≡ y
+row-has-one-answer line correction rate = one-answer (rowOf line correction rate)
+
+-- ---- the test of a lent book, and the constructors
+
+pub test-has-one-answer : (b t : ℤ) (held lines : List ℤ) (x y : Tested) → x ≡ testOf b t held lines → y ≡ testOf b t held lines → x ≡ y
+test-has-one-answer b t held lines = one-answer (testOf b t held lines)
+
+pub book-has-one-answer : (b t : ℤ) (h n : ℕ) (x y : Tested) → x ≡ bookOf b t h n → y ≡ bookOf b t h n → x ≡ y
+book-has-one-answer b t h n = one-answer (bookOf b t h n)
+
+pub line-has-one-answer : (b from to difference length standing : ℤ) (x y : MadeLine)
+    → x ≡ lineOf b from to difference length standing → y ≡ lineOf b from to difference length standing → x ≡ y
+line-has-one-answer b from to difference length standing = one-answer (lineOf b from to difference length standing)
+
+pub held-entry-has-one-answer : (b mark height : ℤ) (x y : MadeHeld) → x ≡ heldEntryOf b mark height → y ≡ heldEntryOf b mark height → x ≡ y
+held-entry-has-one-answer b mark height = one-answer (heldEntryOf b mark height)
+
+pub held-height-has-one-answer : (z : ℤ) (x y : MadeHeight) → x ≡ heldHeightOf z → y ≡ heldHeightOf z → x ≡ y
+held-height-has-one-answer z = one-answer (heldHeightOf z)
+
+pub work-height-has-one-answer : (z : ℤ) (x y : MadeHeight) → x ≡ workHeightOf z → y ≡ workHeightOf z → x ≡ y
+work-height-has-one-answer z = one-answer (workHeightOf z)

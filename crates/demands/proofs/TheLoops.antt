@@ -7,6 +7,7 @@ use mathlib.Core.Option.{some}
 use Prim.Native.Nat.{ℕ, _+_, _≤_, _<_}
 use lib.ListN.{length}
 use lib.IntN.{ℤ, pos}
+use Rattle.book.specs.Limits.{leastLength}
 use Rattle.book.specs.Test.{testOf}
 use Rattle.book.specs.declared.Book.{Book}
 use Rattle.book.specs.declared.Tested.the-variants.{Good}
@@ -70,7 +71,7 @@ module _ (b t : ℤ) (held lines : List ℤ) (k : Book) (passes : testOf b t hel
   each-mark-once = each-mark-enters-once (k .marks) (standing lines) sound
 
   -- "the distance falls at each step", by the tree line's length, at least 10
-  pub distance-falls : (e : Entry) → List·Memᴰ e (treeOf (k .marks) lines) → (l : Line) → e .by ≡ some l → LeadsNearer (treeOf (k .marks) lines) e l × (10 ≤ l .length)
+  pub distance-falls : (e : Entry) → List·Memᴰ e (treeOf (k .marks) lines) → (l : Line) → e .by ≡ some l → LeadsNearer (treeOf (k .marks) lines) e l × (leastLength ≤ l .length)
   distance-falls = tree-line-leads-nearer (k .marks) (standing lines) sound
 
   -- ---- pieces and closing lines

@@ -5,7 +5,8 @@ use mathlib.Core.Path.{_≡_}
 use mathlib.Core.List.{List, [], _∷_, _++_, List·Memᴰ}
 use mathlib.Core.Option.{none, some}
 use Prim.Native.Nat.{ℕ, _-_, _≤_, _<_}
-use lib.Dec.{ltb}
+use lib.Dec.{T, ltb}
+use lib.Ieee.{binary64, inSigned, toSigned, ofInt}
 use lib.ListN.{length, take, drop}
 use lib.IntN.{ℤ, pos, natAbs, _+ℤ_}
 use Rattle.laws.specs.Tests.{outZ, eqZ}
@@ -101,6 +102,10 @@ unfoldable pub rateRules : ℤ → ℤ → List ℤ → List ℤ → List ℤ �
 unfolding eqZ bookFault outZ firstHigh
 rateRules b t held lines heights line =
     rule 4 (not (eqZ (pos (length heights)) b) || bookFault b t held lines) 0 ∷ heldRule b held ∷ lineRule b lines ∷ heightRules lines heights line
+
+-- "exact as 64-bit floats": cast to a float and back, z is z again
+abbrev pub ExactFloat : ℤ → Type 0
+ExactFloat z = T (inSigned binary64 63 (ofInt binary64 z)) × (toSigned 63 (ofInt binary64 z) ≡ z)
 
 -- the answer of a line
 abbrev pub rateDone : List ℤ → List ℤ → ℤ → RateAnswer

@@ -2,7 +2,7 @@
 -- Assumes nothing.
 use Prim.Native.Nat.{ℕ}
 use mathlib.Core.Path.{_≡_, refl}
-use mathlib.Core.Bool.{true, cond}
+use mathlib.Core.Bool.{cond}
 use mathlib.Core.List.{List, [], _∷_, _++_, map}
 use lib.IntN.{ℤ, pos, negℤ}
 use lib.ListN.{replicate}
@@ -12,8 +12,6 @@ use Rattle.laws.specs.Scan.{firstFrom, firstBad, anyBelow}
 use Rattle.network.specs.Standing as network
 use Rattle.network.specs.Tree.{tree, treeLines}
 use Rattle.network.specs.Subgraph.{numbers}
-use Rattle.network.specs.Walk.{pass}
-use Rattle.loops.specs.Row.{verdict}
 use Rattle.survey.specs.Survey.{Surveyed, surveyOf}
 use Rattle.lists.specs.Listing.{Listing, listingOf}
 use Rattle.lists.specs.NotChecked.{notCheckedOf}
@@ -23,7 +21,7 @@ use Rattle.rates.specs.declared.Rate.{Rate}
 use Rattle.rates.specs.declared.Rate.the-variants.{PerKm, Withdrawn}
 use Rattle.rates.specs.declared.RateAnswer.{RateAnswer}
 use Rattle.book.specs.Height.{workHeightOut}
-use Rattle.worked.specs.Network.{lines, held}
+use Rattle.worked.specs.Network.{line, lines, held}
 
 -- a case: the lists of numbers that it gives, and those that document 01 says
 pub record Case : Type 0 where
@@ -50,7 +48,7 @@ abbrev ofListing : Listing → List (List ℤ)
 ofListing l = (pos (l .answer .number) ∷ pos (l .answer .place) ∷ pos (l .answer .entries) ∷ []) ∷ l .out ∷ []
 
 abbrev ofCorrection : Corrected → List (List ℤ)
-ofCorrection c = (pos (c .answer .number) ∷ pos (c .answer .place) ∷ pos (c .answer .rows) ∷ pos (c .answer .pieces) ∷ []) ∷ c .report ∷ []
+ofCorrection c = (pos (c .answer .number) ∷ pos (c .answer .place) ∷ pos (c .answer .rows) ∷ pos (c .answer .pieces) ∷ []) ∷ c .lines ∷ c .report ∷ []
 
 abbrev row : ℕ → ℕ → ℕ → ℤ → ℕ → List ℤ
 row closing count length misclosure over = pos closing ∷ pos count ∷ pos length ∷ misclosure ∷ pos over ∷ []
@@ -72,13 +70,26 @@ ofRateAnswer r = (pos (r .number) ∷ pos (r .place) ∷ pos (r .line) ∷ r .co
 report : List ℤ
 report = row 6 3 4450 (minus 40000) 1 ++ row 4 3 7600 (minus 5000) 0 ++ row 3 4 6750 (pos 65000) 1
 
--- the verdict of a loop of 1,000 m with the misclosure m, at t = 40
+-- the book above with another line 6, and with another line 3
+lineSix : List ℤ → List ℤ
+lineSix six =
+    line 1 3 6345000 1600 ++ line 2 3 4235000 2500 ++ line 5 2 3060000 1000 ++ line 5 1 920000 4000 ++ line 1 4 3895000 1600 ++ six ++ line 5 4 4820000 2000
+
+lineThree : List ℤ → List ℤ
+lineThree three =
+    line 1 3 6345000 1600 ++ line 2 3 4235000 2500 ++ three ++ line 5 1 920000 4000 ++ line 1 4 3895000 1600 ++ line 4 3 2410000 1250 ++ line 5 4 4820000 2000
+
+-- a line of the table, withdrawn
+withdrawn : ℕ → ℕ → ℕ → ℕ → List ℤ
+withdrawn from to difference length = pos from ∷ pos to ∷ pos difference ∷ pos length ∷ pos 0 ∷ []
+
+-- two lines of 500 m between two marks, surveyed at t = 40: one loop of 1,000 m with the misclosure m
 edge : ℤ → List (List ℤ)
-unfolding verdict
-edge m = (verdict 40 (pass (network.line 1 1 2 m 1000) true ∷ []) ∷ []) ∷ []
+unfolding surveyOf
+edge m = ofSurvey (surveyOf (pos 2) (pos 40) [] (line 1 2 0 500 ++ (pos 1 ∷ pos 2 ∷ m ∷ pos 500 ∷ pos 1 ∷ [])) (places 5))
 
 pub cases : List Case
-unfolding lines held report edge surveyOf listingOf notCheckedOf rerunOf withdrawOf withdrawLines tree treeLines network.standing outZ outN eqZ firstFrom firstBad anyBelow rateAnswer workHeightOut quotient div ofInt round units odd size climb span
+unfolding lines held report lineSix lineThree withdrawn edge surveyOf listingOf notCheckedOf rerunOf withdrawOf withdrawLines tree treeLines network.standing outZ outN eqZ firstFrom firstBad anyBelow rateAnswer workHeightOut quotient div ofInt round units odd size climb span
 cases =
     -- (a) the three loops
     case (ofSurvey (surveyOf (pos 5) (pos 120) held lines (places 15))) (answer 3 1 ∷ report ∷ [])
@@ -90,18 +101,20 @@ cases =
     ∷ case (map pos (numbers (treeLines (tree 5 (network.standing lines)))) ∷ []) ((pos 1 ∷ pos 5 ∷ pos 7 ∷ pos 2 ∷ []) ∷ [])
     -- (c) re-run of 6 to 2,428,000: only loop 1's verdict changes
     ∷ case (ofCorrection (rerunOf (pos 5) (pos 120) held lines report (pos 6) (pos 2428000)))
-    (answer 3 1 ∷ (row 6 3 4450 (minus 22000) 0 ++ row 4 3 7600 (minus 5000) 0 ++ row 3 4 6750 (pos 47000) 1) ∷ [])
+    (answer 3 1 ∷ lineSix (line 4 3 2428000 1250) ∷ (row 6 3 4450 (minus 22000) 0 ++ row 4 3 7600 (minus 5000) 0 ++ row 3 4 6750 (pos 47000) 1) ∷ [])
     -- (d) withdraw 6: rows for 4 (unchanged) and 3, the vacated row zeros
     ∷ case (ofCorrection (withdrawOf (pos 5) (pos 120) held lines report (pos 6)))
-    (answer 2 1 ∷ (row 4 3 7600 (minus 5000) 0 ++ row 3 5 8700 (pos 25000) 0 ++ places 5) ∷ [])
+    (answer 2 1 ∷ lineSix (withdrawn 4 3 2410000 1250) ∷ (row 4 3 7600 (minus 5000) 0 ++ row 3 5 8700 (pos 25000) 0 ++ places 5) ∷ [])
     ∷ case (ofListing (listingOf (pos 5) (pos 120) held (withdrawLines lines (pos 6)) (pos 2) (places 5)))
     ((pos 0 ∷ pos 0 ∷ pos 5 ∷ []) ∷ (pos 3 ∷ pos 2 ∷ minus 1 ∷ pos 5 ∷ minus 7 ∷ []) ∷ [])
     -- (e) withdraw 3: two loops, line 2 not checked
     ∷ case (ofCorrection (withdrawOf (pos 5) (pos 120) held lines report (pos 3)))
-    (answer 2 1 ∷ (row 6 3 4450 (minus 40000) 1 ++ row 4 3 7600 (minus 5000) 0 ++ places 5) ∷ [])
+    (answer 2 1 ∷ lineThree (withdrawn 5 2 3060000 1000) ∷ (row 6 3 4450 (minus 40000) 1 ++ row 4 3 7600 (minus 5000) 0 ++ places 5) ∷ [])
     ∷ case (ofListing (notCheckedOf (pos 5) (pos 120) held (withdrawLines lines (pos 3)) (places 1))) ((pos 0 ∷ pos 0 ∷ pos 1 ∷ []) ∷ (pos 2 ∷ []) ∷ [])
     -- (f) t = 40, L = 1000: m = 4000 within, -4000 within, 4001 over
-    ∷ case (edge (pos 4000)) ((pos 0 ∷ []) ∷ []) ∷ case (edge (minus 4000)) ((pos 0 ∷ []) ∷ []) ∷ case (edge (pos 4001)) ((pos 1 ∷ []) ∷ [])
+    ∷ case (edge (pos 4000)) (answer 1 1 ∷ row 2 2 1000 (pos 4000) 0 ∷ [])
+    ∷ case (edge (minus 4000)) (answer 1 1 ∷ row 2 2 1000 (minus 4000) 0 ∷ [])
+    ∷ case (edge (pos 4001)) (answer 1 1 ∷ row 2 2 1000 (pos 4001) 1 ∷ [])
     -- (g) n = 0: no loop, b pieces
     ∷ case (ofSurvey (surveyOf (pos 5) (pos 120) held [] [])) (answer 0 5 ∷ [] ∷ [])
     -- (h) rate of 500 over 2000 m is 0.25: line 7, between marks 5 at 0 and 4 at its difference and 500 more
