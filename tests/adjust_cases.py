@@ -1,9 +1,10 @@
 #!/usr/bin/env python3
 """Writes the standard input of crates/adjust_cases and crates/heights and, from a reading of document 01 of its own, what the two
-programs must print. Run it at the repository's root after a change of the cases."""
+programs must print. Run it after a change of the cases; --check only compares."""
 import random
 import struct
 
+import stored
 from reader_cases import HEIGHT, UNTOUCHED, WORKED, book, digest, held, line, shown
 from survey_cases import tree_and_closing
 
@@ -181,20 +182,23 @@ def sheet(file):
     return text
 
 
-def main():
-    files, text = b"", ""
+def files():
+    given, wanted = b"", ""
     for name, file, room, spoilt in cases():
         assert len(name) <= 48, name
-        files += name.ljust(48).encode() + struct.pack(">HHH", room, spoilt, len(file)) + file
-        text += f"{name:48}\n" + outcome(file, room, spoilt)
-    assert len(files) <= 131072, len(files)
+        given += name.ljust(48).encode() + struct.pack(">HHH", room, spoilt, len(file)) + file
+        wanted += f"{name:48}\n" + outcome(file, room, spoilt)
+    assert len(given) <= 131072, len(given)
     settled = adjust(5, *read(WORKED)[2:])
     assert settled[0] == (0, 0, 15)
     assert all(abs(z - want) <= 100 for z, want in zip(settled[1][1:], (102_123_500, 106_335_800, 103_907_200, 99_072_600)))
-    for name, data in (("adjust_cases/stdin", files), ("adjust_cases/stdout", text.encode()), ("heights/stdin", WORKED), ("heights/stdout", sheet(WORKED).encode())):
-        with open(f"crates/{name}", "wb") as f:
-            f.write(data)
+    return {
+        "crates/adjust_cases/stdin": given,
+        "crates/adjust_cases/stdout": wanted.encode(),
+        "crates/heights/stdin": WORKED,
+        "crates/heights/stdout": sheet(WORKED).encode(),
+    }
 
 
 if __name__ == "__main__":
-    main()
+    stored.main(files())

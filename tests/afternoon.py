@@ -1,8 +1,9 @@
 #!/usr/bin/env python3
 """Writes crates/afternoon/stdin (the worked network's file and the steps of an afternoon) and, from a reading of document 01 of its own,
-crates/afternoon/stdout (what the program must print of them). Run it at the repository's root after a change of the steps."""
+crates/afternoon/stdout (what the program must print of them). Run it after a change of the steps; --check only compares."""
 import struct
 
+import stored
 from reader_cases import DIFFERENCE, HEIGHT, UNTOUCHED, WORKED, answer
 from survey_cases import ROW, survey
 
@@ -199,15 +200,12 @@ def played():
     return text
 
 
-def main():
+def files():
     steps = b"".join(struct.pack(">HHH", len(s[0]), s[1], s[2]) + number(s[3]) + number(s[4]) + s[0].encode() for s in STEPS)
     given = struct.pack(">H", len(WORKED)) + WORKED + steps
     assert len(given) <= 16384, len(given)
-    with open("crates/afternoon/stdin", "wb") as f:
-        f.write(given)
-    with open("crates/afternoon/stdout", "w", encoding="utf-8") as f:
-        f.write(played())
+    return {"crates/afternoon/stdin": given, "crates/afternoon/stdout": played().encode()}
 
 
 if __name__ == "__main__":
-    main()
+    stored.main(files())

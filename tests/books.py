@@ -1,8 +1,6 @@
 #!/usr/bin/env python3
-"""Writes the book files of books/ from the tables below: tests/books.py [FOLDER]"""
-import os
-import sys
-
+"""Writes the book files of books/ from the tables below. Run it after a change of the tables; --check only compares."""
+import stored
 from reader_cases import book, held, line
 
 
@@ -71,13 +69,5 @@ BOOKS = {
 }
 
 
-def main():
-    folder = sys.argv[1] if len(sys.argv) > 1 else os.path.join(os.path.dirname(__file__), "..", "books")
-    os.makedirs(folder, exist_ok=True)
-    for name, data in BOOKS.items():
-        with open(os.path.join(folder, name + ".book"), "wb") as out:
-            out.write(data)
-
-
 if __name__ == "__main__":
-    main()
+    stored.main({f"books/{name}.book": file for name, file in BOOKS.items()})

@@ -1,8 +1,9 @@
 #!/usr/bin/env python3
 """Writes crates/page_cases/stdin (book files, one case after the other) and, from a slow reading of document 01 of its own,
-crates/page_cases/stdout (their reports). Run it at the repository's root after a change of the cases."""
+crates/page_cases/stdout (their reports). Run it after a change of the cases; --check only compares."""
 import struct
 
+import stored
 from books import BOOKS
 from reader_cases import WORKED, answer, book, line
 from survey_cases import loops_of
@@ -11,20 +12,22 @@ NAME_BYTES = 48
 
 
 def joined(lines, start, goal):
+    beside = {}
+    for a, z, *_ in lines:
+        beside.setdefault(a, set()).add(z)
+        beside.setdefault(z, set()).add(a)
     seen, todo = {start}, [start]
     while todo:
-        at = todo.pop()
-        for a, z, *_ in lines:
-            for x, y in ((a, z), (z, a)):
-                if x == at and y not in seen:
-                    seen.add(y)
-                    todo.append(y)
+        new = beside.get(todo.pop(), set()) - seen
+        seen |= new
+        todo += new
     return goal in seen
 
 
 def not_checked(lines):
-    """Lines without which their two ends are apart: no circuit passes them."""
-    return [i + 1 for i, l in enumerate(lines) if not joined(lines[:i] + lines[i + 1 :], l[0], l[1])]
+    """Standing lines without which their two ends are apart: no circuit passes them."""
+    standing = [(i, l) for i, l in enumerate(lines) if l[4]]
+    return [i + 1 for i, l in standing if not joined([m for j, m in standing if j != i], l[0], l[1])]
 
 
 def report(file):
@@ -64,12 +67,13 @@ def cases():
     yield "a checked pair on a chain", book(4, 40, lines=[line(1, 2, 7, 10), line(2, 3, 7, 10), line(3, 2, -9, 10), line(3, 4, 7, 10)])
 
 
-def main():
-    with open("crates/page_cases/stdin", "wb") as given, open("crates/page_cases/stdout", "w") as wanted:
-        for name, file in cases():
-            given.write(name.encode().ljust(NAME_BYTES) + struct.pack(">H", len(file)) + file)
-            wanted.write(name.ljust(NAME_BYTES) + "\n" + report(file))
+def files():
+    given, wanted = b"", ""
+    for name, file in cases():
+        given += name.encode().ljust(NAME_BYTES) + struct.pack(">H", len(file)) + file
+        wanted += name.ljust(NAME_BYTES) + "\n" + report(file)
+    return {"crates/page_cases/stdin": given, "crates/page_cases/stdout": wanted.encode()}
 
 
 if __name__ == "__main__":
-    main()
+    stored.main(files())

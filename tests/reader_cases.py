@@ -1,7 +1,9 @@
 #!/usr/bin/env python3
 """Writes crates/reader_cases/stdin (book files, one case after the other) and, from a reading of document 01 of its own,
-crates/reader_cases/stdout (what the program must print of them). Run it at the repository's root after a change of the cases."""
+crates/reader_cases/stdout (what the program must print of them). Run it after a change of the cases; --check only compares."""
 import struct
+
+import stored
 
 UNTOUCHED = -7777
 HEIGHT, DIFFERENCE = 10**10, 10**8
@@ -144,19 +146,16 @@ def cases():
     yield from limits()
 
 
-def main():
-    files, lines = b"", ""
+def files():
+    given, wanted = b"", ""
     for case in cases():
         name, file, held_places, line_places = (*case, 520, 2600)[:4]
         assert len(name) <= 48, name
-        files += name.ljust(48).encode() + struct.pack(">HHH", held_places, line_places, len(file)) + file
-        lines += f"{name:48} |" + outcome(file, held_places, line_places) + "\n"
-    assert len(files) <= 131072, len(files)
-    with open("crates/reader_cases/stdin", "wb") as f:
-        f.write(files)
-    with open("crates/reader_cases/stdout", "w", encoding="utf-8") as f:
-        f.write(lines)
+        given += name.ljust(48).encode() + struct.pack(">HHH", held_places, line_places, len(file)) + file
+        wanted += f"{name:48} |" + outcome(file, held_places, line_places) + "\n"
+    assert len(given) <= 131072, len(given)
+    return {"crates/reader_cases/stdin": given, "crates/reader_cases/stdout": wanted.encode()}
 
 
 if __name__ == "__main__":
-    main()
+    stored.main(files())

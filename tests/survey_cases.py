@@ -1,9 +1,10 @@
 #!/usr/bin/env python3
 """Writes crates/survey_cases/stdin (books, one case after the other) and, from a slow reading of document 01 of its own,
-crates/survey_cases/stdout (what the program must print of them). Run it at the repository's root after a change of the cases."""
+crates/survey_cases/stdout (what the program must print of them). Run it after a change of the cases; --check only compares."""
 import random
 import struct
 
+import stored
 from reader_cases import UNTOUCHED, WORKED, book, digest, held, line, shown
 
 ROW = 5
@@ -152,18 +153,15 @@ def cases():
         yield f"scattered, many lengths, {seed}", scattered(200 + seed, 9, 14, list(range(10, 500)))
 
 
-def main():
-    files, text = b"", ""
+def files():
+    given, wanted = b"", ""
     for name, file in cases():
         assert len(name) <= 48, name
-        files += name.ljust(48).encode() + struct.pack(">H", len(file)) + file
-        text += f"{name:48}\n" + outcome(file)
-    assert len(files) <= 131072, len(files)
-    with open("crates/survey_cases/stdin", "wb") as f:
-        f.write(files)
-    with open("crates/survey_cases/stdout", "w", encoding="utf-8") as f:
-        f.write(text)
+        given += name.ljust(48).encode() + struct.pack(">H", len(file)) + file
+        wanted += f"{name:48}\n" + outcome(file)
+    assert len(given) <= 131072, len(given)
+    return {"crates/survey_cases/stdin": given, "crates/survey_cases/stdout": wanted.encode()}
 
 
 if __name__ == "__main__":
-    main()
+    stored.main(files())
