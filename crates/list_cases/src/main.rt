@@ -1,0 +1,155 @@
+// Lists the loops of many books and the lines that are not checked, withdraws a line and lists again, spoils the book number by
+// number, and prints every answer and what the output then holds. A case on standard input: 48 bytes of name, how many numbers of
+// output are lent, the file's length (2 bytes each), the file. tests/list_cases.py makes the cases and, on its own, what is printed
+// of them.
+ghost use Prim.Native.Nat.{_≤_};
+use book::Book;
+
+const NAME_BYTES: usize = 48;
+
+const CASE_BYTES: usize = 52;
+
+// How many numbers a line has in a lent book, and a held entry.
+const LINE: usize = 5;
+
+const HELD: usize = 2;
+
+// Where the standing of line 3 is, which document 01 withdraws from the worked network: line 2 is then not checked.
+const STANDING: usize = 14;
+
+// No book has more loops than lines, so that this number is past the last of any.
+const PAST_ALL: usize = 513;
+
+const NO_SUCH_LOOP: usize = 8;
+
+fn put(text: &[u8]) {
+    io::write_all(cases::STDOUT, text);
+}
+
+fn put_listed(a: lists::Listed, out: &[i64]) {
+    put(b":");
+    cases::put(a.number);
+    cases::put(a.place);
+    cases::put(a.entries);
+    put(b" |");
+    cases::show_numbers(out);
+    put(b"\n");
+}
+
+// Lists the loop of this number, and gives back the answer's refusal number.
+fn list_loop(b: i64, t: i64, held: &[i64], lines: &[i64], number: i64, out: &mut [i64]) -> usize {
+    let a = lists::listing(b, t, held, lines, number, out);
+    put(b"  loop");
+    cases::put_signed(number);
+    put_listed(a, out);
+    a.number
+}
+
+// Every loop from the first, and the number past the last.
+fn list_from_first(b: i64, t: i64, held: &[i64], lines: &[i64], out: &mut [i64]) {
+    let mut number = 1;
+    while number <= PAST_ALL {
+        if list_loop(b, t, held, lines, signed::signed_count(number), out) == NO_SUCH_LOOP {
+            return;
+        }
+        number += 1;
+    }
+}
+
+fn list_loops(b: i64, t: i64, held: &[i64], lines: &[i64], out: &mut [i64]) {
+    list_loop(b, t, held, lines, -1, out);
+    list_loop(b, t, held, lines, 0, out);
+    list_from_first(b, t, held, lines, out);
+}
+
+fn not_checked(b: i64, t: i64, held: &[i64], lines: &[i64], out: &mut [i64]) {
+    let a = lists::not_checked(b, t, held, lines, out);
+    put(b"  not checked");
+    put_listed(a, out);
+}
+
+fn withdraw(lines: &mut [i64]) {
+    if STANDING < lines.len() {
+        lines[STANDING] = 0;
+    }
+}
+
+fn without_it(b: i64, t: i64, held: &[i64], lines: &mut [i64], out: &mut [i64]) {
+    put(b"line 3 withdrawn\n");
+    withdraw(lines);
+    not_checked(b, t, held, lines, out);
+    list_loops(b, t, held, lines, out);
+}
+
+// Both lists of a book that is spoilt.
+fn list_spoilt(name: &[u8], b: i64, t: i64, held: &[i64], lines: &[i64], out: &mut [i64]) {
+    put(name);
+    list_loop(b, t, held, lines, 1, out);
+    not_checked(b, t, held, lines, out);
+}
+
+// The last entry, of so many numbers, begins with 0: a line then runs from mark 0, and a held entry is of mark 0.
+fn spoil_last(entries: &mut [i64], words: usize)
+    requires { ⌜ 1 ≤ words ⌝ }
+{
+    if words <= entries.len() {
+        let at = entries.len() - words;
+        entries[at] = 0;
+    }
+}
+
+// What is spoilt stays so, and of several refusals the lowest number is given: 7, then 6, then 4.
+fn spoil(b: i64, t: i64, held: &mut [i64], lines: &mut [i64], out: &mut [i64]) {
+    spoil_last(lines, LINE);
+    list_spoilt(b"the last line from mark 0\n", b, t, held, lines, out);
+    spoil_last(held, HELD);
+    list_spoilt(b"the last held entry of mark 0\n", b, t, held, lines, out);
+    list_spoilt(b"a tolerance of 0\n", b, 0, held, lines, out);
+}
+
+fn run(b: i64, t: i64, held: &mut [i64], lines: &mut [i64], out: &mut [i64]) {
+    cases::clear(out);
+    list_loops(b, t, held, lines, out);
+    not_checked(b, t, held, lines, out);
+    without_it(b, t, held, lines, out);
+    spoil(b, t, held, lines, out);
+}
+
+fn read_and_run(file: &[u8], held: &mut [i64], lines: &mut [i64], out: &mut [i64]) {
+    let book = file::read(file, held, lines);
+    let b = signed::signed_count(book.b % 65536);
+    let t = signed::signed_count(book.t % 65536);
+    let held_words = cases::at_most(book.h % 600 * HELD, held.len());
+    let line_words = cases::at_most(book.n % 600 * LINE, lines.len());
+    run(b, t, &mut held[..held_words], &mut lines[..line_words], out);
+}
+
+fn one_case(name: &[u8], file: &[u8], room: usize) {
+    put(name);
+    put(b"\n");
+    let mut held = [0i64; Book::HELD_WORDS];
+    let mut lines = [0i64; Book::LINE_WORDS];
+    let mut out = [0i64; 300];
+    let lent = cases::at_most(room, 300);
+    read_and_run(file, &mut held[..], &mut lines[..], &mut out[..lent]);
+}
+
+fn all_cases(input: &[u8]) {
+    let mut at = 0;
+    while CASE_BYTES <= input.len() - at {
+        let body = at + CASE_BYTES;
+        let len = cases::two(input, at + NAME_BYTES + 2);
+        if input.len() - body < len {
+            return;
+        }
+        let room = cases::two(input, at + NAME_BYTES);
+        one_case(&input[at..at + NAME_BYTES], &input[body..body + len], room);
+        at = body + len;
+    }
+}
+
+fn main() {
+    let mut space = [0u8; 131072];
+    let got = io::read_full(cases::STDIN, &mut space);
+    all_cases(&space[..got]);
+}
