@@ -1,8 +1,7 @@
 /*
  * level.h: level-network reduction, the calls of liblevel.a.
  *
- * The archive has level_read, level_survey, level_rerun, level_withdraw and level_rate today; the other calls are
- * declared here as they will be.
+ * The archive has the eight calls that are declared here. docs/PROMISES.md says what is proved of each.
  *
  * THE BOOK
  *
