@@ -4,21 +4,18 @@
 // of them.
 ghost use Prim.Native.Nat.{_≤_};
 use book::Book;
+use book::held::Held;
+use book::line::Line;
 
 const NAME_BYTES: usize = 48;
 
 const CASE_BYTES: usize = 52;
 
-// How many numbers a line has in a lent book, and a held entry.
-const LINE: usize = 5;
-
-const HELD: usize = 2;
-
 // Where the standing of line 3 is, which document 01 withdraws from the worked network: line 2 is then not checked.
-const STANDING: usize = 14;
+const STANDING: usize = 2 * Line::WORDS + Line::STANDING;
 
 // No book has more loops than lines, so that this number is past the last of any.
-const PAST_ALL: usize = 513;
+const PAST_ALL: usize = Book::MAX_LINES + 1;
 
 const NO_SUCH_LOOP: usize = 8;
 
@@ -100,9 +97,9 @@ fn spoil_last(entries: &mut [i64], words: usize)
 
 // What is spoilt stays so, and of several refusals the lowest number is given: 7, then 6, then 4.
 fn spoil(b: i64, t: i64, held: &mut [i64], lines: &mut [i64], out: &mut [i64]) {
-    spoil_last(lines, LINE);
+    spoil_last(lines, Line::WORDS);
     list_spoilt(b"the last line from mark 0\n", b, t, held, lines, out);
-    spoil_last(held, HELD);
+    spoil_last(held, Held::WORDS);
     list_spoilt(b"the last held entry of mark 0\n", b, t, held, lines, out);
     list_spoilt(b"a tolerance of 0\n", b, 0, held, lines, out);
 }
@@ -119,8 +116,8 @@ fn read_and_run(file: &[u8], held: &mut [i64], lines: &mut [i64], out: &mut [i64
     let book = file::read(file, held, lines);
     let b = signed::signed_count(book.b % 65536);
     let t = signed::signed_count(book.t % 65536);
-    let held_words = cases::at_most(book.h % 600 * HELD, held.len());
-    let line_words = cases::at_most(book.n % 600 * LINE, lines.len());
+    let held_words = cases::at_most(book.h % 600 * Held::WORDS, held.len());
+    let line_words = cases::at_most(book.n % 600 * Line::WORDS, lines.len());
     run(b, t, &mut held[..held_words], &mut lines[..line_words], out);
 }
 

@@ -98,9 +98,9 @@ pub record HeldEntries (held : List ℤ) (b h : ℕ) : Type 0 where
 abbrev pub rootsFrom : (ℕ → Rooted) → (ℕ → Option ℤ) → ℕ → ℕ → ℕ → Option ℤ
 rootsFrom at held b v r = rootHeight at held r (suc v) (b - v)
 
--- no root is higher, either way, than a held mark and a tree of 256 marks can put it
+-- no root is higher, either way, than a held mark and a tree of the most marks can put it
 abbrev pub mostRoot : ℕ
-mostRoot = 35600000000
+mostRoot = mostHeldHeight + mostMarks * mostDifference
 
 -- what the arrays say of the held height of mark m
 abbrev pub gives : List Bool → List ℤ → ℕ → Option ℤ

@@ -9,10 +9,19 @@ use mathlib.Core.List.{List}
 use lib.ListN.{getD}
 use lib.IntN.{ℤ, pos, natAbs, _+ℤ_, _-ℤ_, +ℤ-assoc, +ℤ-idr}
 use Rattle.laws.proofs.Size.{size-add, size-sub, size-mul}
+use Rattle.divisions.specs.Weight.{mostWeight}
+use Rattle.book.specs.Limits.{mostHeight, mostDifference}
 use Rattle.fields.specs.Heights.{Working}
 use Rattle.sights.specs.Sights.{pull}
 use Rattle.sights.specs.Table.{seen, Ends}
 use Rattle.sweeps.specs.Turns.{termAt}
+
+-- the most that a line adds to g: its weight, times how far the height given from the other end can be from the present one
+abbrev pub mostApart : ℕ
+mostApart = 2 * mostHeight + mostDifference
+
+abbrev pub mostTerm : ℕ
+mostTerm = mostWeight * mostApart
 
 -- fewer places
 pub shorter : {other : List ℕ} {rise : List ℤ} {weight : List ℕ} {b e k : ℕ} → Ends other rise weight b e → k ≤ e → Ends other rise weight b k
@@ -48,8 +57,8 @@ module _ (other : List ℕ) (rise : List ℤ) (weight : List ℕ) (hs : List ℤ
       let k : e - j ≡ 0 = omega arith in
       sym (+ℤ-idr g) ∙ rw k at inv
 
-  module _ (b e : ℕ) (ends : Ends other rise weight b e) (working : Working hs b) (low : natAbs z ≤ 50000000000) where
-    pub term-size : (j : ℕ) → natAbs (termAt other rise weight hs z j) ≤ 10010000000000000
+  module _ (b e : ℕ) (ends : Ends other rise weight b e) (working : Working hs b) (low : natAbs z ≤ mostHeight) where
+    pub term-size : (j : ℕ) → natAbs (termAt other rise weight hs z j) ≤ mostTerm
     unfolding termAt
     term-size j =
         let x = getD hs (getD other j 0) (pos 0) in
@@ -59,12 +68,12 @@ module _ (other : List ℕ) (rise : List ℤ) (weight : List ℕ) (hs : List ℤ
         let hw = ends .weightIn j in
         let a = size-add x r in
         let s = size-sub (x +ℤ r) z in
-        let d : natAbs (x +ℤ r -ℤ z) ≤ 100100000000 = omega arith in
-        let k : getD weight j 0 * natAbs (x +ℤ r -ℤ z) ≤ 100000 * 100100000000 = mul-le-mul hw d in
+        let d : natAbs (x +ℤ r -ℤ z) ≤ mostApart = omega arith in
+        let k : getD weight j 0 * natAbs (x +ℤ r -ℤ z) ≤ mostWeight * mostApart = mul-le-mul hw d in
         rw (size-mul (pos (getD weight j 0)) (x +ℤ r -ℤ z)) (omega arith)
 
     -- g fits 64 bits: at most 512 lines
-    pub pull-size : (j k : ℕ) → natAbs (pull hs z (seen other rise weight j k)) ≤ k * 10010000000000000
+    pub pull-size : (j k : ℕ) → natAbs (pull hs z (seen other rise weight j k)) ≤ k * mostTerm
     unfolding pull seen
     pull-size j zero = omega arith
     pull-size j (suc k) =

@@ -12,6 +12,7 @@ use lib.ListN.{getD, set, length-set}
 use lib.IntN.{ℤ, pos, natAbs, _+ℤ_}
 use Rattle.laws.specs.Tests.{eqZ}
 use Rattle.laws.proofs.Size.{size-within}
+use Rattle.divisions.specs.Weight.{mostWeight}
 use Rattle.book.specs.Limits.{mostHeight}
 use Rattle.book.specs.Height.{workHeightOut}
 use Rattle.fields.specs.Heights.{height, Working}
@@ -25,7 +26,7 @@ use Rattle.sweeps.proofs.Best.{no-weight}
 use Rattle.sweeps.proofs.Sums.{pull-size}
 
 module _ (other : List ℕ) (rise : List ℤ) (weight : List ℕ) (b e : ℕ) (ends : Ends other rise weight b e) where
-  pub weights-size : (j k : ℕ) → weights (seen other rise weight j k) ≤ k * 100000
+  pub weights-size : (j k : ℕ) → weights (seen other rise weight j k) ≤ k * mostWeight
   unfolding weights seen
   weights-size j zero = omega arith
   weights-size j (suc k) =

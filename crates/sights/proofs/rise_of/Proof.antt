@@ -6,6 +6,7 @@ use mir.Syntax.{w64}
 use mir.Val.{toZ, ofZ}
 use Rattle.laws.proofs.Signed.{stored}
 use Rattle.laws.proofs.Size.{size-neg}
+use Rattle.book.specs.Limits.{mostDifference}
 use Rattle.book.specs.Line.{differenceAt}
 use Rattle.sights.specs.Sights.{Sight}
 use Rattle.fields.proofs.Readback.{read}
@@ -15,7 +16,7 @@ use Rattle.sights.proofs.rise_of.Statement.{statement}
 use Rattle.sights.proofs.rise_of.Tie as tie
 
 difference-read : (s : tie.Start) → toZ w64 (ofZ w64 (differenceAt (s .args .lines .now) (s .args .j / 2))) ≡ differenceAt (s .args .lines .now) (s .args .j / 2)
-difference-read s = read (differenceAt (s .args .lines .now) (s .args .j / 2)) 100000000 (s .pre .good .difference) (omega arith)
+difference-read s = read (differenceAt (s .args .lines .now) (s .args .j / 2)) mostDifference (s .pre .good .difference) (omega arith)
 
 mul-d : tie.Need-mul-d
 mul-d c = search needs

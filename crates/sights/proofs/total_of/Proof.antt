@@ -1,6 +1,7 @@
 use mathlib.Core.Path.{_≡_}
 use Prim.Native.Nat.{_+_, _-_, _*_, _≤_}
 use native.Mathlib.Omega.{arith}
+use Rattle.divisions.specs.Weight.{mostWeight}
 use Rattle.sights.specs.Table.{weighed}
 use Rattle.sights.proofs.Rowing.{weighed-turn, weighed-end}
 use borrow.Author.Needs.{needs}
@@ -8,7 +9,7 @@ use Rattle.sights.proofs.total_of.Statement.{statement}
 use Rattle.sights.proofs.total_of.Tie as tie
 
 abbrev Inv-loop : tie.InvT-loop
-Inv-loop weight a e sum₀ j₀ sum j = (a ≤ j) × (j ≤ e) × (sum ≤ (j - a) * 100000) × (sum + weighed weight j (e - j) ≡ weighed weight a (e - a))
+Inv-loop weight a e sum₀ j₀ sum j = (a ≤ j) × (j ≤ e) × (sum ≤ (j - a) * mostWeight) × (sum + weighed weight j (e - j) ≡ weighed weight a (e - a))
 
 abbrev μ-loop : tie.MeasureT-loop
 μ-loop weight a e sum₀ j₀ sum j = e - j

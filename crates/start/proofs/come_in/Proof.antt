@@ -6,6 +6,7 @@ use lib.IntN.{pos}
 use mir.Syntax.{w64}
 use mir.Val.{toZ, ofZ}
 use Rattle.laws.proofs.Signed.{back, stored}
+use Rattle.book.specs.Limits.{mostDifference}
 use Rattle.fields.proofs.Readback.{read}
 use Rattle.fields.proofs.Stands.{place-of}
 use Rattle.start.proofs.Coming.{come-root, come-up, come-down}
@@ -14,7 +15,7 @@ use Rattle.start.proofs.come_in.Statement.{statement}
 use Rattle.start.proofs.come_in.Tie as tie
 
 over-read : (s : tie.Start) (i : ℕ) → toZ w64 (ofZ w64 (getD (s .args .over .now) i (pos 0))) ≡ getD (s .args .over .now) i (pos 0)
-over-read s i = read (getD (s .args .over .now) i (pos 0)) (s .args .k * 100000000) (s .pre .1 .0 .size i) (omega (arith, s .pre .1 .1 .3))
+over-read s i = read (getD (s .args .over .now) i (pos 0)) (s .args .k * mostDifference) (s .pre .1 .0 .size i) (omega (arith, s .pre .1 .1 .3))
 
 returns : tie.Need-returns
 returns c = let s = c .before .before in come-root (s .args .lines .now) (s .args .root .now) (s .args .over .now) (s .args .b) (s .args .k) (s .args .m) (s .pre .1 .0) (s .args .j) (c .if1 .taken) (s .pre .1 .1 .0) (s .pre .1 .1 .1)

@@ -4,6 +4,7 @@ use native.Mathlib.Omega.{arith}
 use lib.ListN.{getD}
 use mir.Syntax.{w64}
 use mir.Val.{toZ, ofZ}
+use Rattle.book.specs.Limits.{mostDifference}
 use Rattle.fields.proofs.Readback.{read}
 use Rattle.start.proofs.Coming.{entered, ends-of}
 use borrow.Author.Needs.{needs}
@@ -67,7 +68,7 @@ returns : tie.Need-returns
 returns c =
     let s : tie.Start = search in
     let r = c .before .come-in in
-    let e : toZ w64 (ofZ w64 (r .result .over)) ≡ r .result .over = read (r .result .over) ((s .args .k + 1) * 100000000) (r .ensures .size) (omega (arith, s .pre .1 .1 .1 .0, s .pre .1 .1 .1 .1)) in
+    let e : toZ w64 (ofZ w64 (r .result .over)) ≡ r .result .over = read (r .result .over) ((s .args .k + 1) * mostDifference) (r .ensures .size) (omega (arith, s .pre .1 .1 .1 .0, s .pre .1 .1 .1 .1)) in
     rw e
     (entered (s .args .lines .now) (s .args .order .now) (s .args .came .now) (s .args .b) (s .args .n) (s .args .k) (s .pre .1 .0) (s .pre .1 .1 .1 .0) (s .args .root .now) (s .args .over .now) (r .result .root) (r .result .over) (s .pre .1 .1 .0)
     (ends-of (s .args .lines .now) (s .args .b) (s .args .n) (s .pre .0) (getD (s .args .came .now) (s .args .k) 0) (s .pre .1 .0 .lines (s .args .k) (s .pre .1 .1 .1 .0))) (r .ensures))

@@ -6,6 +6,7 @@ use mir.Syntax.{w64}
 use mir.Val.{toZ, ofZ}
 use Rattle.laws.proofs.Signed.{back}
 use Rattle.laws.proofs.Size.{not-negative}
+use Rattle.book.specs.Limits.{mostHeldHeight}
 use Rattle.book.specs.Held.{markAt, heightAt}
 use Rattle.fields.proofs.Readback.{read}
 use Rattle.start.proofs.Holding.{held-more}
@@ -68,7 +69,7 @@ returns : tie.Need-returns
 returns c =
     let s : tie.Start = search in
     held-more (s .args .held .now) (s .args .flags .now) (s .args .own .now) (s .args .b) (s .args .i) (c .before .index .result - 1) (toZ w64 (ofZ w64 (heightAt (s .args .held .now) (s .args .i)))) (s .pre .0) (s .pre .1)
-    (omega (arith, mark-read (c .before), s .pre .0 .good .mark .low)) (read (heightAt (s .args .held .now) (s .args .i)) 10000000000 (s .pre .0 .good .height) (omega arith))
+    (omega (arith, mark-read (c .before), s .pre .0 .good .mark .low)) (read (heightAt (s .args .held .now) (s .args .i)) mostHeldHeight (s .pre .0 .good .height) (omega arith))
 
 pub hold-spec : {M : Type 1} → statement M
 hold-spec =

@@ -1,3 +1,4 @@
+use Prim.Native.Nat.{_*_}
 use mathlib.Core.Path.{_≡_, _∙_}
 use native.Mathlib.Omega.{arith}
 use lib.ListN.{getD}
@@ -5,6 +6,7 @@ use lib.IntN.{pos}
 use mir.Syntax.{w64}
 use mir.Val.{toZ, ofZ}
 use Rattle.laws.proofs.Signed.{stored}
+use Rattle.book.specs.Limits.{mostMarks, mostDifference, mostHeldHeight}
 use Rattle.fields.proofs.Readback.{read}
 use Rattle.start.proofs.Lifting.{lift-held, lift-free}
 use borrow.Author.Needs.{needs}
@@ -12,10 +14,10 @@ use Rattle.start.proofs.lift.Statement.{statement}
 use Rattle.start.proofs.lift.Tie as tie
 
 own-read : (s : tie.Start) → toZ w64 (ofZ w64 (getD (s .args .own .now) (s .args .v) (pos 0))) ≡ getD (s .args .own .now) (s .args .v) (pos 0)
-own-read s = read (getD (s .args .own .now) (s .args .v) (pos 0)) 10000000000 (s .pre .1 .0 .small (s .args .v)) (omega arith)
+own-read s = read (getD (s .args .own .now) (s .args .v) (pos 0)) mostHeldHeight (s .pre .1 .0 .small (s .args .v)) (omega arith)
 
 over-read : (s : tie.Start) → toZ w64 (ofZ w64 (getD (s .args .over .now) (s .args .v) (pos 0))) ≡ getD (s .args .over .now) (s .args .v) (pos 0)
-over-read s = read (getD (s .args .over .now) (s .args .v) (pos 0)) 25600000000 (omega (arith, s .pre .1 .0 .spotted .size (s .args .v), s .pre .1 .0 .few)) (omega arith)
+over-read s = read (getD (s .args .over .now) (s .args .v) (pos 0)) (mostMarks * mostDifference) (omega (arith, s .pre .1 .0 .spotted .size (s .args .v), s .pre .1 .0 .few)) (omega arith)
 
 shared-slice-read-if1 : tie.Need-shared-slice-read-if1
 shared-slice-read-if1 c = search needs

@@ -5,6 +5,7 @@ use lib.IntN.{pos}
 use mir.Syntax.{w64}
 use mir.Val.{toZ, ofZ}
 use Rattle.laws.proofs.Signed.{stored}
+use Rattle.book.specs.Limits.{mostHeight}
 use Rattle.divisions.specs.Nearest.{nearest}
 use Rattle.fields.proofs.Readback.{read}
 use Rattle.sweeps.proofs.Turns.{pullHere, total-zero, total-fits, pull-fits, move-is, move-fits}
@@ -13,7 +14,7 @@ use Rattle.sweeps.proofs.move_of.Statement.{statement}
 use Rattle.sweeps.proofs.move_of.Tie as tie
 
 height-read : (s : tie.Start) → toZ w64 (ofZ w64 (getD (s .args .h .now) (s .args .v) (pos 0))) ≡ getD (s .args .h .now) (s .args .v) (pos 0)
-height-read s = read (getD (s .args .h .now) (s .args .v) (pos 0)) 50000000000 (s .pre .1 .0 .inside (s .args .v)) (omega arith)
+height-read s = read (getD (s .args .h .now) (s .args .v) (pos 0)) mostHeight (s .pre .1 .0 .inside (s .args .v)) (omega arith)
 
 pull-read : (c : tie.After-pull-of) → (let s : tie.Start = search in toZ w64 (ofZ w64 (c .pull-of .result)) ≡ pullHere (s .args .first .now) (s .args .other .now) (s .args .rise .now) (s .args .weight .now) (s .args .total .now) (s .args .h .now) (s .args .b) (s .args .v) (s .pre .0) (s .pre .1 .0) (s .pre .1 .1))
 pull-read c =

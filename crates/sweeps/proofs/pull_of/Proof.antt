@@ -4,7 +4,7 @@ use native.Mathlib.Omega.{arith}
 use Rattle.sights.specs.Sights.{pull}
 use Rattle.sights.specs.Table.{seen}
 use Rattle.sweeps.specs.Turns.{termAt}
-use Rattle.sweeps.proofs.Sums.{shorter, pull-turn, pull-end, term-size}
+use Rattle.sweeps.proofs.Sums.{mostTerm, shorter, pull-turn, pull-end, term-size}
 use borrow.Author.Needs.{needs}
 use lib.IntN.{ℤ, natAbs, _+ℤ_, +ℤ-idl}
 use mir.Syntax.{w64}
@@ -17,7 +17,7 @@ use Rattle.sweeps.proofs.pull_of.Tie as tie
 
 abbrev Inv-loop : tie.InvT-loop
 Inv-loop other rise weight h b z a e g₀ j₀ g j =
-    (a ≤ j) × (j ≤ e) × (natAbs (toZ w64 g) ≤ (j - a) * 10010000000000000)
+    (a ≤ j) × (j ≤ e) × (natAbs (toZ w64 g) ≤ (j - a) * mostTerm)
     × (toZ w64 g +ℤ pull h (toZ w64 z) (seen other rise weight j (e - j)) ≡ pull h (toZ w64 z) (seen other rise weight a (e - a)))
 
 abbrev μ-loop : tie.MeasureT-loop
@@ -32,7 +32,7 @@ term-of c =
     let s = start-of (c .before .before) in
     termAt (s .args .other .now) (s .args .rise .now) (s .args .weight .now) (s .args .h .now) (toZ w64 (ofZ w64 (s .args .z))) (c .before .before .loop .j)
 
-size : (c : tie.After-term Inv-loop μ-loop) → natAbs (term-of c) ≤ 10010000000000000
+size : (c : tie.After-term Inv-loop μ-loop) → natAbs (term-of c) ≤ mostTerm
 size c =
     let s = start-of (c .before .before) in
     term-size (s .args .other .now) (s .args .rise .now) (s .args .weight .now) (s .args .h .now) (toZ w64 (ofZ w64 (s .args .z))) (s .args .b) (s .args .e) (s .pre .0) (s .pre .1 .0)

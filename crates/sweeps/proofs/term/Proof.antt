@@ -8,6 +8,9 @@ use Rattle.laws.proofs.Size.{size-add, size-sub}
 use mathlib.Core.Path.{_≡_, _∙_}
 use Prim.Native.Nat.{ℕ, _*_, _≤_}
 use native.Mathlib.Omega.{arith}
+use Rattle.sweeps.proofs.Sums.{mostApart}
+use Rattle.divisions.specs.Weight.{mostWeight}
+use Rattle.book.specs.Limits.{mostHeight, mostDifference}
 use Rattle.sweeps.specs.Turns.{termAt}
 use Rattle.fields.proofs.Readback.{read}
 use borrow.Author.Needs.{needs}
@@ -27,10 +30,10 @@ weight-of s = getD (s .args .weight .now) (s .args .j) 0
 abbrev rise-over : tie.Start → ℤ
 rise-over s = height-of s +ℤ rise-of s -ℤ s .args .z
 
-height-size : (s : tie.Start) → natAbs (height-of s) ≤ 50000000000
+height-size : (s : tie.Start) → natAbs (height-of s) ≤ mostHeight
 height-size s = s .pre .1 .0 .inside (getD (s .args .other .now) (s .args .j) 0)
 
-rise-size : (s : tie.Start) → natAbs (rise-of s) ≤ 100000000
+rise-size : (s : tie.Start) → natAbs (rise-of s) ≤ mostDifference
 rise-size s = s .pre .0 .riseIn (s .args .j)
 
 given-size : (s : tie.Start) → natAbs (height-of s +ℤ rise-of s) ≤ 50100000000
@@ -40,7 +43,7 @@ given-size s =
     let r = rise-size s in
     omega arith
 
-rise-over-size : (s : tie.Start) → natAbs (rise-over s) ≤ 100100000000
+rise-over-size : (s : tie.Start) → natAbs (rise-over s) ≤ mostApart
 rise-over-size s =
     let h = size-sub (height-of s +ℤ rise-of s) (s .args .z) in
     let x = given-size s in
@@ -49,13 +52,13 @@ rise-over-size s =
 
 -- what the machine reads back
 height-read : (s : tie.Start) → toZ w64 (ofZ w64 (height-of s)) ≡ height-of s
-height-read s = read (height-of s) 50000000000 (height-size s) (omega arith)
+height-read s = read (height-of s) mostHeight (height-size s) (omega arith)
 
 rise-read : (s : tie.Start) → toZ w64 (ofZ w64 (rise-of s)) ≡ rise-of s
-rise-read s = read (rise-of s) 100000000 (rise-size s) (omega arith)
+rise-read s = read (rise-of s) mostDifference (rise-size s) (omega arith)
 
 present-read : (s : tie.Start) → toZ w64 (ofZ w64 (s .args .z)) ≡ s .args .z
-present-read s = read (s .args .z) 50000000000 (s .pre .1 .1) (omega arith)
+present-read s = read (s .args .z) mostHeight (s .pre .1 .1) (omega arith)
 
 abbrev start-of : tie.After-add → tie.Start
 start-of c = search
@@ -111,7 +114,7 @@ mul-requires c κs =
     let s = start-of (c .before .before .before) in
     let h = rise-over-size s in
     let w = s .pre .0 .weightIn (s .args .j) in
-    let k : weight-of s * natAbs (rise-over s) ≤ 100000 * 100100000000 = mul-le-mul w h in
+    let k : weight-of s * natAbs (rise-over s) ≤ mostWeight * mostApart = mul-le-mul w h in
     rw (count-read (c .before), over-read c) (omega arith)
 
 returns : tie.Need-returns
