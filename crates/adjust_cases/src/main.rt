@@ -1,12 +1,11 @@
 // Adjusts many books and rates their lines, spoils a height, withdraws a line, and prints every answer and what the heights then are.
-// A case on standard input: 48 bytes of name, how many heights are lent, the place of the height that is spoilt, the file's length (2 bytes
-// each), the file. tests/adjust_cases.py makes the cases and, on its own, what is printed of them.
+// A case on standard input (cases::case) has three numbers: how many heights are lent, the place of the height that is spoilt, and its file's length.
+// tests/adjust_cases.py makes the cases and, on its own, what is printed of them.
 use book::Book;
+use cases::case;
 use rates::Rate;
 
-const NAME_BYTES: usize = 48;
-
-const CASE_BYTES: usize = 54;
+const NUMBERS: usize = 3;
 
 // One micrometre outside the limit of a height in work.
 const TOO_HIGH: i64 = 50_000_000_001;
@@ -134,39 +133,31 @@ fn read_and_run(
     );
 }
 
-fn one_case(name: &[u8], file: &[u8], room: usize, spoilt: usize) {
-    put(name);
+fn one_case(case: &[u8]) {
+    put(case::name(case));
     put(b"\n");
     let mut held = [0i64; Book::HELD_WORDS];
     let mut lines = [0i64; Book::LINE_WORDS];
     let mut heights = [0i64; 300];
-    let r = cases::at_most(room, 300);
+    let r = cases::at_most(case::number(case, 0), 300);
     read_and_run(
-        file,
+        case::file(case, NUMBERS),
         &mut held[..],
         &mut lines[..],
         &mut heights[..r],
-        spoilt,
+        case::number(case, 1),
     );
 }
 
 fn all_cases(input: &[u8]) {
     let mut at = 0;
-    while CASE_BYTES <= input.len() - at {
-        let body = at + CASE_BYTES;
-        let len = cases::two(input, at + NAME_BYTES + 4);
-        if input.len() - body < len {
+    loop {
+        let next = case::after(input, at, NUMBERS);
+        if next <= at {
             return;
         }
-        let room = cases::two(input, at + NAME_BYTES);
-        let spoilt = cases::two(input, at + NAME_BYTES + 2);
-        one_case(
-            &input[at..at + NAME_BYTES],
-            &input[body..body + len],
-            room,
-            spoilt,
-        );
-        at = body + len;
+        one_case(&input[at..next]);
+        at = next;
     }
 }
 

@@ -8,6 +8,7 @@ ghost use lib.ListN.{length};
 
 mod words;
 
+use cases::case;
 use words::Sheet;
 
 // The worked network's numbers: one held entry, seven lines; its report of three rows is kept in space for four.
@@ -43,8 +44,8 @@ pub(crate) struct Step {
 fn number(s: &[u8], at: usize) -> i64
     requires { ⌜ at + 6 ≤ length (now s) ⌝ }
 {
-    let size = signed::signed_count(cases::two(s, at + 2) * 65536 + cases::two(s, at + 4));
-    if cases::two(s, at) == 0 {
+    let size = signed::signed_count(case::two(s, at + 2) * 65536 + case::two(s, at + 4));
+    if case::two(s, at) == 0 {
         return size;
     }
     signed::sub(0, size)
@@ -54,8 +55,8 @@ fn step_at(s: &[u8], at: usize) -> Step
     requires { ⌜ at + 18 ≤ length (now s) ⌝ }
 {
     Step {
-        kind: cases::two(s, at + 2),
-        lent: cases::two(s, at + 4),
+        kind: case::two(s, at + 2),
+        lent: case::two(s, at + 4),
         which: number(s, at + 6),
         value: number(s, at + 12),
     }
@@ -154,7 +155,7 @@ fn play(
     let mut at = 0;
     while STEP_BYTES <= steps.len() - at {
         let note = at + STEP_BYTES;
-        let len = cases::two(steps, at);
+        let len = case::two(steps, at);
         if steps.len() - note < len {
             return;
         }
@@ -179,7 +180,7 @@ fn run(input: &[u8]) {
     if input.len() < 2 {
         return;
     }
-    let steps = 2 + cases::two(input, 0);
+    let steps = 2 + case::two(input, 0);
     if input.len() < steps {
         return;
     }

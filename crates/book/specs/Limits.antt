@@ -1,4 +1,4 @@
--- Document 01, the table of limits: each from and to, under one name.
+-- Document 01, the table of limits: each "from" and each "to" by its own name; of a number that may lie either way, its size.
 -- Assumes nothing.
 use Prim.Native.Nat.{ℕ}
 

@@ -1,1 +1,2 @@
+pub mod Most
 pub mod Printed

@@ -1,18 +1,14 @@
--- What the programs that run cases print of a buffer, and how they read a number.
+-- What the programs that run cases put into a buffer before a call, and print of it after.
 -- Assumes nothing.
 use Prim.Native.Nat.{ℕ, _+_, _*_, _%_}
 use mathlib.Core.Bool.{cond}
 use mathlib.Core.List.{List, [], _∷_, _++_}
 use lib.IntN.{ℤ, pos, negsuc, natAbs}
-use lib.ListN.{getD, take}
+use lib.ListN.{take}
 use lib.Signed.{ltZ}
 use Rattle.text.specs.Bytes.{bytes}
 use Rattle.text.specs.Number.{decimal}
 use Rattle.text.specs.Report.{listedText}
-
--- the number in the bytes at and at + 1, the high one first
-abbrev pub twoAt : List ℕ → ℕ → ℕ
-twoAt s at = getD s at 0 * 256 + getD s (at + 1) 0
 
 -- what stands in every place of a buffer before the call
 abbrev pub untouched : ℤ

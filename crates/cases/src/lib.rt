@@ -1,4 +1,4 @@
-// What the programs that run cases share: numbers from bytes, buffers filled before a call, and numbers printed after it. A contract cannot say what
+// What the programs that run cases share: where a case lies in the input (case.rt), buffers filled before a call, and numbers printed after it. A contract cannot say what
 // is printed: the text is put into bytes by a function that states it, and what prints it says how many bytes those are.
 ghost use mathlib.Core.Path.{_≡_};
 ghost use Prim.Native.Nat.{_≤_, _+_, min};
@@ -6,7 +6,9 @@ ghost use lib.ListN.{length, replicate};
 ghost use Rattle.text.specs.Put.{Put};
 ghost use Rattle.text.specs.Report.{listedText};
 ghost use mathlib.Core.List.{[], _∷_};
-ghost use Rattle.cases.specs.Cases.{twoAt, untouched, sideOf, mixedWith, digestOf, spaced, numbersText, shownBytes};
+ghost use Rattle.cases.specs.Cases.{untouched, sideOf, mixedWith, digestOf, spaced, numbersText, shownBytes};
+
+pub mod case;
 
 pub const STDIN: i32 = 0;
 
@@ -20,20 +22,7 @@ const SHOWN: usize = 7;
 
 const SHOWN_BYTES: usize = 160;
 
-fn wide(x: u8) -> usize
-    ensures { λ r. ⌜ (r ≡ x) × (r ≤ 255) ⌝ }
-{
-    x as usize
-}
-
-// The number in two bytes, the high one first.
-pub fn two(s: &[u8], at: usize) -> usize
-    requires { ⌜ at + 2 ≤ length (now s) ⌝ }
-    ensures { λ r. ⌜ (r ≡ twoAt (now (s .entry)) at) × (r ≤ 65535) ⌝ }
-{
-    wide(s[at]) * 256 + wide(s[at + 1])
-}
-
+// The lesser of the two.
 pub fn at_most(x: usize, most: usize) -> usize
     ensures { λ r. ⌜ r ≡ min x most ⌝ }
 {

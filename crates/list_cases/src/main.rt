@@ -1,15 +1,13 @@
 // Lists the loops of many books and the lines that are not checked, withdraws a line and lists again, spoils the book number by
-// number, and prints every answer and what the output then holds. A case on standard input: 48 bytes of name, how many numbers of
-// output are lent, the file's length (2 bytes each), the file. tests/list_cases.py makes the cases and, on its own, what is printed
-// of them.
+// number, and prints every answer and what the output then holds. A case on standard input (cases::case) has two numbers: how many places
+// of output are lent, and its file's length. tests/list_cases.py makes the cases and, on its own, what is printed of them.
 ghost use Prim.Native.Nat.{_≤_};
 use book::Book;
 use book::held::Held;
 use book::line::Line;
+use cases::case;
 
-const NAME_BYTES: usize = 48;
-
-const CASE_BYTES: usize = 52;
+const NUMBERS: usize = 2;
 
 // Where the standing of line 3 is, which document 01 withdraws from the worked network: line 2 is then not checked.
 const STANDING: usize = 2 * Line::WORDS + Line::STANDING;
@@ -121,27 +119,30 @@ fn read_and_run(file: &[u8], held: &mut [i64], lines: &mut [i64], out: &mut [i64
     run(b, t, &mut held[..held_words], &mut lines[..line_words], out);
 }
 
-fn one_case(name: &[u8], file: &[u8], room: usize) {
-    put(name);
+fn one_case(case: &[u8]) {
+    put(case::name(case));
     put(b"\n");
     let mut held = [0i64; Book::HELD_WORDS];
     let mut lines = [0i64; Book::LINE_WORDS];
     let mut out = [0i64; 300];
-    let lent = cases::at_most(room, 300);
-    read_and_run(file, &mut held[..], &mut lines[..], &mut out[..lent]);
+    let lent = cases::at_most(case::number(case, 0), 300);
+    read_and_run(
+        case::file(case, NUMBERS),
+        &mut held[..],
+        &mut lines[..],
+        &mut out[..lent],
+    );
 }
 
 fn all_cases(input: &[u8]) {
     let mut at = 0;
-    while CASE_BYTES <= input.len() - at {
-        let body = at + CASE_BYTES;
-        let len = cases::two(input, at + NAME_BYTES + 2);
-        if input.len() - body < len {
+    loop {
+        let next = case::after(input, at, NUMBERS);
+        if next <= at {
             return;
         }
-        let room = cases::two(input, at + NAME_BYTES);
-        one_case(&input[at..at + NAME_BYTES], &input[body..body + len], room);
-        at = body + len;
+        one_case(&input[at..next]);
+        at = next;
     }
 }
 

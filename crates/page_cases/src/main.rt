@@ -1,27 +1,26 @@
-// Prints the reports of many files. A case on standard input: 48 bytes of name, the file's length (2 bytes), the file. tests/page_cases.py makes the
-// cases and, on its own, their reports.
-const NAME_BYTES: usize = 48;
+// Prints the reports of many files. A case on standard input (cases::case) has one number, its file's length. tests/page_cases.py makes the cases and,
+// on its own, their reports.
+use cases::case;
 
-const CASE_BYTES: usize = 50;
+const NUMBERS: usize = 1;
 
-fn one_case(name: &[u8], file: &[u8]) {
-    io::write_all(cases::STDOUT, name);
+fn one_case(case: &[u8]) {
+    io::write_all(cases::STDOUT, case::name(case));
     io::write_all(cases::STDOUT, b"\n");
     let mut page = io::large_buffer();
-    let len = page::write_page(file, &mut page[..]);
+    let len = page::write_page(case::file(case, NUMBERS), &mut page[..]);
     io::write_all(cases::STDOUT, &page[..len]);
 }
 
 fn all_cases(input: &[u8]) {
     let mut at = 0;
-    while CASE_BYTES <= input.len() - at {
-        let body = at + CASE_BYTES;
-        let len = cases::two(input, at + NAME_BYTES);
-        if input.len() - body < len {
+    loop {
+        let next = case::after(input, at, NUMBERS);
+        if next <= at {
             return;
         }
-        one_case(&input[at..at + NAME_BYTES], &input[body..body + len]);
-        at = body + len;
+        one_case(&input[at..next]);
+        at = next;
     }
 }
 

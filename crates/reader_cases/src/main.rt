@@ -1,9 +1,9 @@
 // Reads many book files, one case after the other, and prints what the reader answers and leaves in its buffers.
-// A case on standard input: 48 bytes of name, how many numbers of each buffer are lent (2 bytes each, held first), the file's length
-// (2 bytes), the file. tests/reader_cases.py makes the cases and, on its own, what is printed of them.
-const NAME_BYTES: usize = 48;
+// A case on standard input (cases::case) has three numbers: how many places of each buffer are lent, held first, and its file's length.
+// tests/reader_cases.py makes the cases and, on its own, what is printed of them.
+use cases::case;
 
-const CASE_BYTES: usize = 54;
+const NUMBERS: usize = 3;
 
 const HELD_SPACE: usize = 520;
 
@@ -26,33 +26,25 @@ fn run(file: &[u8], held: &mut [i64], lines: &mut [i64]) {
     io::write_all(cases::STDOUT, b"\n");
 }
 
-fn one_case(name: &[u8], file: &[u8], held_words: usize, line_words: usize) {
-    io::write_all(cases::STDOUT, name);
+fn one_case(case: &[u8]) {
+    io::write_all(cases::STDOUT, case::name(case));
     io::write_all(cases::STDOUT, b" |");
     let mut held = [0i64; HELD_SPACE];
     let mut lines = [0i64; LINE_SPACE];
-    let h = cases::at_most(held_words, HELD_SPACE);
-    let n = cases::at_most(line_words, LINE_SPACE);
-    run(file, &mut held[..h], &mut lines[..n]);
+    let h = cases::at_most(case::number(case, 0), HELD_SPACE);
+    let n = cases::at_most(case::number(case, 1), LINE_SPACE);
+    run(case::file(case, NUMBERS), &mut held[..h], &mut lines[..n]);
 }
 
 fn all_cases(input: &[u8]) {
     let mut at = 0;
-    while CASE_BYTES <= input.len() - at {
-        let body = at + CASE_BYTES;
-        let len = cases::two(input, at + NAME_BYTES + 4);
-        if input.len() - body < len {
+    loop {
+        let next = case::after(input, at, NUMBERS);
+        if next <= at {
             return;
         }
-        let held_words = cases::two(input, at + NAME_BYTES);
-        let line_words = cases::two(input, at + NAME_BYTES + 2);
-        one_case(
-            &input[at..at + NAME_BYTES],
-            &input[body..body + len],
-            held_words,
-            line_words,
-        );
-        at = body + len;
+        one_case(&input[at..next]);
+        at = next;
     }
 }
 

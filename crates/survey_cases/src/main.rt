@@ -1,11 +1,9 @@
 // Surveys many books, and corrects each of them, line after line, until none stands; prints every answer and what the buffers then hold.
-// A case on standard input: 48 bytes of name, the file's length (2 bytes), the file. tests/survey_cases.py makes the cases and, on its own,
-// what is printed of them.
+// A case on standard input (cases::case) has one number, its file's length. tests/survey_cases.py makes the cases and, on its own, what is printed of them.
 use book::Book;
+use cases::case;
 
-const NAME_BYTES: usize = 48;
-
-const CASE_BYTES: usize = 50;
+const NUMBERS: usize = 1;
 
 fn put_answer(a: survey::Answer) {
     cases::put(a.number);
@@ -100,25 +98,29 @@ fn run(file: &[u8], held: &mut [i64], lines: &mut [i64], report: &mut [i64]) {
     );
 }
 
-fn one_case(name: &[u8], file: &[u8]) {
-    io::write_all(cases::STDOUT, name);
+fn one_case(case: &[u8]) {
+    io::write_all(cases::STDOUT, case::name(case));
     io::write_all(cases::STDOUT, b"\n");
     let mut held = [0i64; Book::HELD_WORDS];
     let mut lines = [0i64; Book::LINE_WORDS];
     let mut report = [0i64; 2600];
-    run(file, &mut held[..], &mut lines[..], &mut report[..]);
+    run(
+        case::file(case, NUMBERS),
+        &mut held[..],
+        &mut lines[..],
+        &mut report[..],
+    );
 }
 
 fn all_cases(input: &[u8]) {
     let mut at = 0;
-    while CASE_BYTES <= input.len() - at {
-        let body = at + CASE_BYTES;
-        let len = cases::two(input, at + NAME_BYTES);
-        if input.len() - body < len {
+    loop {
+        let next = case::after(input, at, NUMBERS);
+        if next <= at {
             return;
         }
-        one_case(&input[at..at + NAME_BYTES], &input[body..body + len]);
-        at = body + len;
+        one_case(&input[at..next]);
+        at = next;
     }
 }
 

@@ -5,7 +5,7 @@ use lib.ListN.{take, length-take}
 use Rattle.text.specs.Bytes.{bytes}
 use Rattle.text.proofs.Puts.{_then_}
 use Rattle.cases.specs.Cases.{numbersText}
-use Rattle.cases.proofs.Printed.{take-most}
+use Rattle.cases.proofs.Most.{take-most}
 use Rattle.cases.proofs.put_numbers.Statement.{statement}
 use Rattle.cases.proofs.put_numbers.Tie as tie
 

@@ -1,9 +1,8 @@
 use mir.Facts.{toZ-ofZ}
-use mathlib.Core.List.{[], _∷_}
 use native.Mathlib.Omega.{arith}
 use borrow.Author.Needs.{needs}
 use Rattle.text.proofs.Puts.{put-part}
-use Rattle.cases.proofs.Printed.{put-all, listed-room, one-machine}
+use Rattle.cases.proofs.Printed.{put-all, line-room}
 use Rattle.cases.proofs.put_signed.Statement.{statement}
 use Rattle.cases.proofs.put_signed.Tie as tie
 
@@ -25,7 +24,7 @@ write-all-requires c κs = search needs
 returns : tie.Need-returns
 returns c =
     let s : tie.Start = search in
-    put-all (rw (toZ-ofZ (s .fits .x)) at (c .before .before .before .put-line .ensures)) (listed-room (s .args .x ∷ []) (one-machine (s .args .x) (s .fits .x .sfits)))
+    put-all (rw (toZ-ofZ (s .fits .x)) at (c .before .before .before .put-line .ensures)) (line-room (s .args .x) (s .fits .x .sfits))
 
 pub put-signed-spec : {M : Type 1} → statement M
 put-signed-spec =

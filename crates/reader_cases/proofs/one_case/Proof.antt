@@ -4,6 +4,9 @@ use borrow.Author.Needs.{needs}
 use Rattle.reader_cases.proofs.one_case.Statement.{statement}
 use Rattle.reader_cases.proofs.one_case.Tie as tie
 
+name-requires : tie.Need-name-requires
+name-requires c κs = search needs
+
 write-all-requires : tie.Need-write-all-requires
 write-all-requires c κs = search needs
 
@@ -13,11 +16,20 @@ slice-aggregate-write-all c = search needs
 write-all-requires-2 : tie.Need-write-all-requires-2
 write-all-requires-2 c κs = search needs
 
+number-requires : tie.Need-number-requires
+number-requires c κs = search needs
+
 at-most-requires : tie.Need-at-most-requires
 at-most-requires c κs = search needs
 
+number-requires-2 : tie.Need-number-requires-2
+number-requires-2 c κs = search needs
+
 at-most-requires-2 : tie.Need-at-most-requires-2
 at-most-requires-2 c κs = search needs
+
+file-requires : tie.Need-file-requires
+file-requires c κs = search needs
 
 array-borrow-prefix-held : tie.Need-array-borrow-prefix-held
 array-borrow-prefix-held c = search needs
@@ -41,11 +53,15 @@ pub one-case-spec : {M : Type 1} → statement M
 one-case-spec =
     tie.close
     (tie.spec
+    name-requires
     write-all-requires
     slice-aggregate-write-all
     write-all-requires-2
+    number-requires
     at-most-requires
+    number-requires-2
     at-most-requires-2
+    file-requires
     array-borrow-prefix-held
     slice-aggregate-run
     array-borrow-prefix-lines

@@ -1,7 +1,7 @@
 use native.Mathlib.Omega.{arith}
 use borrow.Author.Needs.{needs}
-use Rattle.cases.proofs.two.Statement.{statement}
-use Rattle.cases.proofs.two.Tie as tie
+use Rattle.cases.proofs.case.two.Statement.{statement}
+use Rattle.cases.proofs.case.two.Tie as tie
 
 shared-slice-read-wide : tie.Need-shared-slice-read-wide
 shared-slice-read-wide c = search needs
