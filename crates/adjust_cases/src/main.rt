@@ -1,6 +1,6 @@
 // Adjusts many books and rates their lines, spoils a height, withdraws a line, and prints every answer and what the heights then are.
-// A case on standard input (cases::case) has three numbers: how many heights are lent, the place of the height that is spoilt, and its file's length.
-// tests/adjust_cases.py makes the cases and, on its own, what is printed of them.
+// A case on standard input (cases::case) has three numbers: how many heights are lent, the place of the height that is spoilt, and its
+// file's length. tests/adjust_cases.py makes the cases and, on its own, what is printed of them.
 use book::Book;
 use cases::case;
 use rates::Rate;

@@ -7,7 +7,8 @@ use Prim.Native.Nat.{ℕ, _*_, _≤_, _<_}
 use lib.ListN.{length}
 use lib.IntN.{ℤ, pos, natAbs}
 use Rattle.laws.specs.Range.{Between}
-use Rattle.book.specs.Limits.{leastMarks, mostMarks, mostLines, mostHeld, leastTolerance, mostTolerance, mostDifference, leastLength, mostLength, mostHeldHeight}
+use Rattle.book.specs.Limits.{leastMarks, mostMarks, mostLines, mostHeld, leastTolerance, mostTolerance}
+use Rattle.book.specs.Limits.{mostDifference, leastLength, mostLength, mostHeldHeight}
 use Rattle.book.specs.Held.{heldWords, markAt, heightAt}
 use Rattle.book.specs.Line.{lineWords, fromAt, toAt, differenceAt, lengthAt, standingAt}
 use Rattle.book.specs.declared.Book.{Book}

@@ -55,7 +55,14 @@ standingAt = field standingField
 
 -- the line at place i, its numbers by their names
 abbrev pub lineAt : List ℤ → ℕ → Line
-lineAt lines i = record { from = fromAt lines i; to = toAt lines i; difference = differenceAt lines i; length = lengthAt lines i; standing = standingAt lines i }
+lineAt lines i =
+    record {
+      from = fromAt lines i;
+      to = toAt lines i;
+      difference = differenceAt lines i;
+      length = lengthAt lines i;
+      standing = standingAt lines i;
+    }
 
 -- how many lines a slice holds
 abbrev pub lineCount : List ℤ → ℕ
@@ -80,7 +87,9 @@ lineFault b from to difference len standing =
 unfoldable pub lineOf : ℤ → ℤ → ℤ → ℤ → ℤ → ℤ → MadeLine
 unfolding lineFault
 lineOf b f t d l s =
-    cond (ltb 0 (lineFault b f t d l s)) (Refused 7 (lineFault b f t d l s)) (Good (record { from = f; to = t; difference = d; length = l; standing = s }))
+    cond (ltb 0 (lineFault b f t d l s))
+    (Refused 7 (lineFault b f t d l s))
+    (Good (record { from = f; to = t; difference = d; length = l; standing = s }))
 
 -- the line that the five numbers of an entry make
 unfoldable pub entryOf : ℤ → List ℤ → MadeLine

@@ -1,4 +1,5 @@
--- A case on a program's standard input: 48 bytes of name, some numbers of two bytes each, the last of them the length of its file, and the file.
+-- A case on a program's standard input: 48 bytes of name, some numbers of two bytes each, the last of them the length of its file,
+-- and the file.
 -- Assumes nothing.
 use Prim.Native.Nat.{ℕ, _+_, _-_, _*_}
 use mathlib.Core.Bool.{cond}

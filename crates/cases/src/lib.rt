@@ -1,5 +1,6 @@
-// What the programs that run cases share: where a case lies in the input (case.rt), buffers filled before a call, and numbers printed after it. A contract cannot say what
-// is printed: the text is put into bytes by a function that states it, and what prints it says how many bytes those are.
+// What the programs that run cases share: where a case lies in the input (case.rt), buffers filled before a call, and numbers printed
+// after it. A contract cannot say what is printed: the text is put into bytes by a function that states it, and what prints it says how
+// many bytes those are.
 ghost use mathlib.Core.Path.{_≡_};
 ghost use Prim.Native.Nat.{_≤_, _+_, min};
 ghost use lib.ListN.{length, replicate};

@@ -1,5 +1,5 @@
-// Prints the reports of many files. A case on standard input (cases::case) has one number, its file's length. tests/page_cases.py makes the cases and,
-// on its own, their reports.
+// Prints the reports of many files. A case on standard input (cases::case) has one number, its file's length.
+// tests/page_cases.py makes the cases and, on its own, their reports.
 use cases::case;
 
 const NUMBERS: usize = 1;

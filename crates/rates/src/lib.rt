@@ -104,7 +104,8 @@ fn correction_of(line: Line, heights: &[i64], b: usize) -> i64
 
 // The answer of a line that there is.
 fn line_rate(lines: &[i64], heights: &[i64], b: usize, line: usize) -> RateAnswer
-    requires { ⌜ (0 < line) × (line * lineWords ≤ length (now lines)) ⌝ ∗ ⌜ GoodLine b (now lines) (line - 1) ⌝ ∗ ⌜ Working (now heights) b ⌝ }
+    requires { ⌜ (0 < line) × (line * lineWords ≤ length (now lines)) ⌝ ∗ ⌜ GoodLine b (now lines) (line - 1) ⌝
+        ∗ ⌜ Working (now heights) b ⌝ }
     ensures { λ r. ⌜ r ≡ lineRate (now (heights .entry)) (now (lines .entry)) line (line - 1) ⌝ }
 {
     let at = (line - 1) * Line::WORDS;

@@ -1,5 +1,6 @@
 // Surveys many books, and corrects each of them, line after line, until none stands; prints every answer and what the buffers then hold.
-// A case on standard input (cases::case) has one number, its file's length. tests/survey_cases.py makes the cases and, on its own, what is printed of them.
+// A case on standard input (cases::case) has one number, its file's length.
+// tests/survey_cases.py makes the cases and, on its own, what is printed of them.
 use book::Book;
 use cases::case;
 
