@@ -1,12 +1,10 @@
 -- Half lines and chains of nodes: what a chain is and what the chains hold. Assumes nothing.
 use Prim.Native.Nat.{ℕ, suc, _+_, _*_, _-_, _/_, _≤_, _<_}
 use mathlib.Core.Path.{_≡_}
-use mathlib.Core.Bool.{Bool, true, false}
-use mathlib.Core.List.{List, [], _∷_, List·Memᴰ}
+use mathlib.Core.List.{List, List·Memᴰ}
 use lib.ListN.{length, getD}
 use Rattle.book.specs.Limits.{leastLength, mostLength}
 use Rattle.network.specs.Standing.{Line}
-use Rattle.network.specs.Path.{Pass}
 use Rattle.network.specs.Sound.{Rising}
 
 -- ---- limits: no line number, half number or sum of a node reaches past these
@@ -30,14 +28,6 @@ pub data Half (l : Line) (u v h : ℕ) : Type 0 where
 -- the half of the same line the other way
 abbrev pub flip : ℕ → ℕ
 flip h = h / 2 * 4 + 1 - h
-
-abbrev pub codeOf : Bool → ℕ → ℕ
-codeOf true n = 2 * n
-codeOf false n = 2 * n + 1
-
-unfoldable pub codes : List Pass → List ℕ
-codes [] = []
-codes (p ∷ ps) = codeOf (p .forward) (p .line .number) ∷ codes ps
 
 -- ---- chains: a pointer is 0 or one more than a node
 

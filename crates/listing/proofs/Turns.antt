@@ -11,7 +11,7 @@ use Rattle.network.specs.Standing.{Line, standing}
 use Rattle.network.specs.Path.{Pass, pass}
 use Rattle.loops.specs.Loops.{Loop, loops, loopsFrom, loopAt}
 use Rattle.loops.specs.Row.{signed, listed}
-use Rattle.chains.specs.Chains.{codeOf, codes}
+use Rattle.network.specs.Codes.{codeOf, codes}
 use Rattle.subgraph.specs.Turn.{Taken}
 use Rattle.rows.specs.Turns.{Tables, Due, TurnDone}
 use Rattle.rows.proofs.Turning.{row-asked, turn-done}

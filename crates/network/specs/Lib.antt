@@ -5,6 +5,7 @@ pub mod Walk
 pub mod Tree
 pub mod Closing
 pub mod Path
+pub mod Codes
 pub mod Subgraph
 pub mod Growth
 pub mod Piece

@@ -19,7 +19,8 @@ use Rattle.loops.specs.Loops.{Loop, loops}
 use Rattle.loops.specs.Row.{row, rows}
 use Rattle.loops.proofs.Rerun.{rerun-keeps-loops}
 use Rattle.laws.proofs.Lists.{pour}
-use Rattle.chains.specs.Chains.{Half, fore, aft, Sound, codeOf, codes}
+use Rattle.network.specs.Codes.{codeOf, codes}
+use Rattle.chains.specs.Chains.{Half, fore, aft, Sound}
 use Rattle.chains.specs.Listed.{Listed}
 use Rattle.subgraph.specs.Turn.{Taken}
 use Rattle.subgraph.proofs.Turns.{going-none, going-all}

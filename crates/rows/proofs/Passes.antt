@@ -17,7 +17,7 @@ use Rattle.network.specs.Path.{Pass, pass, stop, wayLength, descent, onward, de
 use Rattle.network.proofs.Descent.{found}
 use Rattle.loops.specs.Loops.{Loop}
 use Rattle.loops.specs.Row.{signed, misclosure, lineAllows, allowances, total, within, verdict, row}
-use Rattle.chains.specs.Chains.{codeOf, codes}
+use Rattle.network.specs.Codes.{codeOf, codes}
 use Rattle.chains.specs.Listed.{Listed}
 use Rattle.search.specs.Front.{Written}
 use Rattle.rows.specs.Sums.{lengthOf, riseAt, riseOf, verdictOf, rowOf, HalfOk}

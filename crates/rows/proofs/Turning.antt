@@ -15,7 +15,7 @@ use Rattle.loops.specs.Loops.{Loop, loops}
 use Rattle.loops.specs.Row.{row, rows}
 use Rattle.network.proofs.Subgraph.{of-only}
 use Rattle.loops.proofs.Row.{rows-length}
-use Rattle.chains.specs.Chains.{codes}
+use Rattle.network.specs.Codes.{codes}
 use Rattle.search.specs.Front.{Rooms, Written}
 use Rattle.subgraph.specs.Turn.{Taking, Takes, Took, Taken, Going}
 use Rattle.subgraph.proofs.Turns.{Next, going-turn, going-next, going-more, going-none, going-all}

@@ -11,7 +11,8 @@ use Rattle.network.specs.Path.{Pass, pass}
 use Rattle.loops.specs.Loops.{Loop, loops}
 use Rattle.loops.specs.Row.{row, rows}
 use Rattle.nearest.specs.Heap.{leafLimit}
-use Rattle.chains.specs.Chains.{Tips, codes, numberLimit}
+use Rattle.network.specs.Codes.{codes}
+use Rattle.chains.specs.Chains.{Tips, numberLimit}
 use Rattle.chains.specs.Listed.{Longs, Listed}
 use Rattle.subgraph.specs.Turn.{Going}
 use Rattle.rows.specs.Sums.{Gentle, rowOf}

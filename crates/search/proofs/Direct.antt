@@ -15,7 +15,8 @@ use Rattle.network.specs.Path.{Pass, shortest}
 use Rattle.network.proofs.Grown.{Scored, scored, score-of, After, new, old, after}
 use Rattle.network.proofs.Shortest.{same, never}
 use Rattle.nearest.specs.Heap.{far, Lesser}
-use Rattle.chains.specs.Chains.{Half, On, here, later, Node, Given, codes, flip, halves}
+use Rattle.network.specs.Codes.{codes}
+use Rattle.chains.specs.Chains.{Half, On, here, later, Node, Given, flip, halves}
 use Rattle.chains.proofs.Halves.{half-ends, ends-half, half-low, half-no, half-low-end, half-flip, on-zero, on-split}
 use Rattle.search.specs.Front.{limit, Two, back, lineage, Written}
 use Rattle.search.specs.Direct.{Sum, LeastSum, Direct}

@@ -15,7 +15,8 @@ use Rattle.network.proofs.Grown.{After, new, old, after, keeps, Stepped, line, 
 use Rattle.network.specs.Walk.{Ends, along, against}
 use Rattle.network.proofs.Grown as gr
 use Rattle.network.proofs.Shortest.{never}
-use Rattle.chains.specs.Chains.{Half, fore, aft, flip, codeOf, Sound, AllSound}
+use Rattle.network.specs.Codes.{codeOf}
+use Rattle.chains.specs.Chains.{Half, fore, aft, flip, Sound, AllSound}
 use Rattle.search.specs.Front.{came, back, otherOf, viaOf, orPath, lineage}
 use Rattle.chains.proofs.Halves.{half-ends}
 use Rattle.search.proofs.Enter.{came-new, came-old}

@@ -13,7 +13,8 @@ use Rattle.book.specs.Limits.{leastLength}
 use Rattle.network.specs.Standing.{Line}
 use Rattle.network.specs.Tree.{Tree, distance, grow}
 use Rattle.network.specs.Path.{Pass, shortest}
-use Rattle.chains.specs.Chains.{flip, codes, AllSound, Given, halves}
+use Rattle.network.specs.Codes.{codes}
+use Rattle.chains.specs.Chains.{flip, AllSound, Given, halves}
 use Rattle.chains.proofs.Halves.{half-ok}
 use Rattle.search.specs.Front.{came, orBy, viaOf, orPath, lineage, By, Key, Keyed, Way, rooted, onward, Leads, Put, Walked, Written, Outcome, reached, cut-off}
 use Rattle.search.specs.Front as f

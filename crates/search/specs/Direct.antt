@@ -7,7 +7,8 @@ use lib.ListN.{getD}
 use Rattle.network.specs.Standing.{Line}
 use Rattle.network.specs.Path.{shortest}
 use Rattle.nearest.specs.Heap.{far}
-use Rattle.chains.specs.Chains.{On, Given, codes, flip, halves}
+use Rattle.network.specs.Codes.{codes}
+use Rattle.chains.specs.Chains.{On, Given, flip, halves}
 
 -- a node on the chain from the pointer first has the sum s
 pub record Sum (next add : List ℕ) (first s : ℕ) : Type 0 where

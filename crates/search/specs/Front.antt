@@ -12,7 +12,8 @@ use Rattle.book.specs.Limits.{leastLength}
 use Rattle.network.specs.Standing.{Line}
 use Rattle.network.specs.Tree.{Tree, distance, grow}
 use Rattle.network.specs.Path.{Pass, pass, shortest}
-use Rattle.chains.specs.Chains.{Half, flip, codes, On, Has, Nodes, Heads, Tips, Given, halves}
+use Rattle.network.specs.Codes.{codes}
+use Rattle.chains.specs.Chains.{Half, flip, On, Has, Nodes, Heads, Tips, Given, halves}
 use Rattle.nearest.specs.Heap.{far, Heap, Changed, leafLimit}
 
 -- ---- what `offer` and `relax` do, with no word of lines
