@@ -19,7 +19,7 @@ use Rattle.book.specs.Height.{heldHeightOut}
 use Rattle.book.specs.Held.{heldWords, markAt, heightAt, heldCount, heldOut, heldBefore, heldBad, firstBadHeld}
 use Rattle.book.specs.Line.{lineWords, fromAt, toAt, differenceAt, lengthAt, standingAt, lineCount, differenceOut, lineFault, lineBad, firstBadLine}
 use Rattle.book.specs.Test.{bookOut, counts, refused, torn, testOf}
-use Rattle.book.specs.Good.{GoodLine, GoodHeld, GoodBook}
+use Rattle.book.specs.Good.{GoodLine, GoodHeld, GoodBook, GoodLines}
 use Rattle.book.specs.declared.Book.{Book}
 use Rattle.book.specs.declared.Refusal.{Refusal}
 use Rattle.book.specs.declared.Tested.{Tested}
@@ -168,3 +168,14 @@ module _ (b t : ℤ) (held lines : List ℤ) where
     where
       four : {P : Type 0} → P → Numbered (record { number = 4; place = 0 })
       four p = record { low = omega arith; high = omega arith; near = omega arith }
+
+-- a good book has good lines
+pub good-lines : (k : Book) (b t : ℤ) (held lines : List ℤ) → GoodBook k b t held lines → GoodLines k lines
+good-lines k b t held lines g = record {
+  a-mark = g .a-mark;
+  few-marks = g .few-marks;
+  small-tolerance = g .small-tolerance;
+  whole = g .whole-lines;
+  few = g .few-lines;
+  each = g .each-line;
+}

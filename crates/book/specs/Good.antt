@@ -42,3 +42,12 @@ pub record GoodBook (k : Book) (b t : ℤ) (held lines : List ℤ) : Type 0 wher
   pub few-lines : k .lines ≤ mostLines
   pub each-held : (i : ℕ) → i < k .held → GoodHeld (k .marks) held i
   pub each-line : (i : ℕ) → i < k .lines → GoodLine (k .marks) lines i
+
+-- what the work on the lines uses of it: its counts, its tolerance, and that every line is good
+pub record GoodLines (k : Book) (lines : List ℤ) : Type 0 where
+  pub a-mark : leastMarks ≤ k .marks
+  pub few-marks : k .marks ≤ mostMarks
+  pub small-tolerance : k .tolerance ≤ mostTolerance
+  pub whole : length lines ≡ k .lines * lineWords
+  pub few : k .lines ≤ mostLines
+  pub each : (i : ℕ) → i < k .lines → GoodLine (k .marks) lines i

@@ -18,10 +18,11 @@ use Rattle.loops.proofs.Rerun.{rerun-keeps-loops}
 use Rattle.loops.proofs.Row.{rows-length}
 use Rattle.loops.proofs.Withdrawal.{loops-never-grow}
 use Rattle.loops.specs.Loops.{loops}
-use Rattle.survey.proofs.Sounding.{good-lines, good-sound}
+use Rattle.book.proofs.Goods.{good-lines}
+use Rattle.loops.proofs.Sounding.{good-sound}
 use Rattle.survey.proofs.Corrected.{place-is, has-line, rerun-good, withdrawal-good, its-line}
 use Rattle.survey.specs.Correction.{rerunLines, withdrawLines}
-use Rattle.survey.specs.Report.{loopsOf, reportOf}
+use Rattle.loops.specs.Report.{loopsOf, reportOf}
 use Rattle.demands.specs.Corrections.{Stands, OnlyChange}
 
 -- ---- one number set

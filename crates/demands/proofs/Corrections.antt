@@ -14,7 +14,8 @@ use Rattle.book.specs.declared.Tested.the-variants.{Good}
 use Rattle.book.proofs.Goods.{tested-good}
 use Rattle.book.proofs.Passing.{good-passes}
 use Rattle.network.specs.Field.{differenceField, standingField}
-use Rattle.survey.specs.Report.{loopsOf, counted}
+use Rattle.loops.specs.Report.{loopsOf}
+use Rattle.survey.specs.Report.{counted}
 use Rattle.survey.specs.Survey.{surveyed, surveyOf}
 use Rattle.survey.specs.Correction.{Corrected, placeOf, updated, rerunLines, withdrawLines, rerunOf, withdrawOf}
 use Rattle.demands.specs.Calls.{afresh, correctionDone}

@@ -24,7 +24,7 @@ use Rattle.book.proofs.Goods.{tested-good}
 use Rattle.book.proofs.Passing.{good-passes}
 use Rattle.file.specs.Read.{statedLength, statedVersion, statedT, statedB, statedH, statedN, fileLength, heldOf, linesOf, readOf}
 use Rattle.file.proofs.Reading.{held-entries, line-entries}
-use Rattle.survey.specs.Report.{loopsOf}
+use Rattle.loops.specs.Report.{loopsOf}
 use Rattle.survey.specs.Survey.{surveyOf}
 use Rattle.lists.specs.Listing.{listingOf}
 use Rattle.lists.specs.NotChecked.{uncheckedOf, notCheckedOf}

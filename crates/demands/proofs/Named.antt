@@ -20,7 +20,8 @@ use Rattle.book.specs.Line.{fromAt, toAt, differenceAt, lengthAt, standingAt, l
 use Rattle.book.specs.Test.{refused, testOf}
 use Rattle.book.specs.declared.Book.{Book}
 use Rattle.book.specs.declared.Tested.the-variants.{Good}
-use Rattle.survey.specs.Report.{reportOf, refusal}
+use Rattle.loops.specs.Report.{reportOf}
+use Rattle.survey.specs.Report.{refusal}
 use Rattle.survey.specs.Survey.{surveyTested, surveyOf}
 use Rattle.lists.specs.Listing.{listingTested, listingOf}
 use Rattle.lists.specs.NotChecked.{notCheckedTested, notCheckedOf}

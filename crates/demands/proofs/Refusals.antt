@@ -18,7 +18,8 @@ use Rattle.file.specs.Read.{Outcome, answered, statedLength, statedVersion, sta
 use Rattle.file.specs.declared.entry.Kind.the-variants as kind
 use Rattle.file.specs.declared.Head.the-variants as head
 use Rattle.file.proofs.Entries.{entries-length}
-use Rattle.survey.specs.Report.{reportOf, refusal, counted}
+use Rattle.loops.specs.Report.{reportOf}
+use Rattle.survey.specs.Report.{refusal, counted}
 use Rattle.survey.specs.Survey.{Surveyed, surveyed, surveyTested, surveyOf}
 use Rattle.lists.specs.Listing.{Listing, listing, unlisted, listingTested, listingOf}
 use Rattle.lists.specs.NotChecked.{uncheckedOf, notCheckedTested, notCheckedOf}

@@ -20,7 +20,8 @@ use Rattle.loops.specs.Row.{listed, verdict, row}
 use Rattle.loops.specs.Checked.{runs, notChecked}
 use Rattle.loops.specs.Circuit.{Circuit}
 use Rattle.loops.proofs.Row.{within-exactly-if, over-else, rows-length}
-use Rattle.survey.specs.Report.{loopsOf, reportOf, piecesOf, counted}
+use Rattle.loops.specs.Report.{loopsOf, reportOf, piecesOf}
+use Rattle.survey.specs.Report.{counted}
 use Rattle.survey.specs.Survey.{surveyOf}
 use Rattle.lists.specs.Listing.{listingOf}
 use Rattle.lists.specs.NotChecked.{uncheckedOf, notCheckedOf}

@@ -18,7 +18,7 @@ use Rattle.network.specs.Field.{differenceField}
 use Rattle.network.proofs.Standing.{from-on}
 use Rattle.loops.specs.Row.{closingNumber}
 use Rattle.loops.specs.Circuit.{Circuit}
-use Rattle.survey.specs.Report.{reportOf}
+use Rattle.loops.specs.Report.{reportOf}
 use Rattle.survey.specs.Survey.{surveyed, surveyOf}
 use Rattle.lists.specs.Listing.{listing}
 use Rattle.lists.specs.NotChecked.{notCheckedOf}

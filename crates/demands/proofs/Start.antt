@@ -16,7 +16,7 @@ use Rattle.book.proofs.Goods.{tested-good}
 use Rattle.network.specs.Standing.{standing}
 use Rattle.network.specs.Sound.{Sound}
 use Rattle.network.specs.Tree.{tree}
-use Rattle.survey.proofs.Sounding.{good-sound}
+use Rattle.loops.proofs.Sounding.{good-sound}
 use Rattle.fields.specs.Heights.{Working}
 use Rattle.fields.proofs.Stands.{lines-of}
 use Rattle.start.specs.Start.{heldHeight, isSome, isHeld, rootedBy, rootHeight, rootOf, unheldPiece, startOf, startHeights}

@@ -29,9 +29,10 @@ use Rattle.loops.specs.Withdrawn.{Withdrawn}
 use Rattle.loops.proofs.Basis.{all-closed}
 use Rattle.loops.proofs.Rerun.{rerun-keeps-tree, rerun-keeps-closing-lines, rerun-keeps-pieces, rerun-keeps-listing, rerun-keeps-closing-line, rerun-keeps-count, rerun-keeps-length, rerun-keeps-other-loops, rerun-moves-misclosure}
 use Rattle.loops.proofs.Withdrawal.{withdrawal-keeps-loops, one-loop-goes, loops-never-grow, at-most-one-loop-fewer}
-use Rattle.survey.specs.Report.{loopsOf, piecesOf}
+use Rattle.loops.specs.Report.{loopsOf, piecesOf}
 use Rattle.survey.specs.Correction.{rerunLines, withdrawLines, rerunOf, withdrawOf}
-use Rattle.survey.proofs.Sounding.{good-lines, good-sound}
+use Rattle.book.proofs.Goods.{good-lines}
+use Rattle.loops.proofs.Sounding.{good-sound}
 use Rattle.survey.proofs.Corrected.{its-line}
 use Rattle.survey.proofs.Places.{loop-at-is}
 use Rattle.demands.specs.TheLoops.{closingLinesOf}

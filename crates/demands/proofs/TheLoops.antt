@@ -38,8 +38,8 @@ use Rattle.loops.proofs.EachLoop.{each-loop-is, loop-has-closing-line, no-earli
 use Rattle.loops.proofs.Basis.{basis}
 use Rattle.loops.proofs.Misclosure.{misclosure-is-sum, all-close}
 use Rattle.loops.proofs.Checked as checks
-use Rattle.survey.specs.Report.{loopsOf, piecesOf}
-use Rattle.survey.proofs.Sounding.{good-sound}
+use Rattle.loops.specs.Report.{loopsOf, piecesOf}
+use Rattle.loops.proofs.Sounding.{good-sound}
 use Rattle.survey.proofs.Places.{loop-at-is, pairs-at, loop-at}
 use Rattle.demands.specs.TheLoops.{treeOf, treeLinesOf, closingLinesOf, subgraph, LoopIs}
 

@@ -12,7 +12,8 @@ use Rattle.book.specs.Test.{counts}
 use Rattle.book.specs.Good.{GoodBook}
 use Rattle.file.specs.Read as read
 use Rattle.file.specs.Read.{Outcome, answered, done, statedLength, statedVersion, fileLength, statedT, statedB, statedH, statedN, heldOf, linesOf}
-use Rattle.survey.specs.Report.{reportOf, refusal, counted}
+use Rattle.loops.specs.Report.{reportOf}
+use Rattle.survey.specs.Report.{refusal, counted}
 use Rattle.survey.specs.Survey.{Surveyed, surveyed, surveyOf}
 use Rattle.lists.specs.Listing.{Listing, listing, unlisted, listingOf}
 use Rattle.lists.specs.NotChecked.{uncheckedOf, notCheckedOf}

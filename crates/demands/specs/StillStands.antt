@@ -11,7 +11,7 @@ use Rattle.network.specs.Walk.{wayLength}
 use Rattle.loops.specs.Loops.{Loop, loopAt}
 use Rattle.loops.specs.Row.{listed, closingNumber, row}
 use Rattle.loops.specs.Checked.{runs}
-use Rattle.survey.specs.Report.{loopsOf, piecesOf}
+use Rattle.loops.specs.Report.{loopsOf, piecesOf}
 use Rattle.demands.specs.TheLoops.{treeOf, treeLinesOf, closingLinesOf}
 
 -- the loop is as it was: its lines and their sense, and its row, with misclosure and verdict

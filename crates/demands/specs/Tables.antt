@@ -13,7 +13,7 @@ use Rattle.book.specs.Test.{torn, bookOut}
 use Rattle.file.specs.Read.{statedLength, statedVersion, statedT, statedB, statedH, statedN, fileLength, heldOf, linesOf}
 use Rattle.loops.specs.Loops.{loopAt}
 use Rattle.loops.specs.Row.{listed}
-use Rattle.survey.specs.Report.{loopsOf, reportOf}
+use Rattle.loops.specs.Report.{loopsOf, reportOf}
 use Rattle.lists.specs.NotChecked.{uncheckedOf}
 use Rattle.survey.specs.Correction.{noLine, otherReport}
 use Rattle.demands.specs.Rules.{Rule, rule}

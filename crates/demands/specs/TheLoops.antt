@@ -15,7 +15,7 @@ use Rattle.network.specs.Walk.{Pass, pass, Walk, wayLength, IsShortest, marksOn
 use Rattle.loops.specs.Loops.{Loop, loopAt}
 use Rattle.loops.specs.Row.{misclosure, closingNumber}
 use Rattle.loops.specs.Checked.{runs}
-use Rattle.survey.specs.Report.{loopsOf}
+use Rattle.loops.specs.Report.{loopsOf}
 use Rattle.lists.specs.Listing.{Listing}
 
 -- "A report row is five numbers: closing line, count of lines, length, misclosure, verdict": number j of row i, rows counted from 0

@@ -25,15 +25,17 @@ use Rattle.book.specs.declared.Tested.the-variants.{Good, Refused}
 use Rattle.book.proofs.Goods.{tested-good, tested-numbered}
 use Rattle.network.specs.Standing.{standing}
 use Rattle.network.proofs.Entries.{tree-lines-count}
-use Rattle.survey.specs.GoodLines.{GoodLines}
-use Rattle.survey.specs.Report.{loopsOf, reportOf, piecesOf, refusal, counted}
+use Rattle.book.specs.Good.{GoodLines}
+use Rattle.loops.specs.Report.{loopsOf, reportOf, piecesOf}
+use Rattle.survey.specs.Report.{refusal, counted}
 use Rattle.survey.specs.Survey.{Surveyed, surveyGood, surveyTested, surveyOf}
 use Rattle.survey.specs.Correction.{Corrected, noLine, otherReport, correctGood, correctTested, rerunLines, withdrawLines, rerunOf, withdrawOf}
 use Rattle.lists.specs.Listing.{Listing, unlisted, listOf, listingGood, listingTested, listingOf}
 use Rattle.lists.specs.NotChecked.{uncheckedOf, notCheckedTested, notCheckedOf}
 use Rattle.loops.specs.Loops.{loopAt}
 use Rattle.loops.specs.Row.{listed}
-use Rattle.survey.proofs.Sounding.{good-lines, lines-sound, few-loops}
+use Rattle.book.proofs.Goods.{good-lines}
+use Rattle.loops.proofs.Sounding.{lines-sound, few-loops}
 use Rattle.survey.proofs.Corrected.{stands-of, rerun-lines-good, withdrawn-lines-good}
 use Rattle.rates.specs.Rates.{refusedRate, lineRate, firstHigh, goodRate, testedRate, rateAnswer}
 use Rattle.rates.proofs.Rating.{marks-of}

@@ -21,9 +21,9 @@ use Rattle.prepare.specs.Prepared.{Chained, Soil, Started}
 use Rattle.listing.specs.Halves.{halfListed, halvesListed}
 use Rattle.listing.specs.Turns.{LoopFound}
 use Rattle.unchecked.specs.Book.{Shelf, BookListed}
-use Rattle.survey.specs.GoodLines.{GoodLines}
-use Rattle.survey.specs.Report.{loopsOf}
-use Rattle.survey.proofs.Sounding.{few-standing, line-limits}
+use Rattle.book.specs.Good.{GoodLines}
+use Rattle.loops.specs.Report.{loopsOf}
+use Rattle.loops.proofs.Sounding.{few-standing, line-limits}
 use Rattle.survey.proofs.Working.{lines-are, count-is}
 use Rattle.lists.specs.Listing.{listing, unlisted, entered, listOf, listingGood}
 use Rattle.lists.specs.NotChecked.{uncheckedOf}

@@ -13,7 +13,7 @@ use Rattle.book.specs.declared.Tested.{Tested}
 use Rattle.book.specs.declared.Tested.the-variants.{Good, Refused}
 use Rattle.loops.specs.Loops.{loopAt}
 use Rattle.loops.specs.Row.{listed}
-use Rattle.survey.specs.Report.{loopsOf}
+use Rattle.loops.specs.Report.{loopsOf}
 use Rattle.lists.specs.declared.Listed.{Listed}
 
 -- "a listing its entries"

@@ -8,7 +8,7 @@ use Rattle.book.specs.declared.Tested.{Tested}
 use Rattle.book.specs.declared.Tested.the-variants.{Good, Refused}
 use Rattle.network.specs.Standing.{standing}
 use Rattle.loops.specs.Checked.{notChecked}
-use Rattle.survey.specs.Report.{loopsOf}
+use Rattle.loops.specs.Report.{loopsOf}
 use Rattle.lists.specs.Listing.{Listing, listing, unlisted, listOf}
 
 -- the standing lines that no loop checks, "by rising line number"; what that means by circuits is a theorem of crate loops

@@ -1,6 +1,6 @@
 // The listing of one loop of a tested book, in tables of its own on the stack.
 ghost use mathlib.Core.Path.{_≡_};
-ghost use Rattle.survey.specs.GoodLines.{GoodLines};
+ghost use Rattle.book.specs.Good.{GoodLines};
 ghost use Rattle.survey.specs.Desk.{Desk};
 ghost use lib.ListN.{take};
 ghost use Rattle.listing.specs.Halves.{Halves, halvesListed};

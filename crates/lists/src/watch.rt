@@ -2,7 +2,7 @@
 ghost use mathlib.Core.Path.{_≡_};
 ghost use mathlib.Core.List.{map};
 ghost use lib.IntN.{pos};
-ghost use Rattle.survey.specs.GoodLines.{GoodLines};
+ghost use Rattle.book.specs.Good.{GoodLines};
 ghost use Rattle.lists.specs.Listing.{listing, listOf};
 ghost use Rattle.lists.specs.NotChecked.{uncheckedOf};
 ghost use Rattle.lists.specs.Numbers.{Numbers};

@@ -11,3 +11,4 @@ pub mod Row
 pub mod Sizes
 pub mod Rerun
 pub mod Withdrawal
+pub mod Sounding

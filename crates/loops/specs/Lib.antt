@@ -2,6 +2,8 @@ pub mod Loops
 pub mod AllLoops
 pub mod EachLoop
 pub mod Row
+pub mod Report
+pub mod Table
 pub mod Passes
 pub mod Checked
 pub mod Circuit

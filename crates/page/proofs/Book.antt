@@ -11,8 +11,8 @@ use Rattle.book.specs.declared.Book.{Book}
 use Rattle.network.specs.Standing.{standing}
 use Rattle.loops.specs.Loops.{loops}
 use Rattle.prepare.specs.Prepared.{Started}
-use Rattle.survey.specs.GoodLines.{GoodLines}
-use Rattle.survey.specs.Report.{loopsOf}
+use Rattle.book.specs.Good.{GoodLines}
+use Rattle.loops.specs.Report.{loopsOf}
 use Rattle.survey.proofs.Working.{count-is, parts-are}
 use Rattle.lists.specs.Listing.{Listing, listing, listOf}
 use Rattle.lists.specs.NotChecked.{uncheckedOf}

@@ -26,8 +26,8 @@ use Rattle.file.specs.declared.entry.Kind.the-variants.{Line}
 use Rattle.file.proofs.Entries.{entries-length}
 use Rattle.file.proofs.Heads.{head-states, head-numbered}
 use Rattle.file.proofs.Reading.{zero-is-read}
-use Rattle.survey.specs.GoodLines.{GoodLines}
-use Rattle.survey.proofs.Sounding.{good-lines}
+use Rattle.book.specs.Good.{GoodLines}
+use Rattle.book.proofs.Goods.{good-lines}
 use Rattle.text.specs.Report.{refusedText}
 use Rattle.page.specs.Page.{bookPage, testedPage, statedPage, pageOf}
 

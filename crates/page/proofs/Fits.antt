@@ -25,9 +25,9 @@ use Rattle.loops.specs.Row.{listed, misclosure, verdict}
 use Rattle.loops.proofs.EachLoop.{loop-has-few-lines}
 use Rattle.loops.proofs.Basis.{all-closed}
 use Rattle.loops.proofs.Sizes.{length-at-most, misclosure-at-most, listed-at-most}
-use Rattle.survey.specs.GoodLines.{GoodLines}
-use Rattle.survey.specs.Report.{loopsOf, piecesOf}
-use Rattle.survey.proofs.Sounding.{LineLimits, lines-sound, line-limits, few-loops}
+use Rattle.book.specs.Good.{GoodLines}
+use Rattle.loops.specs.Report.{loopsOf, piecesOf}
+use Rattle.loops.proofs.Sounding.{LineLimits, lines-sound, line-limits, few-loops}
 use Rattle.lists.specs.NotChecked.{uncheckedOf}
 use Rattle.lists.proofs.Lists.{few-listed, listed-numbers}
 use Rattle.text.specs.Report.{headText, notCheckedText}

@@ -14,7 +14,7 @@ use Rattle.file.specs.declared.Head.{Head}
 use Rattle.network.specs.Path.{wayLength}
 use Rattle.loops.specs.Loops.{Loop}
 use Rattle.loops.specs.Row.{listed, misclosure, verdict}
-use Rattle.survey.specs.Report.{loopsOf, piecesOf}
+use Rattle.loops.specs.Report.{loopsOf, piecesOf}
 use Rattle.lists.specs.NotChecked.{uncheckedOf}
 use Rattle.text.specs.Report.{headText, loopText, notCheckedText, refusedText}
 

@@ -1,5 +1,5 @@
 // The report of a tested book, worked out in tables on the stack.
-ghost use Rattle.survey.specs.GoodLines.{GoodLines};
+ghost use Rattle.book.specs.Good.{GoodLines};
 ghost use Rattle.survey.specs.Desk.{Desk};
 ghost use Rattle.lists.specs.NotChecked.{uncheckedOf};
 ghost use Rattle.text.specs.Put.{Put};

@@ -135,7 +135,7 @@ fn search(
 }
 
 // The way from the mark m to its root, line by line, into out from place c on: the half of each line as it is run. The answer is where they end.
-fn way(tip: &[u64], best: &[u64], out: &mut [u64], c: usize, m: usize) -> usize
+fn way(tip: &[u64], best: &[u64], out: &mut [u16], c: usize, m: usize) -> usize
     requires { ⌜ Leads (now best) (now tip) (now out) c m ⌝ }
     ensures { λ a. ⌜ Walked (now (best .entry)) (now (tip .entry)) (now (out .entry)) (now (out .exit)) c m a ⌝ }
 {
@@ -145,7 +145,7 @@ fn way(tip: &[u64], best: &[u64], out: &mut [u64], c: usize, m: usize) -> usize
     }
     let h = key % chains::HALVES;
     let g = h / 2 * 4 + 1 - h;
-    out[c] = g;
+    out[c] = g as u16;
     way(tip, best, out, c + 1, tip[g as usize] as usize)
 }
 
@@ -199,7 +199,7 @@ pub fn path(
     tip: &[u64],
     best: &mut [u64],
     seg: &mut [u64],
-    out: &mut [u64],
+    out: &mut [u16],
     n: usize,
     cnt: usize,
     r: usize,
@@ -210,7 +210,7 @@ pub fn path(
 {
     let h = direct_half(head, next, far, add, tip, n, cnt, r, to);
     if 0 < h {
-        out[0] = h / 2 * 4 + 1 - h;
+        out[0] = (h / 2 * 4 + 1 - h) as u16;
         return 1;
     }
     if search(head, next, far, add, tip, best, seg, n, cnt, r, to) {

@@ -112,7 +112,7 @@ pub fn take_loop(
     add: &mut [u64],
     best: &mut [u64],
     seg: &mut [u64],
-    out: &mut [u64],
+    out: &mut [u16],
     n: usize,
     cnt: usize,
     number: usize,

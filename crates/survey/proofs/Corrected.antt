@@ -21,11 +21,11 @@ use Rattle.network.specs.Standing.{standing}
 use Rattle.network.specs.Field.{HasLine, lineAt}
 use Rattle.network.proofs.Corrected.{in-standing, withdrawal-sets-standing}
 use Rattle.loops.proofs.Withdrawal.{loops-never-grow}
-use Rattle.survey.specs.GoodLines.{GoodLines}
+use Rattle.book.specs.Good.{GoodLines}
 use Rattle.survey.specs.Stands.{Stands}
-use Rattle.survey.specs.Report.{loopsOf}
+use Rattle.loops.specs.Report.{loopsOf}
 use Rattle.survey.specs.Correction.{noLine, placeOf, rerunLines, withdrawLines}
-use Rattle.survey.proofs.Sounding.{lines-sound}
+use Rattle.loops.proofs.Sounding.{lines-sound}
 
 -- a line that is not refused stands
 pub stands-of : (lines : List ℤ) (number : ℤ) → noLine lines number ≡ false → Stands lines number (natAbs number - 1)

@@ -10,15 +10,16 @@ use lib.ListN.{length, take, drop, replicate}
 use lib.Seq.{take-at, drop-at, drop-drop}
 use borrow.Author.Tests.{le-ltb}
 use Rattle.book.specs.declared.Book.{Book}
-use Rattle.survey.specs.GoodLines.{GoodLines}
-use Rattle.survey.specs.Report.{loopsOf, reportOf, counted}
+use Rattle.book.specs.Good.{GoodLines}
+use Rattle.loops.specs.Report.{loopsOf, reportOf}
+use Rattle.survey.specs.Report.{counted}
 use Rattle.survey.specs.Survey.{Surveyed, surveyed, surveyGood}
 use Rattle.survey.specs.Correction.{noLine, otherReport, updated, corrected, correctGood}
 use Rattle.survey.specs.Kept.{keptOf, Refresh, Refreshed}
 use Rattle.survey.specs.declared.Answer.{Answer}
 use Rattle.survey.specs.declared.correct.Kept.{Kept}
 use Rattle.survey.specs.declared.correct.Kept.the-variants.{Rows, Other}
-use Rattle.survey.proofs.Sounding.{few-loops, report-length}
+use Rattle.loops.proofs.Sounding.{few-loops, report-length}
 use Rattle.kept.proofs.SameNumbers.{long-enough}
 
 -- what was made of the comparison tells its test

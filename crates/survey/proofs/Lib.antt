@@ -1,4 +1,3 @@
-pub mod Sounding
 pub mod Working
 pub mod Keeping
 pub mod Corrected

@@ -18,13 +18,14 @@ use Rattle.loops.specs.Row.{rows}
 use Rattle.loops.proofs.Rerun.{rerun-keeps-loops, rerun-keeps-pieces}
 use Rattle.reruns.specs.Again.{Again}
 use Rattle.reruns.proofs.Again.{lines-again}
-use Rattle.survey.specs.GoodLines.{GoodLines}
-use Rattle.survey.specs.Report.{loopsOf, reportOf, piecesOf, refusal, counted}
+use Rattle.book.specs.Good.{GoodLines}
+use Rattle.loops.specs.Report.{loopsOf, reportOf, piecesOf}
+use Rattle.survey.specs.Report.{refusal, counted}
 use Rattle.survey.specs.Survey.{Surveyed, surveyed, surveyGood}
 use Rattle.survey.specs.Correction.{noLine, otherReport, updated, corrected, correctGood}
 use Rattle.survey.specs.Kept.{rerunKept}
 use Rattle.survey.specs.declared.Answer.{Answer}
-use Rattle.survey.proofs.Sounding.{report-length}
+use Rattle.loops.proofs.Sounding.{report-length}
 use Rattle.survey.proofs.Corrected.{rerun-good}
 
 -- no row is vacated

@@ -17,11 +17,12 @@ use Rattle.loops.specs.Row.{rows}
 use Rattle.search.specs.Front.{Rooms}
 use Rattle.prepare.specs.Prepared.{Good, Chained, Soil, Seats, BookPlanted, Started}
 use Rattle.rows.specs.Turns.{Tables, NodesRoom}
-use Rattle.survey.specs.GoodLines.{GoodLines}
+use Rattle.book.specs.Good.{GoodLines}
 use Rattle.survey.specs.Desk.{Desk}
-use Rattle.survey.specs.Report.{loopsOf, reportOf, piecesOf, counted, refusal}
+use Rattle.loops.specs.Report.{loopsOf, reportOf, piecesOf}
+use Rattle.survey.specs.Report.{counted, refusal}
 use Rattle.survey.specs.Survey.{surveyed, surveyGood}
-use Rattle.survey.proofs.Sounding.{few-standing, few-loops, report-length}
+use Rattle.loops.proofs.Sounding.{few-standing, few-loops, report-length}
 
 module _ (k : Book) (ls : List ℤ) (g : GoodLines k ls) where
   -- the count of lines, by the slice and by the book

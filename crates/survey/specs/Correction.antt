@@ -12,7 +12,8 @@ use Rattle.book.specs.declared.Book.{Book}
 use Rattle.book.specs.declared.Tested.{Tested}
 use Rattle.book.specs.declared.Tested.the-variants.{Good, Refused}
 unfoldable pub use Rattle.kept.specs.Other.{sameNumbers, otherReport}
-use Rattle.survey.specs.Report.{reportOf, refusal, counted}
+use Rattle.loops.specs.Report.{reportOf}
+use Rattle.survey.specs.Report.{refusal, counted}
 use Rattle.survey.specs.declared.Answer.{Answer}
 
 -- the answer, and lines and report after the call

@@ -8,7 +8,8 @@ use lib.IntN.{ℤ, pos}
 use lib.ListN.{length, drop, replicate}
 use Rattle.book.specs.declared.Book.{Book}
 use Rattle.loops.specs.Row.{rowWords}
-use Rattle.survey.specs.Report.{loopsOf, reportOf, refusal, counted}
+use Rattle.loops.specs.Report.{loopsOf, reportOf}
+use Rattle.survey.specs.Report.{refusal, counted}
 use Rattle.survey.specs.Correction.{otherReport, updated}
 use Rattle.survey.specs.Survey.{Surveyed, surveyed}
 use Rattle.survey.specs.declared.Answer.{Answer}

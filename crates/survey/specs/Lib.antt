@@ -1,4 +1,3 @@
-pub mod GoodLines
 pub mod Desk
 pub mod Report
 pub mod Survey

@@ -9,7 +9,8 @@ use Rattle.book.specs.Test.{testOf}
 use Rattle.book.specs.declared.Book.{Book}
 use Rattle.book.specs.declared.Tested.{Tested}
 use Rattle.book.specs.declared.Tested.the-variants.{Good, Refused}
-use Rattle.survey.specs.Report.{reportOf, refusal, counted}
+use Rattle.loops.specs.Report.{reportOf}
+use Rattle.survey.specs.Report.{refusal, counted}
 use Rattle.survey.specs.declared.Answer.{Answer}
 
 -- the answer, and the rows after the call

@@ -1,7 +1,7 @@
 // Re-run and withdrawal of a line of a tested book.
 ghost use mathlib.Core.Path.{_≡_};
 ghost use Prim.Native.Nat.{_*_, _≤_};
-ghost use Rattle.survey.specs.GoodLines.{GoodLines};
+ghost use Rattle.book.specs.Good.{GoodLines};
 ghost use lib.IntN.{natAbs};
 ghost use Rattle.book.specs.Limits.{mostDifference};
 ghost use Rattle.reruns.specs.Again.{Again};

@@ -1,6 +1,6 @@
 // The work on a tested book, in tables of its own on the stack.
 ghost use mathlib.Core.Path.{_≡_};
-ghost use Rattle.survey.specs.GoodLines.{GoodLines};
+ghost use Rattle.book.specs.Good.{GoodLines};
 ghost use Rattle.survey.specs.Survey.{surveyed, surveyGood};
 ghost use Rattle.survey.specs.Desk.{Desk};
 ghost use Rattle.reruns.specs.Again.{Again};

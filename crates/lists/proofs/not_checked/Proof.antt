@@ -1,7 +1,7 @@
 use mathlib.Core.Path.{_≡_, sym, _∙_}
 use Rattle.book.specs.Test.{testOf}
 use Rattle.book.proofs.Goods.{tested-good}
-use Rattle.survey.proofs.Sounding.{good-lines}
+use Rattle.book.proofs.Goods.{good-lines}
 use Rattle.lists.specs.NotChecked.{notCheckedTested, notCheckedOf}
 use borrow.Author.Needs.{needs}
 use Rattle.lists.proofs.not_checked.Statement.{statement}

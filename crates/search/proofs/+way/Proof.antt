@@ -40,6 +40,9 @@ way-add-g t c = search needs
 way-sub-g : (t : ℕ) → way-lts.Need-sub-g (way-below t, way.Post) (way-at t) way.Post
 way-sub-g t c = search needs
 
+way-cast-out : (t : ℕ) → way-lts.Need-cast-out (way-below t, way.Post) (way-at t) way.Post
+way-cast-out t c = search needs
+
 way-mul-out : (t : ℕ) → way-lts.Need-mul-out (way-below t, way.Post) (way-at t) way.Post
 way-mul-out t c = search needs
 
@@ -80,6 +83,7 @@ pub +way-spec : {M : Type 1} → statement M
     (way-mul-g t)
     (way-add-g t)
     (way-sub-g t)
+    (way-cast-out t)
     (way-mul-out t)
     (way-slice-write-out t)
     (way-add-way t)

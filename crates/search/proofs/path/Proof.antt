@@ -17,6 +17,9 @@ add-out c = search needs
 sub-out : tie.Need-sub-out
 sub-out c = search needs
 
+cast-out : tie.Need-cast-out
+cast-out c = search needs
+
 slice-write-out : tie.Need-slice-write-out
 slice-write-out c = search needs
 
@@ -80,6 +83,7 @@ path-spec =
     mul-out
     add-out
     sub-out
+    cast-out
     slice-write-out
     same-length
     returns

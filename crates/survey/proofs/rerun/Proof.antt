@@ -6,7 +6,7 @@ use Rattle.survey.specs.Correction.{correctTested, rerunOf}
 use Prim.Native.Nat.{_≤_}
 use lib.IntN.{natAbs}
 use Rattle.book.specs.Limits.{mostDifference}
-use Rattle.survey.proofs.Sounding.{good-lines}
+use Rattle.book.proofs.Goods.{good-lines}
 use Rattle.laws.proofs.Size.{size-within}
 use Rattle.book.specs.Line.{differenceOut}
 use borrow.Author.Needs.{needs}

@@ -5,8 +5,8 @@ use native.Mathlib.Omega.{arith}
 use lib.IntN.{pos, natAbs}
 use lib.ListN.{length, set}
 use Rattle.survey.specs.Stands.{Stands}
-use Rattle.survey.specs.GoodLines.{GoodLines}
-use Rattle.survey.specs.Report.{loopsOf}
+use Rattle.book.specs.Good.{GoodLines}
+use Rattle.loops.specs.Report.{loopsOf}
 use Rattle.survey.specs.Correction.{noLine, otherReport, withdrawLines, correctGood}
 use Rattle.survey.proofs.Keeping.{fresh, is-other, is-kept, corrected-is, refresh-of}
 use Rattle.survey.proofs.Corrected.{stands-of, withdrawn-lines-good, withdrawal-fewer}

@@ -8,28 +8,17 @@ use lib.IntN.{ℤ, pos, negsuc, natAbs}
 use lib.ListN.{length}
 use Rattle.laws.specs.Range.{Between}
 use Rattle.book.specs.Limits.{mostLines, mostDifference, mostLength}
-use Rattle.book.specs.Good.{GoodLine, GoodBook}
+use Rattle.book.specs.Good.{GoodLine, GoodBook, GoodLines}
 use Rattle.book.specs.declared.Book.{Book}
+use Rattle.book.proofs.Goods.{good-lines}
 use Rattle.network.specs.Standing.{Line, line, keep, standingFrom, standing}
 use Rattle.network.specs.Sound.{Sound}
 use Rattle.network.specs.Field.{HasLine}
 use Rattle.network.proofs.Corrected.{of-standing, standing-sound}
 use Rattle.network.proofs.Entries.{tree-lines-count}
 use Rattle.loops.proofs.EachLoop.{loops-are-counted}
 use Rattle.loops.proofs.Row.{rows-length}
-use Rattle.survey.specs.GoodLines.{GoodLines}
-use Rattle.survey.specs.Report.{loopsOf, reportOf}
-
--- a book that passes the test has good lines
-pub good-lines : (k : Book) (b t : ℤ) (held lines : List ℤ) → GoodBook k b t held lines → GoodLines k lines
-good-lines k b t held lines g = record {
-  a-mark = g .a-mark;
-  few-marks = g .few-marks;
-  small-tolerance = g .small-tolerance;
-  whole = g .whole-lines;
-  few = g .few-lines;
-  each = g .each-line;
-}
+use Rattle.loops.specs.Report.{loopsOf, reportOf}
 
 -- two whole numbers that are natural are equal where their sizes are
 natural : {lo hi : ℕ} {x y : ℤ} → Between lo hi x → Between lo hi y → natAbs x ≡ natAbs y → x ≡ y
