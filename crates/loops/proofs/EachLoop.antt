@@ -1,6 +1,6 @@
 -- Each loop has its closing line once, forward and first, is closed, runs no line twice and no more lines than there are marks, and no earlier loop runs its
 -- closing line. Assumes nothing.
-use Prim.Native.Nat.{ℕ, _+_, _≤_}
+use Prim.Native.Nat.{ℕ, _+_, _≤_, _<_}
 use native.Mathlib.Omega.{arith}
 use mathlib.Core.Path.{_≡_, refl, sym, _∙_, ap, subst}
 use mathlib.Core.Logic.{_⊎_, inl, inr}
@@ -134,6 +134,13 @@ module _ (b : ℕ) (lines : List Line) (sound : Sound b lines) where
           go (step s m w) =
               let p = sound .placed c m in
               omega (arith, ap length (x .closingFirst), fewer-lines-than-marks b lines (sound .placed) w (p .to-low, p .to-high) (x .noMarkTwice))
+
+  -- every line that a loop runs stands, and it runs one at least
+  pub loop-runs-lines : (lp : Loop) → List·Memᴰ lp (loops b lines) → (p : Pass) → List·Memᴰ p lp → List·Memᴰ (p .line) lines
+  loop-runs-lines lp i p m = pass-line (loop-has-closing-line lp i .2 .closed) p m
+
+  pub loop-has-a-line : (lp : Loop) → List·Memᴰ lp (loops b lines) → 0 < length lp
+  loop-has-a-line lp i = omega (arith, ap length (loop-has-closing-line lp i .2 .closingFirst))
 
   -- no earlier loop runs a loop's closing line
   pub no-earlier-loop-runs-it : Pairwise (λ (lp later : Loop). runs (closingNumber later) lp ≡ false) (loops b lines)

@@ -12,3 +12,4 @@ pub mod Sizes
 pub mod Rerun
 pub mod Withdrawal
 pub mod Sounding
+pub mod Table

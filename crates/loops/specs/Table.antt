@@ -3,7 +3,7 @@
 use Prim.Native.Nat.{ℕ, _≤_, _<_}
 use mathlib.Core.Path.{_≡_}
 use mathlib.Core.List.{List, [], _∷_, _++_}
-use lib.ListN.{length, getD, take}
+use lib.ListN.{length, getD, take, drop}
 use Rattle.network.specs.Codes.{codes}
 use Rattle.loops.specs.Loops.{Loop}
 
@@ -18,5 +18,4 @@ pub record Table (ls : List Loop) (starts runs : List ℕ) (count : ℕ) : Type 
   pub counted : count ≡ length ls
   pub starts-fit : length ls < length starts
   pub begins : (i : ℕ) → i ≤ length ls → getD starts i 0 ≡ length (runsOf (take i ls))
-  pub runs-fit : length (runsOf ls) ≤ length runs
-  pub held : take (length (runsOf ls)) runs ≡ runsOf ls
+  pub held : runs ≡ runsOf ls ++ drop (length (runsOf ls)) runs

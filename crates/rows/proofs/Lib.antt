@@ -1,3 +1,3 @@
 pub mod Totals
 pub mod Passes
-pub mod Turning
+pub mod Written

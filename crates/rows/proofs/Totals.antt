@@ -1,81 +1,79 @@
--- Sums over the halves of a way, from the first to the last. Assumes nothing.
-use Prim.Native.Nat.{ℕ, zero, suc, _+_, _*_, _-_, _/_, _%_, _≤_, _<_}
+-- Sums over a run, from its first line to its last, and what comes of them. Assumes nothing.
+use Prim.Native.Nat.{ℕ, suc, _+_, _*_, _-_, _/_, _%_, _≤_, _<_}
 use native.Mathlib.Omega.{arith}
 use native.Mathlib.Numerals.{add-one}
 use native.Mathlib.Nat.{mul-le-mul}
 use mathlib.Core.Path.{_≡_, refl, sym, _∙_, ap}
 use mathlib.Core.List.{List, [], _∷_}
 use lib.Dec.{eqb}
-use borrow.Author.Tests.{eq-eqb, ne-eqb, le-leb, lt-leb}
 use lib.IntN.{ℤ, pos, natAbs, negℤ, _+ℤ_, _-ℤ_, +ℤ-assoc, +ℤ-idl, +ℤ-idr}
+use lib.ListN.{length, getD, drop, set, drop-of-length-le}
+use lib.Seq.{drop-cons}
+use borrow.Author.Tests.{eq-eqb, ne-eqb, le-leb, lt-leb}
 use Rattle.laws.proofs.Tests.{cond-ind}
 use Rattle.laws.proofs.Size.{size-neg}
-use Rattle.book.specs.Limits.{mostDifference, mostLength, mostTolerance}
-use Rattle.nearest.specs.Heap.{leafLimit}
-use lib.ListN.{length, getD, take, drop, set, length-take}
 use Rattle.laws.proofs.Lists.{filled}
-use lib.Seq.{drop-cons, getD-take}
-use Rattle.rows.specs.Sums.{lengthOf, riseAt, riseOf, verdictOf, rowOf, Gentle, HalfOk, squareLimit}
+use Rattle.book.specs.Limits.{mostMarks, mostDifference, mostLength, mostTolerance}
+use Rattle.book.specs.Line.{lineCount, differenceAt}
+use Rattle.rows.specs.Sums.{lineOf, lengthBy, riseBy, lengthOf, riseOf, verdictOf, rowOf, Measured, Runs, squareLimit}
 
--- the way from place j on begins with what stands at j
-rest-of : (out : List ℕ) (a j : ℕ) → a ≤ length out → j < a → drop j (take a out) ≡ getD out j 0 ∷ drop (j + 1) (take a out)
-rest-of out a j le lt =
-    drop-cons (take a out) j 0 (simp length-take (omega arith)) ∙ ap (λ (h : ℕ). h ∷ drop (suc j) (take a out)) (getD-take a out j 0 lt)
-    ∙ ap (λ (k : ℕ). getD out j 0 ∷ drop k (take a out)) (sym (add-one j))
+module _ (ls : List ℤ) (run : List ℕ) where
+  -- the run from place j on begins with what stands at j
+  rest-of : (j : ℕ) → j < length run → drop j run ≡ getD run j 0 ∷ drop (j + 1) run
+  rest-of j lt = rw (add-one j) (drop-cons run j 0 lt)
 
-drop-all : {A : Type 0} (xs : List A) (k : ℕ) → length xs ≤ k → drop k xs ≡ []
-drop-all [] zero h = refl
-drop-all [] (suc k) h = refl
-drop-all (x ∷ xs) zero h = absurd (omega arith)
-drop-all (x ∷ xs) (suc k) h = drop-all xs k (omega arith)
-
-module _ (long out : List ℕ) (a : ℕ) (le : a ≤ length out) where
   -- what is summed and what is left make up the whole
-  pub length-next : (j sum : ℕ) → j < a → sum + lengthOf long (drop j (take a out)) ≡ lengthOf long (take a out)
-      → sum + getD long (getD out j 0 / 2) 0 + lengthOf long (drop (j + 1) (take a out)) ≡ lengthOf long (take a out)
+  pub length-next : (j sum : ℕ) → j < length run → sum + lengthOf ls (drop j run) ≡ lengthOf ls run
+      → sum + lengthBy ls (getD run j 0) + lengthOf ls (drop (j + 1) run) ≡ lengthOf ls run
   unfolding lengthOf
-  length-next j sum lt h = omega (arith, h, ap (lengthOf long) (rest-of out a j le lt))
+  length-next j sum lt h = omega (arith, h, ap (lengthOf ls) (rest-of j lt))
 
-  pub length-end : (j sum : ℕ) → a ≤ j → sum + lengthOf long (drop j (take a out)) ≡ lengthOf long (take a out) → sum ≡ lengthOf long (take a out)
+  pub length-end : (j sum : ℕ) → length run ≤ j → sum + lengthOf ls (drop j run) ≡ lengthOf ls run → sum ≡ lengthOf ls run
   unfolding lengthOf
-  length-end j sum ge h = omega (arith, h, ap (lengthOf long) (drop-all (take a out) j (simp length-take (omega arith))))
+  length-end j sum ge h = omega (arith, h, ap (lengthOf ls) (drop-of-length-le run ge))
 
-module _ (ls : List ℤ) (out : List ℕ) (a : ℕ) (le : a ≤ length out) where
-  pub rise-next : (j : ℕ) (sum : ℤ) → j < a → sum +ℤ riseOf ls (drop j (take a out)) ≡ riseOf ls (take a out)
-      → (sum +ℤ riseAt ls (getD out j 0)) +ℤ riseOf ls (drop (j + 1) (take a out)) ≡ riseOf ls (take a out)
+  pub rise-next : (j : ℕ) (sum : ℤ) → j < length run → sum +ℤ riseOf ls (drop j run) ≡ riseOf ls run
+      → (sum +ℤ riseBy ls (getD run j 0)) +ℤ riseOf ls (drop (j + 1) run) ≡ riseOf ls run
   unfolding riseOf
   rise-next j sum lt h =
-      +ℤ-assoc sum (riseAt ls (getD out j 0)) (riseOf ls (drop (j + 1) (take a out)))
-      ∙ ap (λ (z : ℤ). sum +ℤ z) (sym (ap (riseOf ls) (rest-of out a j le lt))) ∙ h
+      +ℤ-assoc sum (riseBy ls (getD run j 0)) (riseOf ls (drop (j + 1) run))
+      ∙ ap (λ (z : ℤ). sum +ℤ z) (sym (ap (riseOf ls) (rest-of j lt))) ∙ h
 
-  pub rise-end : (j : ℕ) (sum : ℤ) → a ≤ j → sum +ℤ riseOf ls (drop j (take a out)) ≡ riseOf ls (take a out) → sum ≡ riseOf ls (take a out)
+  pub rise-end : (j : ℕ) (sum : ℤ) → length run ≤ j → sum +ℤ riseOf ls (drop j run) ≡ riseOf ls run → sum ≡ riseOf ls run
   unfolding riseOf
-  rise-end j sum ge h = sym (+ℤ-idr sum) ∙ ap (λ (z : ℤ). sum +ℤ z) (sym (ap (riseOf ls) (drop-all (take a out) j (simp length-take (omega arith))))) ∙ h
+  rise-end j sum ge h = sym (+ℤ-idr sum) ∙ ap (λ (z : ℤ). sum +ℤ z) (sym (ap (riseOf ls) (drop-of-length-le run ge))) ∙ h
 
--- ---- one half
+-- ---- one line
 
-pub difference-of : (ls : List ℤ) (h : ℕ) → Gentle ls → HalfOk ls h → natAbs (getD ls ((h / 2 - 1) * 5 + 2) (pos 0)) ≤ mostDifference
-difference-of ls h g ok = g (h / 2 - 1) (omega (arith, ok .low, ok .high))
+-- the line that a code runs is in the book
+pub line-there : {ls : List ℤ} {code : ℕ} → Runs ls code → lineOf code < lineCount ls
+line-there r = omega (arith, r .low, r .high)
 
-pub rise-size : (ls : List ℤ) (h : ℕ) → Gentle ls → HalfOk ls h → natAbs (riseAt ls h) ≤ mostDifference
-unfolding riseAt
-rise-size ls h g ok = cond-ind (λ (z : ℤ). natAbs z ≤ mostDifference) (eqb (h % 2) 0) (getD ls ((h / 2 - 1) * 5 + 2) (pos 0)) (negℤ (getD ls ((h / 2 - 1) * 5 + 2) (pos 0)))
-    (λ e. difference-of ls h g ok) (λ e. rw size-neg (difference-of ls h g ok))
+pub length-size : (ls : List ℤ) (code : ℕ) → Measured ls → Runs ls code → lengthBy ls code ≤ mostLength
+unfolding lengthBy
+length-size ls code m r = m .lengths (lineOf code) (line-there r) .high
 
-pub rise-fore : (ls : List ℤ) (h : ℕ) → h % 2 ≡ 0 → riseAt ls h ≡ getD ls ((h / 2 - 1) * 5 + 2) (pos 0)
-unfolding riseAt
-rise-fore ls h e = rw (eq-eqb (h % 2) 0 e)
+pub rise-size : (ls : List ℤ) (code : ℕ) → Measured ls → Runs ls code → natAbs (riseBy ls code) ≤ mostDifference
+unfolding riseBy
+rise-size ls code m r =
+    let d = differenceAt ls (lineOf code) in
+    let h = m .differences (lineOf code) (line-there r) in
+    cond-ind (λ (z : ℤ). natAbs z ≤ mostDifference) (eqb (code % 2) 0) d (negℤ d) (λ e. h) (λ e. rw size-neg h)
 
-pub rise-aft : (ls : List ℤ) (h : ℕ) → (h % 2 ≡ 0 → ⊥) → riseAt ls h ≡ pos 0 -ℤ getD ls ((h / 2 - 1) * 5 + 2) (pos 0)
-unfolding riseAt
-rise-aft ls h e = rw (ne-eqb (h % 2) 0 e) (sym (+ℤ-idl (negℤ (getD ls ((h / 2 - 1) * 5 + 2) (pos 0)))))
+pub rise-fore : (ls : List ℤ) (code : ℕ) → code % 2 ≡ 0 → riseBy ls code ≡ differenceAt ls (lineOf code)
+unfolding riseBy
+rise-fore ls code e = rw (eq-eqb (code % 2) 0 e)
+
+pub rise-aft : (ls : List ℤ) (code : ℕ) → (code % 2 ≡ 0 → ⊥) → riseBy ls code ≡ pos 0 -ℤ differenceAt ls (lineOf code)
+unfolding riseBy
+rise-aft ls code e = rw (ne-eqb (code % 2) 0 e) (sym (+ℤ-idl (negℤ (differenceAt ls (lineOf code)))))
 
 -- ---- the verdict
 
-pub allow : (t len : ℕ) → t ≤ mostTolerance → len ≤ leafLimit * mostLength → t * t * len ≤ mostTolerance * mostTolerance * (leafLimit * mostLength)
+pub allow : (t len : ℕ) → t ≤ mostTolerance → len ≤ mostMarks * mostLength → t * t * len ≤ mostTolerance * mostTolerance * (mostMarks * mostLength)
 allow t len ht hl = mul-le-mul (mul-le-mul ht ht) hl
 
-pub verdict-big : (t : ℕ) (m : ℤ) (len size : ℕ) → t ≤ mostTolerance → len ≤ leafLimit * mostLength → size ≡ natAbs m → squareLimit ≤ size → verdictOf t m len ≡ pos 1
+pub verdict-big : (t : ℕ) (m : ℤ) (len size : ℕ) → t ≤ mostTolerance → len ≤ mostMarks * mostLength → size ≡ natAbs m → squareLimit ≤ size → verdictOf t m len ≡ pos 1
 unfolding verdictOf
 verdict-big t m len size ht hl e h =
     let a = allow t len ht hl in
@@ -98,20 +96,7 @@ five out {a} {b} {c} {d} {e} h p q r s t = filled (a ∷ b ∷ c ∷ d ∷ e ∷
 
 -- ---- a row by its sums
 
-length-cons : (long : List ℕ) (h : ℕ) (hs : List ℕ) → lengthOf long (h ∷ hs) ≡ getD long (h / 2) 0 + lengthOf long hs
-unfolding lengthOf
-length-cons long h hs = refl
-
-rise-cons : (ls : List ℤ) (h : ℕ) (hs : List ℕ) → riseOf ls (h ∷ hs) ≡ riseAt ls h +ℤ riseOf ls hs
-unfolding riseOf
-rise-cons ls h hs = refl
-
-pub row-made : (t : ℕ) (ls : List ℤ) (long : List ℕ) (number : ℕ) (hs : List ℕ) (a metres : ℕ) (m v : ℤ) → length hs ≡ a → metres ≡ getD long number 0 + lengthOf long hs
-    → m ≡ riseAt ls (number * 2) +ℤ riseOf ls hs → v ≡ verdictOf t m metres → pos number ∷ pos (a + 1) ∷ pos metres ∷ m ∷ v ∷ [] ≡ rowOf t ls long number hs
+pub row-made : (t : ℕ) (ls : List ℤ) (run : List ℕ) (metres : ℕ) (m v : ℤ) → metres ≡ lengthOf ls run → m ≡ riseOf ls run → v ≡ verdictOf t m metres
+    → pos (getD run 0 0 / 2) ∷ pos (length run) ∷ pos metres ∷ m ∷ v ∷ [] ≡ rowOf t ls run
 unfolding rowOf
-row-made t ls long number hs a metres m v p q r s =
-    let two : number * 2 / 2 ≡ number = omega arith in
-    let one : suc (length hs) ≡ a + 1 = omega arith in
-    let len : lengthOf long (number * 2 ∷ hs) ≡ metres = length-cons long (number * 2) hs ∙ ap (λ (k : ℕ). getD long k 0 + lengthOf long hs) two ∙ sym q in
-    let ris : riseOf ls (number * 2 ∷ hs) ≡ m = rise-cons ls (number * 2) hs ∙ sym r in
-    rw (len, ris, one, ← s)
+row-made t ls run metres m v p q r = rw (r, p, q)

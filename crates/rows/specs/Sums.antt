@@ -1,65 +1,65 @@
--- The sums of a loop over the halves that it runs, and its row. Assumes nothing.
+-- The sums of a loop over its run, and its row. Assumes nothing.
 use Prim.Native.Nat.{ℕ, _+_, _*_, _-_, _/_, _%_, _≤_, _<_}
 use mathlib.Core.Bool.{cond}
 use mathlib.Core.List.{List, [], _∷_}
 use lib.IntN.{ℤ, pos, natAbs, negℤ, _+ℤ_}
 use lib.ListN.{length, getD}
 use lib.Dec.{eqb, leb}
-use Rattle.book.specs.Limits.{mostDifference, mostTolerance}
-use Rattle.nearest.specs.Heap.{leafLimit}
-use Rattle.chains.specs.Chains.{halves, numberLimit}
-use Rattle.chains.specs.Listed.{Longs}
+use Rattle.laws.specs.Range.{Between}
+use Rattle.book.specs.Limits.{mostMarks, mostLines, mostDifference, leastLength, mostLength}
+use Rattle.book.specs.Line.{lineCount, differenceAt, lengthAt}
 
 -- a size from which a misclosure is over without squaring
 abbrev pub squareLimit : ℕ
 squareLimit = 2147483648
 
--- the length of a way
-unfoldable pub lengthOf : List ℕ → List ℕ → ℕ
-lengthOf long [] = 0
-lengthOf long (h ∷ hs) = getD long (h / 2) 0 + lengthOf long hs
+-- the line that a code runs, by its place in the book
+abbrev pub lineOf : ℕ → ℕ
+lineOf code = code / 2 - 1
 
--- the difference of a half in its sense
-unfoldable pub riseAt : List ℤ → ℕ → ℤ
-riseAt ls h = cond (eqb (h % 2) 0) (getD ls ((h / 2 - 1) * 5 + 2) (pos 0)) (negℤ (getD ls ((h / 2 - 1) * 5 + 2) (pos 0)))
+-- its length
+unfoldable pub lengthBy : List ℤ → ℕ → ℕ
+lengthBy ls code = natAbs (lengthAt ls (lineOf code))
 
--- the rise of a way
+-- its difference, in the sense of the code
+unfoldable pub riseBy : List ℤ → ℕ → ℤ
+riseBy ls code = cond (eqb (code % 2) 0) (differenceAt ls (lineOf code)) (negℤ (differenceAt ls (lineOf code)))
+
+-- the length of a run
+unfoldable pub lengthOf : List ℤ → List ℕ → ℕ
+unfolding lengthBy
+lengthOf ls [] = 0
+lengthOf ls (code ∷ run) = lengthBy ls code + lengthOf ls run
+
+-- its rise, which is the misclosure of a loop
 unfoldable pub riseOf : List ℤ → List ℕ → ℤ
-unfolding riseAt
+unfolding riseBy
 riseOf ls [] = pos 0
-riseOf ls (h ∷ hs) = riseAt ls h +ℤ riseOf ls hs
+riseOf ls (code ∷ run) = riseBy ls code +ℤ riseOf ls run
 
 -- "a loop is within exactly if m*m <= 10*t*t*L; equal is within"; 0 within, 1 over
 unfoldable pub verdictOf : ℕ → ℤ → ℕ → ℤ
 verdictOf t m len = cond (leb (natAbs m * natAbs m) (10 * (t * t * len))) (pos 0) (pos 1)
 
--- the row of the loop of closing line number and the way hs
-unfoldable pub rowOf : ℕ → List ℤ → List ℕ → ℕ → List ℕ → List ℤ
+-- the row of the loop with this run: its closing line comes first
+unfoldable pub rowOf : ℕ → List ℤ → List ℕ → List ℤ
 unfolding lengthOf riseOf verdictOf
-rowOf t ls long number hs =
-    let all = number * 2 ∷ hs in
-    pos number ∷ pos (length all) ∷ pos (lengthOf long all) ∷ riseOf ls all ∷ verdictOf t (riseOf ls all) (lengthOf long all) ∷ []
+rowOf t ls run =
+    pos (getD run 0 0 / 2) ∷ pos (length run) ∷ pos (lengthOf ls run) ∷ riseOf ls run ∷ verdictOf t (riseOf ls run) (lengthOf ls run) ∷ []
 
--- every line's difference is within its limit
-abbrev pub Gentle : List ℤ → Type 0
-Gentle ls = (i : ℕ) → i < length ls / 5 → natAbs (getD ls (i * 5 + 2) (pos 0)) ≤ mostDifference
+-- the count of lines, and every line's difference and length, are within their limits
+pub record Measured (ls : List ℤ) : Type 0 where
+  pub few-lines : lineCount ls ≤ mostLines
+  pub differences : (i : ℕ) → i < lineCount ls → natAbs (differenceAt ls i) ≤ mostDifference
+  pub lengths : (i : ℕ) → i < lineCount ls → Between leastLength mostLength (lengthAt ls i)
 
--- h is a half of a line of ls
-pub record HalfOk (ls : List ℤ) (h : ℕ) : Type 0 where
-  pub low : 2 ≤ h
-  pub high : h / 2 ≤ length ls / 5
-  pub few : h < halves
+-- the code runs a line of the book
+pub record Runs (ls : List ℤ) (code : ℕ) : Type 0 where
+  pub low : 2 ≤ code
+  pub high : code / 2 ≤ lineCount ls
 
--- the first a places of out are halves of lines of ls
-pub record Coded (ls : List ℤ) (out : List ℕ) (a : ℕ) : Type 0 where
-  pub places : a ≤ length out
-  pub few : a < leafLimit
-  pub ok : (j : ℕ) → j < a → HalfOk ls (getD out j 0)
-
--- what a row asks for
-pub record RowAsked (ls : List ℤ) (long path : List ℕ) (a number t : ℕ) : Type 0 where
-  pub gentle : Gentle ls
-  pub longs : Longs numberLimit long
-  pub coded : Coded ls path a
-  pub closing : HalfOk ls (number * 2)
-  pub tolerance : t ≤ mostTolerance
+-- a loop's run in the book ls: some lines of it, no more than there are marks
+pub record RunIn (ls : List ℤ) (run : List ℕ) : Type 0 where
+  pub some-line : 0 < length run
+  pub few : length run ≤ mostMarks
+  pub each : (j : ℕ) → j < length run → Runs ls (getD run j 0)

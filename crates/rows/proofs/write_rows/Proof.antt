@@ -2,126 +2,145 @@ use Prim.Native.Nat.{_≤_, _-_}
 use native.Mathlib.Omega.{arith}
 use mathlib.Core.Path.{_≡_, refl}
 use lib.ListN.{length, length-take, length-drop}
-use Rattle.rows.specs.Turns.{RowsAt}
-use Rattle.rows.proofs.Turning.{due, rows-start, rows-next, rows-end}
+use Rattle.loops.specs.Report.{reportOf}
+use Rattle.loops.proofs.Table.{run-rises, run-fits}
+use Rattle.rows.proofs.Passes.{measured}
+use Rattle.rows.proofs.Written.{AllWritten, all-written-start, all-written-next, written-end, run-in}
 use Rattle.rows.proofs.write_rows.Statement.{statement}
 use Rattle.rows.proofs.write_rows.Tie as tie
 
 abbrev Inv-loop : tie.InvT-loop
-Inv-loop lines tip long close head₀ next₀ far₀ add₀ best₀ seg₀ path₀ out₀ n nodes count t cnt₀ i₀ head next far add best seg path out cnt i =
-    (i ≤ count) × ((length head ≡ length head₀) × (length next ≡ length next₀) × (length far ≡ length far₀) × (length add ≡ length add₀)) × ((length best ≡ length best₀) × (length seg ≡ length seg₀) × (length path ≡ length path₀) × (length out ≡ length out₀)) × RowsAt lines n i cnt t tip close head next far add out₀ out
+Inv-loop lines starts runs count out₀ t i₀ out i = (i ≤ count) × (length out ≡ length out₀) × AllWritten lines starts runs count out₀ t out i
 
 abbrev μ-loop : tie.MeasureT-loop
-μ-loop lines tip long close head₀ next₀ far₀ add₀ best₀ seg₀ path₀ out₀ n nodes count t cnt₀ i₀ head next far add best seg path out cnt i = count - i
+μ-loop lines starts runs count out₀ t i₀ out i = count - i
 
 loop-holds : tie.Need-loop-holds Inv-loop μ-loop
-loop-holds c =
-    let entry : tie.Start Inv-loop μ-loop = search in
-    (omega arith, (refl, refl, refl, refl), (refl, refl, refl, refl), rows-start (entry .pre .1 .1 .1))
+loop-holds c = (omega arith, refl, all-written-start)
 
 mul-at : tie.Need-mul-at Inv-loop μ-loop
 mul-at c =
     let entry : tie.Start Inv-loop μ-loop = search in
-    omega (arith, entry .pre .1 .1 .1 .outs, entry .good)
+    let p = entry .pre in
+    omega (arith, p .1 .1, entry .good)
 
-add-row-turn : tie.Need-add-row-turn Inv-loop μ-loop
-add-row-turn c =
+mul-begin : tie.Need-mul-begin Inv-loop μ-loop
+mul-begin c =
     let entry : tie.Start Inv-loop μ-loop = search in
-    omega (arith, entry .pre .1 .1 .1 .outs, entry .good)
+    let p = entry .pre in
+    omega (arith, p .1 .0 .counted, p .1 .0 .starts-fit, entry .good)
 
-mul-row-turn : tie.Need-mul-row-turn Inv-loop μ-loop
-mul-row-turn c =
+shared-slice-read-begin : tie.Need-shared-slice-read-begin Inv-loop μ-loop
+shared-slice-read-begin c =
     let entry : tie.Start Inv-loop μ-loop = search in
-    omega (arith, entry .pre .1 .1 .1 .outs, entry .good)
+    let p = entry .pre in
+    omega (arith, p .1 .0 .counted, p .1 .0 .starts-fit)
 
-sub-row-turn : tie.Need-sub-row-turn Inv-loop μ-loop
-sub-row-turn c = omega arith
-
-part-row-turn-start : tie.Need-part-row-turn-start Inv-loop μ-loop
-part-row-turn-start c = omega arith
-
-part-row-turn-end : tie.Need-part-row-turn-end Inv-loop μ-loop
-part-row-turn-end c =
-    let at-loop : tie.At-loop Inv-loop μ-loop = search in
+add-end : tie.Need-add-end Inv-loop μ-loop
+add-end c =
     let entry : tie.Start Inv-loop μ-loop = search in
-    omega (arith, entry .pre .1 .1 .1 .outs, at-loop .loop .inv)
+    let p = entry .pre in
+    omega (arith, p .1 .0 .counted, p .1 .0 .starts-fit, entry .good)
 
-mul-row-turn-2 : tie.Need-mul-row-turn-2 Inv-loop μ-loop
-mul-row-turn-2 c =
+mul-end : tie.Need-mul-end Inv-loop μ-loop
+mul-end c =
     let entry : tie.Start Inv-loop μ-loop = search in
-    omega (arith, entry .pre .1 .1 .1 .closes, entry .good)
+    let p = entry .pre in
+    omega (arith, p .1 .0 .counted, p .1 .0 .starts-fit, entry .good)
 
-shared-slice-read-row-turn : tie.Need-shared-slice-read-row-turn Inv-loop μ-loop
-shared-slice-read-row-turn c =
+shared-slice-read-end : tie.Need-shared-slice-read-end Inv-loop μ-loop
+shared-slice-read-end c =
     let entry : tie.Start Inv-loop μ-loop = search in
-    omega (arith, entry .pre .1 .1 .1 .closes)
+    let p = entry .pre in
+    omega (arith, p .1 .0 .counted, p .1 .0 .starts-fit)
 
-row-turn-requires : tie.Need-row-turn-requires Inv-loop μ-loop
-row-turn-requires c κs =
+mul-row-of : tie.Need-mul-row-of Inv-loop μ-loop
+mul-row-of c =
     let at-loop : tie.At-loop Inv-loop μ-loop = search in
     let entry : tie.Start Inv-loop μ-loop = search in
     let p = entry .pre in
-    let v = at-loop .loop .inv in (
-      p .0,
-      (
-        record { nexts = omega (arith, v .1, p .1 .0 .nexts); ends = omega (arith, v .1, p .1 .0 .ends); adds = omega (arith, v .1, p .1 .0 .adds) },
-        (
-          record { room = record { few = p .1 .1 .0 .room .few; bests = omega (arith, v .2, p .1 .1 .0 .room .bests); segs = omega (arith, v .2, p .1 .1 .0 .room .segs) }; outs = omega (arith, v .2, p .1 .1 .0 .outs) },
-          (simp (length-take, length-drop) (omega (arith, c, v .2, p .1 .1 .1 .outs)), due (v .3 .going) (omega (arith, c, p .1 .1 .1 .count-is)) refl),
-        ),
-      ),
-    )
+    let tb = p .1 .0 in
+    omega (arith, run-rises tb (at-loop .loop .i) (omega (arith, tb .counted)), run-fits tb (at-loop .loop .i) (omega (arith, tb .counted)), entry .good)
+
+sub-row-of : tie.Need-sub-row-of Inv-loop μ-loop
+sub-row-of c =
+    let at-loop : tie.At-loop Inv-loop μ-loop = search in
+    let entry : tie.Start Inv-loop μ-loop = search in
+    let p = entry .pre in
+    run-rises (p .1 .0) (at-loop .loop .i) (omega (arith, p .1 .0 .counted))
+
+part-row-of-start : tie.Need-part-row-of-start Inv-loop μ-loop
+part-row-of-start c =
+    let at-loop : tie.At-loop Inv-loop μ-loop = search in
+    let entry : tie.Start Inv-loop μ-loop = search in
+    let p = entry .pre in
+    run-rises (p .1 .0) (at-loop .loop .i) (omega (arith, p .1 .0 .counted))
+
+part-row-of-end : tie.Need-part-row-of-end Inv-loop μ-loop
+part-row-of-end c =
+    let at-loop : tie.At-loop Inv-loop μ-loop = search in
+    let entry : tie.Start Inv-loop μ-loop = search in
+    let p = entry .pre in
+    run-fits (p .1 .0) (at-loop .loop .i) (omega (arith, p .1 .0 .counted))
+
+add-row-of : tie.Need-add-row-of Inv-loop μ-loop
+add-row-of c =
+    let entry : tie.Start Inv-loop μ-loop = search in
+    let p = entry .pre in
+    omega (arith, p .1 .1, entry .good)
+
+mul-row-of-2 : tie.Need-mul-row-of-2 Inv-loop μ-loop
+mul-row-of-2 c =
+    let entry : tie.Start Inv-loop μ-loop = search in
+    let p = entry .pre in
+    omega (arith, p .1 .1, entry .good)
+
+sub-row-of-2 : tie.Need-sub-row-of-2 Inv-loop μ-loop
+sub-row-of-2 c = omega arith
+
+part-row-of-start-2 : tie.Need-part-row-of-start-2 Inv-loop μ-loop
+part-row-of-start-2 c = omega arith
+
+part-row-of-end-2 : tie.Need-part-row-of-end-2 Inv-loop μ-loop
+part-row-of-end-2 c =
+    let at-loop : tie.At-loop Inv-loop μ-loop = search in
+    let entry : tie.Start Inv-loop μ-loop = search in
+    let p = entry .pre in
+    omega (arith, p .1 .1, at-loop .loop .inv)
+
+row-of-requires : tie.Need-row-of-requires Inv-loop μ-loop
+row-of-requires c κs =
+    let at-loop : tie.At-loop Inv-loop μ-loop = search in
+    let entry : tie.Start Inv-loop μ-loop = search in
+    let p = entry .pre in
+    (measured _ _ (p .0), (run-in _ _ (p .0) (p .1 .0) (at-loop .loop .i) (omega arith), (p .0 .small-tolerance, simp (length-take, length-drop) (omega (arith, c, at-loop .loop .inv .1, p .1 .1)))))
 
 add-i : tie.Need-add-i Inv-loop μ-loop
 add-i c =
-    let at-loop : tie.At-loop Inv-loop μ-loop = search in
     let entry : tie.Start Inv-loop μ-loop = search in
-    omega (arith, at-loop .loop .inv, entry .fits .count)
+    let p = entry .pre in
+    omega (arith, p .1 .1, entry .good)
 
 loop-less : tie.Need-loop-less Inv-loop μ-loop
 loop-less c = omega arith
 
 loop-again : tie.Need-loop-again Inv-loop μ-loop
 loop-again c =
-    let after-row-turn : tie.After-row-turn Inv-loop μ-loop = search in
     let at-loop : tie.At-loop Inv-loop μ-loop = search in
-    let entry : tie.Start Inv-loop μ-loop = search in
+    let after-row-of : tie.After-row-of Inv-loop μ-loop = search in
     let v = at-loop .loop .inv in
-    let k = after-row-turn .row-turn .kept in (
-      omega (arith, c),
-      (omega (arith, v .1, k), omega (arith, v .1, k), omega (arith, v .1, k), omega (arith, v .1, k)),
-      (omega (arith, v .2, k), omega (arith, v .2, k), omega (arith, v .2, k), omega (arith, v .2, c .out .given .1)),
-      rows-next (v .3) (omega (arith, c, entry .pre .1 .1 .1 .count-is)) refl _ (after-row-turn .row-turn .ensures),
-    )
+    (omega arith, omega (arith, v .1, c .out .given .1), all-written-next (omega arith) (v .2) _ (after-row-of .row-of .ensures))
 
 same-length : tie.Need-same-length Inv-loop μ-loop
 same-length c = omega arith
 
-same-length-2 : tie.Need-same-length-2 Inv-loop μ-loop
-same-length-2 c = omega arith
-
-same-length-3 : tie.Need-same-length-3 Inv-loop μ-loop
-same-length-3 c = omega arith
-
-same-length-4 : tie.Need-same-length-4 Inv-loop μ-loop
-same-length-4 c = omega arith
-
-same-length-5 : tie.Need-same-length-5 Inv-loop μ-loop
-same-length-5 c = omega arith
-
-same-length-6 : tie.Need-same-length-6 Inv-loop μ-loop
-same-length-6 c = omega arith
-
-same-length-7 : tie.Need-same-length-7 Inv-loop μ-loop
-same-length-7 c = omega arith
-
-same-length-8 : tie.Need-same-length-8 Inv-loop μ-loop
-same-length-8 c = omega arith
-
 returns : tie.Need-returns Inv-loop μ-loop
+unfolding reportOf
 returns c =
+    let at-loop : tie.At-loop Inv-loop μ-loop = search in
     let entry : tie.Start Inv-loop μ-loop = search in
-    rows-end (c .before .loop .inv .3) _ (entry .pre .1 .1 .1 .count-is) (omega arith)
+    let p = entry .pre in
+    written-end _ _ _ _ (c .before .loop .i) _ (p .1 .0 .counted) (omega (arith, c .before .loop .inv .0)) (c .before .loop .inv .2 .of _ (p .0) (p .1 .0))
 
 pub write-rows-spec : {M : Type 1} → statement M
 write-rows-spec =
@@ -131,23 +150,23 @@ write-rows-spec =
     μ-loop
     loop-holds
     mul-at
-    add-row-turn
-    mul-row-turn
-    sub-row-turn
-    part-row-turn-start
-    part-row-turn-end
-    mul-row-turn-2
-    shared-slice-read-row-turn
-    row-turn-requires
+    mul-begin
+    shared-slice-read-begin
+    add-end
+    mul-end
+    shared-slice-read-end
+    mul-row-of
+    sub-row-of
+    part-row-of-start
+    part-row-of-end
+    add-row-of
+    mul-row-of-2
+    sub-row-of-2
+    part-row-of-start-2
+    part-row-of-end-2
+    row-of-requires
     add-i
     loop-less
     loop-again
     same-length
-    same-length-2
-    same-length-3
-    same-length-4
-    same-length-5
-    same-length-6
-    same-length-7
-    same-length-8
     returns)

@@ -1,10 +1,10 @@
 use native.Mathlib.Omega.{arith}
 use mathlib.Core.Path.{sym, _∙_}
 use Rattle.laws.proofs.Signed.{back, stored}
-use Rattle.rows.proofs.Totals.{difference-of, rise-fore, rise-aft}
+use Rattle.rows.proofs.Totals.{line-there, rise-fore, rise-aft}
 use borrow.Author.Needs.{needs}
-use Rattle.rows.proofs.half_rise.Statement.{statement}
-use Rattle.rows.proofs.half_rise.Tie as tie
+use Rattle.rows.proofs.rise_by.Statement.{statement}
+use Rattle.rows.proofs.rise_by.Tie as tie
 
 sub-d : tie.Need-sub-d
 sub-d c = search needs
@@ -25,12 +25,12 @@ returns : tie.Need-returns
 returns c = sym (rise-fore _ _ (c .if1 .taken) ∙ search needs)
 
 sub-requires : tie.Need-sub-requires
-sub-requires c κs = rw (back _ (c .before .d .given)) (omega (arith, difference-of _ _ (c .before .before .pre .0) (c .before .before .pre .1)))
+sub-requires c κs = rw (back _ (c .before .d .given)) (omega (arith, c .before .before .pre .0 .differences _ (line-there (c .before .before .pre .1))))
 
 returns-2 : tie.Need-returns-2
 returns-2 c = stored _ (c .sub .ok) (rw (back _ (c .before .before .d .given)) at (c .sub .ensures) ∙ sym (rise-aft _ _ (c .before .if1 .left)))
 
-pub half-rise-spec : {M : Type 1} → statement M
-half-rise-spec =
+pub rise-by-spec : {M : Type 1} → statement M
+rise-by-spec =
     tie.close
     (tie.spec sub-d mul-d add-d mul-d-2 shared-slice-copy-out-d returns sub-requires returns-2)

@@ -1,0 +1,84 @@
+use Prim.Native.Nat.{_+_, _*_, _≤_, _-_}
+use native.Mathlib.Omega.{arith}
+use mathlib.Core.Path.{_≡_}
+use lib.ListN.{length, drop}
+use Rattle.book.specs.Limits.{mostLength}
+use Rattle.rows.specs.Sums.{lengthOf}
+use Rattle.rows.proofs.Totals.{length-next, length-end, length-size}
+use Rattle.rows.proofs.run_length.Statement.{statement}
+use Rattle.rows.proofs.run_length.Tie as tie
+
+abbrev Inv-loop : tie.InvT-loop
+Inv-loop lines run sum₀ j₀ sum j = (j ≤ length run) × (sum + lengthOf lines (drop j run) ≡ lengthOf lines run) × (sum ≤ j * mostLength)
+
+abbrev μ-loop : tie.MeasureT-loop
+μ-loop lines run sum₀ j₀ sum j = length run - j
+
+loop-holds : tie.Need-loop-holds Inv-loop μ-loop
+loop-holds c = (omega arith, omega arith, omega arith)
+
+mul-length-by : tie.Need-mul-length-by Inv-loop μ-loop
+mul-length-by c =
+    let entry : tie.Start Inv-loop μ-loop = search in
+    omega (arith, entry .pre .1 .few)
+
+shared-slice-read-length-by : tie.Need-shared-slice-read-length-by Inv-loop μ-loop
+shared-slice-read-length-by c = omega arith
+
+cast-length-by : tie.Need-cast-length-by Inv-loop μ-loop
+cast-length-by c =
+    let at-loop : tie.At-loop Inv-loop μ-loop = search in
+    let entry : tie.Start Inv-loop μ-loop = search in
+    omega (arith, entry .pre .0 .few-lines, entry .pre .1 .each (at-loop .loop .j) (omega arith) .high)
+
+length-by-requires : tie.Need-length-by-requires Inv-loop μ-loop
+length-by-requires c κs =
+    let at-loop : tie.At-loop Inv-loop μ-loop = search in
+    let entry : tie.Start Inv-loop μ-loop = search in
+    (entry .pre .0, entry .pre .1 .each (at-loop .loop .j) (omega arith))
+
+add-sum : tie.Need-add-sum Inv-loop μ-loop
+add-sum c =
+    let at-loop : tie.At-loop Inv-loop μ-loop = search in
+    let entry : tie.Start Inv-loop μ-loop = search in
+    let p = entry .pre in
+    omega (arith, c .length-by .ensures, length-size _ _ (p .0) (p .1 .each (at-loop .loop .j) (omega arith)), p .1 .few, at-loop .loop .inv)
+
+add-j : tie.Need-add-j Inv-loop μ-loop
+add-j c =
+    let entry : tie.Start Inv-loop μ-loop = search in
+    omega (arith, entry .pre .1 .few)
+
+loop-less : tie.Need-loop-less Inv-loop μ-loop
+loop-less c = omega arith
+
+loop-again : tie.Need-loop-again Inv-loop μ-loop
+loop-again c =
+    let at-loop : tie.At-loop Inv-loop μ-loop = search in
+    let entry : tie.Start Inv-loop μ-loop = search in
+    let p = entry .pre in
+    let v = at-loop .loop .inv in
+    let r = c .length-by .ensures in
+    (omega arith, rw r (length-next _ _ _ _ (omega arith) (v .1)), omega (arith, r, length-size _ _ (p .0) (p .1 .each (at-loop .loop .j) (omega arith)), v))
+
+returns : tie.Need-returns Inv-loop μ-loop
+returns c =
+    let entry : tie.Start Inv-loop μ-loop = search in
+    (length-end _ _ (c .before .loop .j) _ (omega arith) (c .before .loop .inv .1), omega (arith, entry .pre .1 .few, c .before .loop .inv))
+
+pub run-length-spec : {M : Type 1} → statement M
+run-length-spec =
+    tie.close
+    (tie.spec
+    Inv-loop
+    μ-loop
+    loop-holds
+    mul-length-by
+    shared-slice-read-length-by
+    cast-length-by
+    length-by-requires
+    add-sum
+    add-j
+    loop-less
+    loop-again
+    returns)
