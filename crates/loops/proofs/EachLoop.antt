@@ -1,6 +1,6 @@
 -- Each loop has its closing line once, forward and first, is closed, runs no line twice and no more lines than there are marks, and no earlier loop runs its
 -- closing line. Assumes nothing.
-use Prim.Native.Nat.{ℕ, _+_, _≤_, _<_}
+use Prim.Native.Nat.{ℕ, suc, _+_, _≤_, _<_}
 use native.Mathlib.Omega.{arith}
 use mathlib.Core.Path.{_≡_, refl, sym, _∙_, ap, subst}
 use mathlib.Core.Logic.{_⊎_, inl, inr}
@@ -20,7 +20,7 @@ use Rattle.network.specs.ClosingOrder.{Distinct}
 use Rattle.network.proofs.Pairwise.{pairwise-first, pairwise-rest}
 use Rattle.network.proofs.ClosingLines.{closing-line-stands, never-tree-line-and-closing-line, each-line-closes-once}
 use Rattle.network.proofs.ShortestPath.{pass-line, shortest-no-mark-twice, shortest-no-line-twice}
-use Rattle.network.proofs.FewLines.{fewer-lines-than-marks}
+use Rattle.network.proofs.FewLines.{fewer-lines-than-marks, no-more-lines-than-tree}
 use Rattle.network.proofs.Subgraph.{of-only, isIn-numbers, not-in}
 use Rattle.network.proofs.Walks.{walk-wider}
 use Rattle.loops.specs.Loops.{Loop, loops}
@@ -123,17 +123,30 @@ module _ (b : ℕ) (lines : List Line) (sound : Sound b lines) where
   pub loop-has-closing-line : (lp : Loop) → List·Memᴰ lp (loops b lines) → (c : Line) × List·Memᴰ c (closing lines (tree b lines)) × IsLoopOf lines c lp
   loop-has-closing-line lp i = one-of each-loop-is lp i
 
-  -- a loop runs no more lines than the book has marks, since its path comes through none twice
-  pub loop-has-few-lines : (lp : Loop) → List·Memᴰ lp (loops b lines) → length lp ≤ b
-  loop-has-few-lines lp i = let k = loop-has-closing-line lp i in few (k .0) (k .2)
+  -- no more lines than the book has marks, and but for the closing line no more than the tree has
+  abbrev FewLines : Loop → Type 0
+  FewLines lp = (length lp ≤ b) × (length lp ≤ suc (length (treeLines (tree b lines))))
+
+  -- so it is with each loop, since its path comes through no mark twice
+  few-lines : (lp : Loop) → List·Memᴰ lp (loops b lines) → FewLines lp
+  few-lines lp i = let k = loop-has-closing-line lp i in few (k .0) (k .2)
     where
-      few : (c : Line) → IsLoopOf lines c lp → length lp ≤ b
+      few : (c : Line) → IsLoopOf lines c lp → FewLines lp
       few c x = go (subst (Walk lines (c .from) (c .from)) (x .closingFirst) (x .closed))
         where
-          go : Walk lines (c .from) (c .from) (pass c true ∷ x .path) → length lp ≤ b
+          go : Walk lines (c .from) (c .from) (pass c true ∷ x .path) → FewLines lp
           go (step s m w) =
               let p = sound .placed c m in
-              omega (arith, ap length (x .closingFirst), fewer-lines-than-marks b lines (sound .placed) w (p .to-low, p .to-high) (x .noMarkTwice))
+              let path = ap length (x .closingFirst) in (
+                omega (arith, path, fewer-lines-than-marks b lines (sound .placed) w (p .to-low, p .to-high) (x .noMarkTwice)),
+                omega (arith, path, no-more-lines-than-tree b lines sound w (p .to-low, p .to-high) (x .noMarkTwice)),
+              )
+
+  pub loop-has-few-lines : (lp : Loop) → List·Memᴰ lp (loops b lines) → length lp ≤ b
+  loop-has-few-lines lp i = few-lines lp i .0
+
+  pub loop-runs-no-more-than-tree : (lp : Loop) → List·Memᴰ lp (loops b lines) → length lp ≤ suc (length (treeLines (tree b lines)))
+  loop-runs-no-more-than-tree lp i = few-lines lp i .1
 
   -- every line that a loop runs stands, and it runs one at least
   pub loop-runs-lines : (lp : Loop) → List·Memᴰ lp (loops b lines) → (p : Pass) → List·Memᴰ p lp → List·Memᴰ (p .line) lines

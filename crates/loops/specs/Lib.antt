@@ -1,6 +1,7 @@
 pub mod Loops
 pub mod AllLoops
 pub mod EachLoop
+pub mod LinesInAll
 pub mod Row
 pub mod Report
 pub mod Table

@@ -3,10 +3,10 @@ use Prim.Native.Nat.{ℕ, zero, suc, _+_, _≤_, _<_}
 use native.Mathlib.Omega.{arith}
 use native.Mathlib.Decide.{ℕ-discrete, decLt}
 use mathlib.Core.Path.{_≡_, refl, sym, _∙_, ap, subst}
-use mathlib.Core.Bool.{Bool, true, false, false≢true}
+use mathlib.Core.Bool.{Bool, true, false, not, false≢true}
 use mathlib.Core.List.{List, [], _∷_, _++_}
 use mathlib.Core.Option.{Option, none, some}
-use borrow.Author.Tests.{eq-eqb, ne-eqb}
+use borrow.Author.Tests.{eq-eqb, ne-eqb, not-false}
 use Rattle.network.specs.Standing.{Line}
 use Rattle.network.specs.Sound.{Sound}
 use Rattle.network.specs.Walk.{Pass, Walk, here}
@@ -27,8 +27,15 @@ unfolding countTo
 count-same f g zero h = refl
 count-same f g (suc b) h = rw (h (suc b) (omega arith)) (ap (λ (n : ℕ). bit (g (suc b)) + n) (count-same f g b (λ m le. h m (omega arith))))
 
+-- a test that holds nowhere
+pub count-none : (b : ℕ) → countTo (λ m. false) b ≡ 0
+unfolding countTo
+count-none zero = refl
+count-none (suc b) = omega (arith, count-none b)
+
 -- two tests that differ at one mark only
-count-but-one : (f g : ℕ → Bool) (k : ℕ) → ((m : ℕ) → (m ≡ k → ⊥) → f m ≡ g m) → g k ≡ false → (b : ℕ) → 0 < k → k ≤ b → countTo f b ≡ bit (f k) + countTo g b
+pub count-but-one : (f g : ℕ → Bool) (k : ℕ) → ((m : ℕ) → (m ≡ k → ⊥) → f m ≡ g m) → g k ≡ false → (b : ℕ) → 0 < k → k ≤ b
+    → countTo f b ≡ bit (f k) + countTo g b
 unfolding countTo
 count-but-one f g k h z zero low high = absurd (omega arith)
 count-but-one f g k h z (suc b) low high = go (ℕ-discrete (suc b) k) (count-but-one f g k h z b low)
@@ -36,6 +43,17 @@ count-but-one f g k h z (suc b) low high = go (ℕ-discrete (suc b) k) (count-bu
     go : Dec (suc b ≡ k) → (k ≤ b → countTo f b ≡ bit (f k) + countTo g b) → bit (f (suc b)) + countTo f b ≡ bit (f k) + (bit (g (suc b)) + countTo g b)
     go (yes e) ih = rw (e, z) (omega (arith, count-same f g b (λ m le. h m (λ q. omega (arith, q, e)))))
     go (no n) ih = rw (h (suc b) n) (omega (arith, ih (omega arith)))
+
+-- a mark passes a test or its opposite
+pub count-not : (f : ℕ → Bool) (b : ℕ) → countTo f b + countTo (λ m. not (f m)) b ≡ b
+unfolding countTo
+count-not f zero = refl
+count-not f (suc b) = go (f (suc b)) (count-not f b)
+  where
+    go : (t : Bool) → countTo f b + countTo (λ m. not (f m)) b ≡ b
+        → bit t + countTo f b + (bit (not t) + countTo (λ m. not (f m)) b) ≡ suc b
+    go true ih = omega arith
+    go false ih = omega arith
 
 -- a test that holds nowhere where another does not
 count-not-more : (f g : ℕ → Bool) (b : ℕ) → ((m : ℕ) → 0 < m → m ≤ b → f m ≡ true → g m ≡ false → ⊥) → countTo f b ≤ countTo g b
@@ -62,6 +80,16 @@ count-one-more f g (suc b) h = go (f (suc b)) (g (suc b)) refl refl (count-one-m
     go false true p q ih = omega arith
     go false false p q ih = omega arith
 
+-- two tests that both hold at one mark at most
+pub count-both : (f g : ℕ → Bool) (b : ℕ)
+    → ((m n : ℕ) → 0 < m → m < n → n ≤ b → f m ≡ true → g m ≡ true → f n ≡ true → g n ≡ true → ⊥) → countTo f b + countTo g b ≤ suc b
+count-both f g b h =
+    omega (
+      arith,
+      count-not g b,
+      count-one-more f (λ m. not (g m)) b (λ m n low lt le x y z t. h m n low lt le x (not-false (g m) y) z (not-false (g n) t)),
+    )
+
 -- ---- roots
 
 root-new : (e : Entry) (es : Tree) → rootAt (e ∷ es) (e .mark) ≡ rootIf (e .by)
@@ -81,11 +109,6 @@ root-out (e ∷ es) m h = go (after e es m) (root-out es m)
     go : After e es m → (distance es m ≡ none → rootAt es m ≡ false) → rootAt (e ∷ es) m ≡ false
     go (new p q) ih = never q h
     go (old p q) ih = root-old e es m p ∙ ih (sym q ∙ h)
-
-no-roots : (b : ℕ) → countTo (rootAt []) b ≡ 0
-unfolding countTo rootAt
-no-roots zero = refl
-no-roots (suc b) = omega (arith, no-roots b)
 
 -- ---- how a tree's roots are told from the marks that entered by a line
 
@@ -109,8 +132,8 @@ module _ (b : ℕ) (lines : List Line) (sound : Sound b lines) where
 
   -- the pieces are as many as the marks 1 to b that entered as roots
   pub pieces-are-roots : {es : Tree} → Growth b lines es → pieces es ≡ countTo (rootAt es) b
-  unfolding pieces
-  pieces-are-roots nothing = sym (no-roots b)
+  unfolding pieces rootAt
+  pieces-are-roots nothing = sym (count-none b)
   pieces-are-roots (enters {es = es} {c = c} g x) =
       let p = mark-placed x in
       omega (arith, count-step (entry (far es (c .line)) (c .score) (some (c .line))) es (mark-out x) (p .0) (p .1) (pieces-are-roots g))

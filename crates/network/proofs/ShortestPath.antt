@@ -28,7 +28,7 @@ unfolding wayLength
 least-rest p ps s m h v x = omega (arith, h (p ∷ v) (step s m x))
 
 -- from every mark on a walk the rest of it is a walk, and no longer
-from-mark : {sub : List Line} {r u : ℕ} {w : List Pass} → Walk sub r u w → (m : ℕ) → List·Memᴰ m (marksOn u w)
+pub from-mark : {sub : List Line} {r u : ℕ} {w : List Pass} → Walk sub r u w → (m : ℕ) → List·Memᴰ m (marksOn u w)
     → (v : List Pass) × Walk sub r m v × (wayLength v ≤ wayLength w)
 unfolding marksOn wayLength
 from-mark (here e) m (List·Memᴰ·head x) = ([], here (x ∙ e), omega arith)

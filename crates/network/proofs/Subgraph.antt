@@ -91,6 +91,16 @@ isIn-numbers (k ∷ ls) n h = go (or-true (eqb (k .number) n) (isIn n (numbers l
     go (inl x) ih = (k, List·Memᴰ·head refl, eqb-true (k .number) n x)
     go (inr x) ih = let i = ih x in (i .0, List·Memᴰ·tail (i .1), i .2)
 
+-- a number among some is one of them
+pub isIn-mem : (ms : List ℕ) (n : ℕ) → isIn n ms ≡ true → List·Memᴰ n ms
+unfolding isIn
+isIn-mem [] n h = absurd (false≢true h)
+isIn-mem (m ∷ ms) n h = go (or-true (eqb m n) (isIn n ms) h) (isIn-mem ms n)
+  where
+    go : (eqb m n ≡ true) ⊎ (isIn n ms ≡ true) → (isIn n ms ≡ true → List·Memᴰ n ms) → List·Memᴰ n (m ∷ ms)
+    go (inl x) ih = List·Memᴰ·head (sym (eqb-true m n x))
+    go (inr x) ih = List·Memᴰ·tail (ih x)
+
 -- what is not true is false
 pub not-in : (b : Bool) → (b ≡ true → ⊥) → b ≡ false
 not-in true f = absurd (f refl)
