@@ -25,7 +25,7 @@ use Rattle.survey.specs.Report.{counted}
 use Rattle.survey.specs.Survey.{surveyOf}
 use Rattle.lists.specs.Listing.{listingOf}
 use Rattle.lists.specs.NotChecked.{uncheckedOf, notCheckedOf}
-use Rattle.survey.proofs.Places.{row-at}
+use Rattle.loops.proofs.Places.{row-at}
 use Rattle.demands.specs.Calls.{listDone}
 use Rattle.demands.specs.Tables.{loopListing, listingRules}
 use Rattle.demands.specs.TheLoops.{inRow, Within, Over, RowOf, LoopIs, ListedIn}

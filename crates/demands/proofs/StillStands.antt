@@ -34,7 +34,7 @@ use Rattle.survey.specs.Correction.{rerunLines, withdrawLines, rerunOf, withdra
 use Rattle.book.proofs.Goods.{good-lines}
 use Rattle.loops.proofs.Sounding.{good-sound}
 use Rattle.survey.proofs.Corrected.{its-line}
-use Rattle.survey.proofs.Places.{loop-at-is}
+use Rattle.loops.proofs.Places.{loop-at-is}
 use Rattle.demands.specs.TheLoops.{closingLinesOf}
 use Rattle.demands.specs.Corrections.{Stands, Acceptable}
 use Rattle.demands.specs.StillStands.{SameLoop, StillStand, none-left, gone, stays, SameWay, AfterRerun, AfterClosingLine}

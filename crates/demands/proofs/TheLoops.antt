@@ -40,7 +40,7 @@ use Rattle.loops.proofs.Misclosure.{misclosure-is-sum, all-close}
 use Rattle.loops.proofs.Checked as checks
 use Rattle.loops.specs.Report.{loopsOf, piecesOf}
 use Rattle.loops.proofs.Sounding.{good-sound}
-use Rattle.survey.proofs.Places.{loop-at-is, pairs-at, loop-at}
+use Rattle.loops.proofs.Places.{loop-at-is, pairs-at, loop-at}
 use Rattle.demands.specs.TheLoops.{treeOf, treeLinesOf, closingLinesOf, subgraph, LoopIs}
 
 -- a loop of one closing line is a loop of no other

@@ -1,3 +1,4 @@
 pub mod Listing
 pub mod NotChecked
 pub mod Numbers
+pub mod Run

@@ -1,4 +1,4 @@
--- What the listing of one loop answers, and what the lent output then holds: refusals 4, 6, 7, 8 and 10.
+-- What the listing of one loop, and of all loops, answers, and what the lent output then holds: refusals 4, 6, 7, 8 and 10.
 -- Assumes nothing.
 use mathlib.Core.Bool.{cond}
 use mathlib.Core.List.{List, _++_, map}
@@ -12,7 +12,7 @@ use Rattle.book.specs.declared.Book.{Book}
 use Rattle.book.specs.declared.Tested.{Tested}
 use Rattle.book.specs.declared.Tested.the-variants.{Good, Refused}
 use Rattle.loops.specs.Loops.{loopAt}
-use Rattle.loops.specs.Row.{listed}
+use Rattle.loops.specs.Row.{listed, listings}
 use Rattle.loops.specs.Report.{loopsOf}
 use Rattle.lists.specs.declared.Listed.{Listed}
 
@@ -53,3 +53,17 @@ listingTested lines number out (Good k) = listingGood k lines number out
 unfoldable pub listingOf : ℤ → ℤ → List ℤ → List ℤ → ℤ → List ℤ → Listing
 unfolding listingTested testOf
 listingOf b t held lines number out = listingTested lines number out (testOf b t held lines)
+
+-- the lines of all loops, "loop by loop"
+unfoldable pub listingsGood : Book → List ℤ → List ℤ → Listing
+unfolding loopsOf listOf listings
+listingsGood k lines out = listOf (listings (loopsOf (k .marks) lines)) out
+
+unfoldable pub listingsTested : List ℤ → List ℤ → Tested → Listing
+unfolding listingsGood
+listingsTested lines out (Refused r) = listing (unlisted (r .number) (r .place)) out
+listingsTested lines out (Good k) = listingsGood k lines out
+
+unfoldable pub listingsOf : ℤ → ℤ → List ℤ → List ℤ → List ℤ → Listing
+unfolding listingsTested testOf
+listingsOf b t held lines out = listingsTested lines out (testOf b t held lines)

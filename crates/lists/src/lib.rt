@@ -1,9 +1,10 @@
-// The two lists of a lent book: the lines of a loop, and the lines that are not checked.
+// The lists of a lent book: the lines of a loop, the lines of all loops, and the lines that are not checked.
 ghost use mathlib.Core.Path.{_≡_};
-ghost use Rattle.lists.specs.Listing.{listing, unlisted, entered, listingOf};
+ghost use Rattle.lists.specs.Listing.{listing, unlisted, entered, listingOf, listingsOf};
 ghost use Rattle.lists.specs.NotChecked.{notCheckedOf};
 
-mod list;
+mod loops;
+pub mod run;
 pub mod watch;
 
 use book::Tested;
@@ -41,7 +42,18 @@ pub fn listing(b: i64, t: i64, held: &[i64], lines: &[i64], number: i64, out: &m
 {
     match book::test(b, t, held, lines) {
         Tested::Refused(r) => unlisted(r.number, r.place),
-        Tested::Good(book) => list::listing_good(book, lines, number, out),
+        Tested::Good(book) => loops::listing_good(book, lines, number, out),
+    }
+}
+
+// The lines of all loops of the book, one loop after the other, each as its listing has them; the count of a loop's lines is the second number of
+// its row. A refusal leaves the output as it was.
+pub fn listings(b: i64, t: i64, held: &[i64], lines: &[i64], out: &mut [i64]) -> Listed
+    ensures { λ r. ⌜ listing r (now (out .exit)) ≡ listingsOf b t (now (held .entry)) (now (lines .entry)) (now (out .entry)) ⌝ }
+{
+    match book::test(b, t, held, lines) {
+        Tested::Refused(r) => unlisted(r.number, r.place),
+        Tested::Good(book) => loops::listings_good(book, lines, out),
     }
 }
 

@@ -13,4 +13,5 @@ pub mod Sizes
 pub mod Rerun
 pub mod Withdrawal
 pub mod Sounding
+pub mod Places
 pub mod Table

@@ -4,7 +4,7 @@ use native.Mathlib.Omega.{arith}
 use native.Mathlib.Numerals.{add-one}
 use mathlib.Core.Path.{_≡_, refl, sym, _∙_, ap, ap₂, subst}
 use mathlib.Core.Bool.{Bool}
-use mathlib.Core.List.{List, [], _∷_, _++_, map, append-assoc, append-nil, List·Memᴰ, List·Memᴰ·head, List·Memᴰ·tail}
+use mathlib.Core.List.{List, [], _∷_, _++_, map, append-assoc, append-nil}
 use lib.IntN.{ℤ}
 use lib.ListN.{length, getD, take, drop, length-append, length-map}
 use lib.Seq.{take-suc, split-at, take-at, drop-at, take-all}
@@ -14,6 +14,7 @@ use Rattle.network.specs.Walk.{Pass}
 use Rattle.network.specs.Codes.{codeOf, codes}
 use Rattle.loops.specs.Loops.{Loop, loopAt}
 use Rattle.loops.specs.Table.{runsOf, Table}
+use Rattle.loops.proofs.Places.{loop-is}
 
 -- ---- codes and runs
 
@@ -33,18 +34,6 @@ unfolding runsOf
 runs-more done lp = runs-append done (lp ∷ []) ∙ ap (λ (r : List ℕ). runsOf done ++ r) (append-nil (codes lp))
 
 -- ---- a loop by its place
-
-pub loop-is : (ls : List Loop) (i : ℕ) → i < length ls → loopAt ls i ≡ getD ls i []
-unfolding loopAt
-loop-is [] i h = absurd (omega arith)
-loop-is (l ∷ ls) zero h = refl
-loop-is (l ∷ ls) (suc i) h = loop-is ls i (omega arith)
-
-pub loop-in : (ls : List Loop) (i : ℕ) → i < length ls → List·Memᴰ (loopAt ls i) ls
-unfolding loopAt
-loop-in [] i h = absurd (omega arith)
-loop-in (l ∷ ls) zero h = List·Memᴰ·head refl
-loop-in (l ∷ ls) (suc i) h = List·Memᴰ·tail (loop-in ls i (omega arith))
 
 module _ {ls : List Loop} {starts runs : List ℕ} {count : ℕ} (t : Table ls starts runs count) where
   -- the runs of all loops

@@ -2,7 +2,7 @@
 -- Assumes nothing.
 use Prim.Native.Nat.{ℕ, zero, _+_, _*_}
 use mathlib.Core.Bool.{Bool, true, false, cond}
-use mathlib.Core.List.{List, [], _∷_, _++_}
+use mathlib.Core.List.{List, [], _∷_, _++_, map}
 use lib.IntN.{ℤ, pos, negℤ, natAbs, _+ℤ_}
 use lib.Dec.{leb}
 use lib.ListN.{length}
@@ -18,6 +18,11 @@ signed false z = negℤ z
 -- "A line is listed positive if run from its from to its to, else negative."
 abbrev pub listed : Pass → ℤ
 listed p = signed (p .forward) (pos (p .line .number))
+
+-- the lines of the loops, one loop after the other
+unfoldable pub listings : List Loop → List ℤ
+listings [] = []
+listings (lp ∷ ls) = map listed lp ++ listings ls
 
 -- "Misclosure is the signed sum"
 unfoldable pub misclosure : Loop → ℤ

@@ -16,7 +16,8 @@ use Rattle.loops.specs.Row.{rowWords, row, rows}
 use Rattle.loops.specs.Report.{loopsOf, reportOf}
 use Rattle.loops.specs.Table.{Table}
 use Rattle.loops.proofs.Row.{rows-length}
-use Rattle.loops.proofs.Table.{loop-is, loop-in, run-is}
+use Rattle.loops.proofs.Places.{loop-at-is, loop-is}
+use Rattle.loops.proofs.Table.{run-is}
 use Rattle.rows.specs.Sums.{rowOf, RunIn}
 use Rattle.rows.proofs.Passes.{loop-run, loop-row}
 
@@ -52,10 +53,10 @@ module _ (k : Book) (lines : List ℤ) (good : GoodLines k lines) {starts runs :
   left = omega (arith, tb .counted)
 
   pub run-in : RunIn lines run
-  run-in = rw (run-is tb i left) (loop-run k lines good (loopAt (loopsOf (k .marks) lines) i) (loop-in (loopsOf (k .marks) lines) i left))
+  run-in = rw (run-is tb i left) (loop-run k lines good (loopAt (loopsOf (k .marks) lines) i) (loop-at-is (loopsOf (k .marks) lines) i left))
 
   pub run-row : (t : ℕ) → rowOf t lines run ≡ row t (loopAt (loopsOf (k .marks) lines) i)
-  run-row t = ap (rowOf t lines) (run-is tb i left) ∙ loop-row k lines good (loopAt (loopsOf (k .marks) lines) i) (loop-in (loopsOf (k .marks) lines) i left) t
+  run-row t = ap (rowOf t lines) (run-is tb i left) ∙ loop-row k lines good (loopAt (loopsOf (k .marks) lines) i) (loop-at-is (loopsOf (k .marks) lines) i left) t
 
 -- the first i rows are written, of whatever book the table is
 pub record AllWritten (lines : List ℤ) (starts runs : List ℕ) (count : ℕ) (out₀ : List ℤ) (t : ℕ) (out : List ℤ) (i : ℕ) : Type 0 where

@@ -1,5 +1,4 @@
 pub mod Working
 pub mod Keeping
 pub mod Corrected
-pub mod Places
 pub mod Remeasured

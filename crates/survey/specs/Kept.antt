@@ -8,18 +8,17 @@ use lib.IntN.{ℤ, pos}
 use lib.ListN.{length, drop, replicate}
 use Rattle.book.specs.declared.Book.{Book}
 use Rattle.loops.specs.Row.{rowWords}
-use Rattle.loops.specs.Report.{loopsOf, reportOf}
-use Rattle.survey.specs.Report.{refusal, counted}
-use Rattle.survey.specs.Correction.{otherReport, updated}
-use Rattle.survey.specs.Survey.{Surveyed, surveyed}
+use Rattle.loops.specs.Report.{reportOf}
+use Rattle.table.specs.Filled.{foundIn}
+use Rattle.survey.specs.Report.{counted}
+use Rattle.survey.specs.Correction.{otherReport}
 use Rattle.survey.specs.declared.Answer.{Answer}
 use Rattle.survey.specs.declared.correct.Kept.{Kept}
-use Rattle.survey.specs.declared.correct.Kept.the-variants.{Rows, Other}
+use Rattle.survey.specs.declared.correct.Kept.the-variants.{Own, Other}
 
 unfoldable pub keptOf : Book → List ℤ → List ℤ → Kept
-unfolding otherReport reportOf loopsOf
-keptOf k lines report =
-    cond (otherReport report (reportOf (k .marks) (k .tolerance) lines)) Other (Rows (length (loopsOf (k .marks) lines)))
+unfolding otherReport reportOf
+keptOf k lines report = cond (otherReport report (reportOf (k .marks) (k .tolerance) lines)) Other (Own (foundIn (k .marks) lines))
 
 -- before the report is brought up to date: it kept so many rows, and the book has no more now
 pub record Refresh (k : Book) (lines report : List ℤ) (before : ℕ) : Type 0 where
@@ -30,11 +29,3 @@ pub record Refresh (k : Book) (lines report : List ℤ) (before : ℕ) : Type 0 
 pub record Refreshed (k : Book) (lines report report′ : List ℤ) (before : ℕ) (a : Answer) : Type 0 where
   pub answer : a ≡ counted (k .marks) lines
   pub report-is : report′ ≡ reportOf (k .marks) (k .tolerance) lines ++ replicate (before * rowWords - length (reportOf (k .marks) (k .tolerance) lines)) (pos 0) ++ drop (before * rowWords) report
-
--- a re-run makes the lines again: 9, or the report brought up to date
-unfoldable pub rerunKept : Book → List ℤ → List ℤ → List ℤ → Surveyed
-unfolding otherReport updated reportOf counted
-rerunKept k lines again report =
-    let before = reportOf (k .marks) (k .tolerance) lines in
-    cond (otherReport report before) (surveyed (refusal 9 0) report)
-    (surveyed (counted (k .marks) again) (updated report before (reportOf (k .marks) (k .tolerance) again)))

@@ -1,4 +1,3 @@
-pub mod Desk
 pub mod Report
 pub mod Survey
 pub mod Stands

@@ -1,14 +1,15 @@
 // The public calls on a lent book and its report: survey, re-run and withdrawal.
 ghost use mathlib.Core.Path.{_≡_};
-ghost use Rattle.survey.specs.Report.{refusal};
+ghost use Rattle.survey.specs.Report.{refusal, countOf};
 ghost use Rattle.survey.specs.Survey.{surveyed, surveyOf};
 ghost use Rattle.survey.specs.Correction.{corrected, rerunOf, withdrawOf};
 
 mod correct;
-mod work;
+mod report;
 
 use book::Tested;
 use book::line::Line;
+use table::Found;
 
 // What survey, re-run and withdrawal answer.
 pub struct Answer {
@@ -29,13 +30,24 @@ pub(crate) fn refuse(number: usize, place: usize) -> Answer
     }
 }
 
+pub(crate) fn count_of(found: Found) -> Answer
+    ensures { λ r. ⌜ r ≡ countOf found ⌝ }
+{
+    Answer {
+        number: 0,
+        place: 0,
+        rows: found.count,
+        pieces: found.pieces,
+    }
+}
+
 // The loops of the book as rows. A refusal leaves the rows as they were.
 pub fn survey(b: i64, t: i64, held: &[i64], lines: &[i64], rows: &mut [i64]) -> Answer
     ensures { λ r. ⌜ surveyed r (now (rows .exit)) ≡ surveyOf b t (now (held .entry)) (now (lines .entry)) (now (rows .entry)) ⌝ }
 {
     match book::test(b, t, held, lines) {
         Tested::Refused(r) => refuse(r.number, r.place),
-        Tested::Good(book) => work::survey_good(book, lines, rows),
+        Tested::Good(book) => report::survey_good(book, lines, rows),
     }
 }
 

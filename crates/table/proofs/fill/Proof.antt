@@ -1,140 +1,250 @@
+use Prim.Native.Nat.{_≤_, _-_}
+use native.Mathlib.Omega.{arith}
+use mathlib.Core.Path.{_≡_, refl, _∙_}
+use lib.ListN.{length, length-set, length-take, length-drop}
+use Rattle.table.proofs.Filling.{AllFilledTo, all-start, all-next, fill-end, run-room, path-few, small-number, takes-of}
 use Rattle.table.proofs.fill.Statement.{statement}
 use Rattle.table.proofs.fill.Tie as tie
-use Rattle.table.proofs.fill.Reads as reads
-use Rattle.table.proofs.fill.Lts as lts
-use Rattle.subgraph.proofs.take_loop.Reads as take-loop-reads
 
 abbrev Inv-loop : tie.InvT-loop
-Inv-loop tip long close head₀ next₀ far₀ add₀ best₀ seg₀ starts₀ runs₀ n q nodes count cnt₀ at₀ i₀ head next far add best seg starts runs cnt at i =
-    ?
+Inv-loop tip long close head₀ next₀ far₀ add₀ best₀ seg₀ starts₀ runs₀ n nodes count cnt₀ at₀ i₀ head next far add best seg starts runs cnt at i =
+    (i ≤ count)
+    × ((length head ≡ length head₀) × (length next ≡ length next₀) × (length far ≡ length far₀) × (length add ≡ length add₀))
+    × ((length best ≡ length best₀) × (length seg ≡ length seg₀) × (length starts ≡ length starts₀) × (length runs ≡ length runs₀))
+    × AllFilledTo n nodes count i cnt at tip long close head₀ next₀ far₀ add₀ head next far add starts runs
 
 abbrev μ-loop : tie.MeasureT-loop
-μ-loop tip long close head₀ next₀ far₀ add₀ best₀ seg₀ starts₀ runs₀ n q nodes count cnt₀ at₀ i₀ head next far add best seg starts runs cnt at i =
-    ?
+μ-loop tip long close head₀ next₀ far₀ add₀ best₀ seg₀ starts₀ runs₀ n nodes count cnt₀ at₀ i₀ head next far add best seg starts runs cnt at i = count - i
 
--- src/lib.rt:44:5
 loop-holds : tie.Need-loop-holds Inv-loop μ-loop
-loop-holds c = ?
+loop-holds c = (omega arith, (refl, refl, refl, refl), (refl, refl, refl, refl), all-start)
 
--- src/lib.rt:45:22
 mul-number : tie.Need-mul-number Inv-loop μ-loop
-mul-number c = ?
+mul-number c =
+    let entry : tie.Start Inv-loop μ-loop = search in
+    omega (arith, entry .pre .closes, entry .good)
 
--- src/lib.rt:45:22
 shared-slice-read-number : tie.Need-shared-slice-read-number Inv-loop μ-loop
-shared-slice-read-number c = ?
+shared-slice-read-number c =
+    let entry : tie.Start Inv-loop μ-loop = search in
+    omega (arith, entry .pre .closes)
 
--- src/lib.rt:46:9
 mul-starts : tie.Need-mul-starts Inv-loop μ-loop
-mul-starts c = ?
+mul-starts c =
+    let entry : tie.Start Inv-loop μ-loop = search in
+    omega (arith, entry .pre .starts-fit, entry .good)
 
--- src/lib.rt:46:9
 slice-write-starts : tie.Need-slice-write-starts Inv-loop μ-loop
-slice-write-starts c = ?
+slice-write-starts c =
+    let at-loop : tie.At-loop Inv-loop μ-loop = search in
+    let entry : tie.Start Inv-loop μ-loop = search in
+    let in-loop : tie.In-loop Inv-loop μ-loop = search in
+    let f = entry .pre in
+    let v = at-loop .loop .inv in
+    let lt = in-loop .loop-test .taken in
+    omega (arith, f .starts-fit, v .2)
 
--- src/lib.rt:47:21
 mul-runs : tie.Need-mul-runs Inv-loop μ-loop
-mul-runs c = ?
+mul-runs c =
+    let at-loop : tie.At-loop Inv-loop μ-loop = search in
+    let entry : tie.Start Inv-loop μ-loop = search in
+    let in-loop : tie.In-loop Inv-loop μ-loop = search in
+    let f = entry .pre in
+    let v = at-loop .loop .inv in
+    let lt = in-loop .loop-test .taken in
+    omega (arith, small-number f (v .3) lt _ refl)
 
--- src/lib.rt:47:20
 cast-runs : tie.Need-cast-runs Inv-loop μ-loop
-cast-runs c = ?
+cast-runs c =
+    let at-loop : tie.At-loop Inv-loop μ-loop = search in
+    let entry : tie.Start Inv-loop μ-loop = search in
+    let in-loop : tie.In-loop Inv-loop μ-loop = search in
+    let f = entry .pre in
+    let v = at-loop .loop .inv in
+    let lt = in-loop .loop-test .taken in
+    omega (arith, small-number f (v .3) lt _ refl)
 
--- src/lib.rt:47:9
 mul-runs-2 : tie.Need-mul-runs-2 Inv-loop μ-loop
-mul-runs-2 c = ?
+mul-runs-2 c =
+    let at-loop : tie.At-loop Inv-loop μ-loop = search in
+    let entry : tie.Start Inv-loop μ-loop = search in
+    let in-loop : tie.In-loop Inv-loop μ-loop = search in
+    let f = entry .pre in
+    let v = at-loop .loop .inv in
+    let lt = in-loop .loop-test .taken in
+    omega (arith, run-room f (v .3) lt (v .2 .3), v .2, entry .good)
 
--- src/lib.rt:47:9
 slice-write-runs : tie.Need-slice-write-runs Inv-loop μ-loop
-slice-write-runs c = ?
+slice-write-runs c =
+    let at-loop : tie.At-loop Inv-loop μ-loop = search in
+    let entry : tie.Start Inv-loop μ-loop = search in
+    let in-loop : tie.In-loop Inv-loop μ-loop = search in
+    let f = entry .pre in
+    let v = at-loop .loop .inv in
+    let lt = in-loop .loop-test .taken in
+    omega (arith, run-room f (v .3) lt (v .2 .3))
 
--- src/lib.rt:57:23
 add-take-loop : tie.Need-add-take-loop Inv-loop μ-loop
-add-take-loop c = ?
+add-take-loop c =
+    let at-loop : tie.At-loop Inv-loop μ-loop = search in
+    let entry : tie.Start Inv-loop μ-loop = search in
+    let in-loop : tie.In-loop Inv-loop μ-loop = search in
+    let f = entry .pre in
+    let v = at-loop .loop .inv in
+    let lt = in-loop .loop-test .taken in
+    omega (arith, run-room f (v .3) lt (v .2 .3), v .2, entry .good)
 
--- src/lib.rt:57:13
 mul-take-loop : tie.Need-mul-take-loop Inv-loop μ-loop
-mul-take-loop c = ?
+mul-take-loop c =
+    let at-loop : tie.At-loop Inv-loop μ-loop = search in
+    let entry : tie.Start Inv-loop μ-loop = search in
+    let in-loop : tie.In-loop Inv-loop μ-loop = search in
+    let f = entry .pre in
+    let v = at-loop .loop .inv in
+    let lt = in-loop .loop-test .taken in
+    omega (arith, run-room f (v .3) lt (v .2 .3), v .2, entry .good)
 
--- src/lib.rt:57:13
 sub-take-loop : tie.Need-sub-take-loop Inv-loop μ-loop
-sub-take-loop c = ?
+sub-take-loop c =
+    let at-loop : tie.At-loop Inv-loop μ-loop = search in
+    let entry : tie.Start Inv-loop μ-loop = search in
+    let in-loop : tie.In-loop Inv-loop μ-loop = search in
+    let f = entry .pre in
+    let v = at-loop .loop .inv in
+    let lt = in-loop .loop-test .taken in
+    simp length-set (omega (arith, run-room f (v .3) lt (v .2 .3)))
 
--- src/lib.rt:57:13
 part-take-loop-start : tie.Need-part-take-loop-start Inv-loop μ-loop
-part-take-loop-start c = ?
+part-take-loop-start c =
+    let at-loop : tie.At-loop Inv-loop μ-loop = search in
+    let entry : tie.Start Inv-loop μ-loop = search in
+    let in-loop : tie.In-loop Inv-loop μ-loop = search in
+    let f = entry .pre in
+    let v = at-loop .loop .inv in
+    let lt = in-loop .loop-test .taken in
+    simp length-set (omega (arith, run-room f (v .3) lt (v .2 .3)))
 
--- src/lib.rt:57:13
 part-take-loop-end : tie.Need-part-take-loop-end Inv-loop μ-loop
-part-take-loop-end c = ?
+part-take-loop-end c = omega arith
 
--- src/lib.rt:48:13
 take-loop-requires : tie.Need-take-loop-requires Inv-loop μ-loop
-take-loop-requires c κs = ?
+take-loop-requires c κs =
+    let at-loop : tie.At-loop Inv-loop μ-loop = search in
+    let entry : tie.Start Inv-loop μ-loop = search in
+    let in-loop : tie.In-loop Inv-loop μ-loop = search in
+    let f = entry .pre in
+    let v = at-loop .loop .inv in
+    let lt = in-loop .loop-test .taken in
+    let room = run-room f (v .3) lt (v .2 .3) in
+    takes-of f (v .3) lt _ refl
+    (record {
+      room = record { few = f .room .few; bests = omega (arith, v .2, f .room .bests); segs = omega (arith, v .2, f .room .segs) };
+      outs = simp (length-take, length-drop, length-set) (omega (arith, room));
+    })
+    (v .1 .1) (v .1 .2) (v .1 .3)
 
--- src/lib.rt:63:14
 add-at : tie.Need-add-at Inv-loop μ-loop
-add-at c = ?
+add-at c =
+    let after-take-loop : tie.After-take-loop Inv-loop μ-loop = search in
+    let at-loop : tie.At-loop Inv-loop μ-loop = search in
+    let entry : tie.Start Inv-loop μ-loop = search in
+    let in-loop : tie.In-loop Inv-loop μ-loop = after-take-loop .before .before .before .before .before .before .before .before .before in
+    let f = entry .pre in
+    let v = at-loop .loop .inv in
+    let lt = in-loop .loop-test .taken in
+    omega (arith, run-room f (v .3) lt (v .2 .3), v .2, entry .good)
 
--- src/lib.rt:63:14
 add-at-2 : tie.Need-add-at-2 Inv-loop μ-loop
-add-at-2 c = ?
+add-at-2 c =
+    let after-take-loop : tie.After-take-loop Inv-loop μ-loop = search in
+    let at-loop : tie.At-loop Inv-loop μ-loop = search in
+    let entry : tie.Start Inv-loop μ-loop = search in
+    let in-loop : tie.In-loop Inv-loop μ-loop = after-take-loop .before .before .before .before .before .before .before .before .before in
+    let f = entry .pre in
+    let v = at-loop .loop .inv in
+    let lt = in-loop .loop-test .taken in
+    omega (arith, run-room f (v .3) lt (v .2 .3), path-few f (v .3) lt _ refl (after-take-loop .take-loop .ensures), v .2, entry .good)
 
--- src/lib.rt:64:9
 add-i : tie.Need-add-i Inv-loop μ-loop
-add-i c = ?
+add-i c =
+    let after-take-loop : tie.After-take-loop Inv-loop μ-loop = search in
+    let at-loop : tie.At-loop Inv-loop μ-loop = search in
+    let entry : tie.Start Inv-loop μ-loop = search in
+    let in-loop : tie.In-loop Inv-loop μ-loop = after-take-loop .before .before .before .before .before .before .before .before .before in
+    let f = entry .pre in
+    let v = at-loop .loop .inv in
+    let lt = in-loop .loop-test .taken in
+    omega (arith, v .0, entry .fits .count)
 
--- src/lib.rt:44:5
 loop-less : tie.Need-loop-less Inv-loop μ-loop
-loop-less c = ?
+loop-less c = omega arith
 
--- src/lib.rt:44:5
 loop-again : tie.Need-loop-again Inv-loop μ-loop
-loop-again c = ?
+loop-again c =
+    let after-take-loop : tie.After-take-loop Inv-loop μ-loop = search in
+    let at-loop : tie.At-loop Inv-loop μ-loop = search in
+    let entry : tie.Start Inv-loop μ-loop = search in
+    let in-loop : tie.In-loop Inv-loop μ-loop = after-take-loop .before .before .before .before .before .before .before .before .before in
+    let f = entry .pre in
+    let v = at-loop .loop .inv in
+    let lt = in-loop .loop-test .taken in
+    let after-runs : tie.After-runs Inv-loop μ-loop = search in
+    let k = after-take-loop .take-loop .kept in (
+      omega (arith, lt),
+      (omega (arith, v .1, k), omega (arith, v .1, k), omega (arith, v .1, k), omega (arith, v .1, k)),
+      (omega (arith, v .2, k), omega (arith, v .2, k), simp length-set (v .2 .2), after-runs .runs .given .1 ∙ simp length-set (v .2 .3)),
+      all-next (v .3) lt _ refl (omega (arith, f .starts-fit, v .2)) (run-room f (v .3) lt (v .2 .3)) _ (after-take-loop .take-loop .ensures),
+    )
 
--- src/lib.rt:66:5
 mul-starts-2 : tie.Need-mul-starts-2 Inv-loop μ-loop
-mul-starts-2 c = ?
+mul-starts-2 c =
+    let entry : tie.Start Inv-loop μ-loop = search in
+    omega (arith, entry .pre .starts-fit, entry .good)
 
--- src/lib.rt:66:5
 slice-write-starts-2 : tie.Need-slice-write-starts-2 Inv-loop μ-loop
-slice-write-starts-2 c = ?
+slice-write-starts-2 c =
+    let at-loop : tie.At-loop Inv-loop μ-loop = search in
+    let entry : tie.Start Inv-loop μ-loop = search in
+    let f = entry .pre in
+    let v = at-loop .loop .inv in
+    omega (arith, f .starts-fit, v .2)
 
--- src/lib.rt:21:1
 same-length : tie.Need-same-length Inv-loop μ-loop
-same-length c = ?
+same-length c = omega arith
 
--- src/lib.rt:21:1
 same-length-2 : tie.Need-same-length-2 Inv-loop μ-loop
-same-length-2 c = ?
+same-length-2 c = omega arith
 
--- src/lib.rt:21:1
 same-length-3 : tie.Need-same-length-3 Inv-loop μ-loop
-same-length-3 c = ?
+same-length-3 c = omega arith
 
--- src/lib.rt:21:1
 same-length-4 : tie.Need-same-length-4 Inv-loop μ-loop
-same-length-4 c = ?
+same-length-4 c = omega arith
 
--- src/lib.rt:21:1
 same-length-5 : tie.Need-same-length-5 Inv-loop μ-loop
-same-length-5 c = ?
+same-length-5 c = omega arith
 
--- src/lib.rt:21:1
 same-length-6 : tie.Need-same-length-6 Inv-loop μ-loop
-same-length-6 c = ?
+same-length-6 c = omega arith
 
--- src/lib.rt:21:1
 same-length-7 : tie.Need-same-length-7 Inv-loop μ-loop
-same-length-7 c = ?
+same-length-7 c =
+    let at-loop : tie.At-loop Inv-loop μ-loop = search in
+    let entry : tie.Start Inv-loop μ-loop = search in
+    let f = entry .pre in
+    let v = at-loop .loop .inv in
+    simp length-set (v .2 .2)
 
--- src/lib.rt:21:1
 same-length-8 : tie.Need-same-length-8 Inv-loop μ-loop
-same-length-8 c = ?
+same-length-8 c = omega arith
 
--- src/lib.rt:21:1
 returns : tie.Need-returns Inv-loop μ-loop
-returns c = ?
+returns c =
+    let at-loop : tie.At-loop Inv-loop μ-loop = search in
+    let entry : tie.Start Inv-loop μ-loop = search in
+    let f = entry .pre in
+    let v = at-loop .loop .inv in
+    λ lines r. fill-end (v .3 .of lines r) _ (r .count-is) (omega (arith, v .0)) (omega (arith, f .starts-fit, v .2))
 
 pub fill-spec : {M : Type 1} → statement M
 fill-spec =

@@ -23,6 +23,12 @@ unfolding loopAt
 loop-at-is [] i h = absurd (omega arith)
 loop-at-is (l ∷ ls) zero h = List·Memᴰ·head refl
 loop-at-is (l ∷ ls) (suc i) h = List·Memᴰ·tail (loop-at-is ls i (omega arith))
+
+pub loop-is : (ls : List Loop) (i : ℕ) → i < length ls → loopAt ls i ≡ getD ls i []
+unfolding loopAt
+loop-is [] i h = absurd (omega arith)
+loop-is (l ∷ ls) zero h = refl
+loop-is (l ∷ ls) (suc i) h = loop-is ls i (omega arith)
 
 -- what holds of each loop and every later one
 pub pairs-at : {R : Loop → Loop → Type 0} {ls : List Loop} → Pairwise R ls → (i j : ℕ) → i < j → j < length ls → R (loopAt ls i) (loopAt ls j)
