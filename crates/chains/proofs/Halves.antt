@@ -8,6 +8,7 @@ use lib.ListN.{length, getD}
 use Rattle.network.specs.Standing.{Line}
 use Rattle.network.specs.Walk.{Ends, along, against}
 use Rattle.chains.specs.Chains.{Half, fore, aft, flip, markOf, metresOf, sumOf, On, here, later, Chain, no-half, first, Sound, Given, Met, Has, halves}
+use Rattle.chains.specs.Listed.{Listed}
 use Rattle.chains.proofs.Few.{Differ, no-two, differs, few}
 
 -- ---- halves
@@ -83,6 +84,21 @@ module _ {sub : List Line} {n : ℕ} {head next ends : List ℕ} (gv : Given sub
         leads = told-mark ends s (gv .few) hf t;
         sum = told-sum ends s (gv .few) hf t;
       }
+
+module _ {lines : List Line} {n q : ℕ} {ends : List ℕ} (li : Listed lines n q ends) where
+  pub line-mark : (l : Line) (u v h : ℕ) → List·Memᴰ l lines → Half l u v h → markOf ends h ≡ v
+  line-mark l u v h i hf = told-mark ends (li .sound l i) (li .few) hf (li .told l u v h i hf)
+
+  pub line-from : (l : Line) → List·Memᴰ l lines → markOf ends (l .number * 2 + 1) ≡ l .from
+  line-from l i = line-mark l (l .to) (l .from) (l .number * 2 + 1) i (aft refl refl (omega arith))
+
+  pub line-to : (l : Line) → List·Memᴰ l lines → markOf ends (l .number * 2) ≡ l .to
+  line-to l i = line-mark l (l .from) (l .to) (l .number * 2) i (fore refl refl (omega arith))
+
+  pub line-metres : (l : Line) → List·Memᴰ l lines → metresOf ends (l .number * 2) ≡ l .length
+  line-metres l i =
+      let hf : Half l (l .from) (l .to) (l .number * 2) = fore refl refl (omega arith) in
+      told-metres ends (li .sound l i) (li .few) hf (li .told l (l .from) (l .to) (l .number * 2) i hf)
 
 -- ---- chains
 
