@@ -1,251 +1,223 @@
 -- Laws of `link` and `join`. Assumes nothing.
 use Prim.Native.Nat.{ℕ, _+_, _*_, _≤_, _<_}
 use native.Mathlib.Omega.{arith}
-use native.Mathlib.Numerals.{add-one}
 use native.Mathlib.Decide.{ℕ-discrete}
 use mathlib.Core.Path.{_≡_, refl, sym, _∙_, ap, subst}
 use mathlib.Core.Logic.{_⊎_, inl, inr}
-use mathlib.Core.List.{List, List·Memᴰ, Memᴰ·cast}
+use mathlib.Core.List.{List, [], _∷_, List·Memᴰ, List·Memᴰ·not-nil}
 use lib.ListN.{length, getD, set, length-set}
 use lib.Seq.{getD-set-same, getD-set-other}
 use Rattle.network.specs.Standing.{Line}
-use Rattle.chains.specs.Chains.{On, here, later, Half, fore, aft, Nodes, Heads, Chains, Has, AllSound, halves, sumLimit}
-use Rattle.chains.proofs.Halves.{on-split, on-below}
-use Rattle.chains.specs.Link.{Space, Linked, HNode, Holds, Fits, Places, Wider, Line4, Added}
+use Rattle.chains.specs.Chains.{Half, fore, aft, markOf, Bounded, On, here, later, Chain, no-half, first, Chained, Heads, Leaves, Chains, Drawn, Sound, AllSound, halves, numberLimit}
+use Rattle.chains.specs.Link.{RoomChains, Linked, Fits, Joined, Wider}
+use Rattle.chains.proofs.Halves.{half-ok, half-no, on-zero, on-split}
 
--- what H holds, and the half h of l from m to o
-pub data And (H : Line → ℕ → ℕ → ℕ → Type 0) (l : Line) (m o h : ℕ) (k : Line) (u v g : ℕ) : Type 0 where
-  was : H k u v g → And H l m o h k u v g
-  is : k ≡ l → u ≡ m → v ≡ o → g ≡ h → And H l m o h k u v g
+-- ---- a half is put in front of a chain
 
-module _ (n cnt : ℕ) (head next fars add head′ next′ fars′ add′ : List ℕ) (m o a : ℕ) (nodes : Nodes n cnt next fars add) (heads : Heads n cnt head)
-    (sp : Space head next fars add cnt m) (mok : m < n) (ook : o < n) (aok : a < sumLimit)
-    (lk : Linked head next fars add head′ next′ fars′ add′ cnt m o a) where
-  next-old : (k : ℕ) → k < cnt → getD next′ k 0 ≡ getD next k 0
-  next-old k h = ap (λ (x : List ℕ). getD x k 0) (lk .nexts) ∙ getD-set-other next cnt k (getD head m 0) 0 (λ e. omega arith)
+-- what the chains hold, by any test of a mark and a half that leaves it
+pub record Holds (H : ℕ → ℕ → Type 0) (n : ℕ) (head next : List ℕ) : Type 0 where
+  pub chained : (m : ℕ) → m < n → Chained next (getD head m 0)
+  pub of : (m h : ℕ) → m < n → On next (getD head m 0) h → H m h
+  pub has : (m h : ℕ) → H m h → On next (getD head m 0) h
 
-  next-new : getD next′ cnt 0 ≡ getD head m 0
-  next-new = ap (λ (x : List ℕ). getD x cnt 0) (lk .nexts) ∙ getD-set-same next cnt (getD head m 0) 0 (sp .nexts)
+-- what H holds, and the half h at m
+abbrev And : (ℕ → ℕ → Type 0) → ℕ → ℕ → ℕ → ℕ → Type 0
+And H m h x g = H x g ⊎ ((x ≡ m) × (g ≡ h))
 
-  far-old : (k : ℕ) → k < cnt → getD fars′ k 0 ≡ getD fars k 0
-  far-old k h = ap (λ (x : List ℕ). getD x k 0) (lk .ends) ∙ getD-set-other fars cnt k o 0 (λ e. omega arith)
+module _ (n : ℕ) (head next head′ next′ : List ℕ) (m h : ℕ) (room : RoomChains n head next) (mok : m < n) (low : 0 < h) (high : h < halves)
+    (lk : Linked head next head′ next′ m h) where
+  next-old : (i : ℕ) → (i ≡ h → ⊥) → getD next′ i 0 ≡ getD next i 0
+  next-old i d = ap (λ (x : List ℕ). getD x i 0) (lk .nexts) ∙ getD-set-other next h i (getD head m 0) 0 d
 
-  far-new : getD fars′ cnt 0 ≡ o
-  far-new = ap (λ (x : List ℕ). getD x cnt 0) (lk .ends) ∙ getD-set-same fars cnt o 0 (sp .ends)
-
-  add-old : (k : ℕ) → k < cnt → getD add′ k 0 ≡ getD add k 0
-  add-old k h = ap (λ (x : List ℕ). getD x k 0) (lk .adds) ∙ getD-set-other add cnt k a 0 (λ e. omega arith)
-
-  add-new : getD add′ cnt 0 ≡ a
-  add-new = ap (λ (x : List ℕ). getD x cnt 0) (lk .adds) ∙ getD-set-same add cnt a 0 (sp .adds)
+  next-new : getD next′ h 0 ≡ getD head m 0
+  next-new = ap (λ (x : List ℕ). getD x h 0) (lk .nexts) ∙ getD-set-same next h (getD head m 0) 0 (omega (arith, room .nexts))
 
   head-old : (x : ℕ) → (x ≡ m → ⊥) → getD head′ x 0 ≡ getD head x 0
-  head-old x d = ap (λ (y : List ℕ). getD y x 0) (lk .heads) ∙ getD-set-other head m x (cnt + 1) 0 d
+  head-old x d = ap (λ (y : List ℕ). getD y x 0) (lk .heads) ∙ getD-set-other head m x h 0 d
 
-  head-new : getD head′ m 0 ≡ cnt + 1
-  head-new = ap (λ (y : List ℕ). getD y m 0) (lk .heads) ∙ getD-set-same head m (cnt + 1) 0 (sp .heads)
+  head-new : getD head′ m 0 ≡ h
+  head-new = ap (λ (y : List ℕ). getD y m 0) (lk .heads) ∙ getD-set-same head m h 0 (omega (arith, room .heads))
 
-  -- chains below the new node are what they were
-  to-new : {i j : ℕ} → On next i j → i ≤ cnt → On next′ i j
-  to-new (here e) h = here e
-  to-new {j = j} (later k e w) h = later k e (subst (λ (x : ℕ). On next′ x j) (sym (next-old k (omega arith))) (to-new w (omega (arith, nodes .falls k (omega arith)))))
+  nexts′ : halves ≤ length next′
+  nexts′ = rw (lk .nexts) (simp length-set (room .nexts))
 
-  to-old : {i j : ℕ} → On next′ i j → i ≤ cnt → On next i j
-  to-old (here e) h = here e
-  to-old {j = j} (later k e w) h =
-      let s = next-old k (omega arith) in
-      later k e (subst (λ (x : ℕ). On next x j) s (to-old w (omega (arith, s, nodes .falls k (omega arith)))))
+  pub link-room : RoomChains n head′ next′
+  link-room = record { heads = rw (lk .heads) (simp length-set (room .heads)); nexts = nexts′ }
 
-  pub link-nodes : Nodes n (cnt + 1) next′ fars′ add′
-  link-nodes = record {
-    nexts = rw (lk .nexts) (simp length-set (omega (arith, sp .nexts)));
-    fars = rw (lk .ends) (simp length-set (omega (arith, sp .ends)));
-    adds = rw (lk .adds) (simp length-set (omega (arith, sp .adds)));
-    falls = λ j h. falls j h (ℕ-discrete j cnt);
-    far-ok = λ j h. ok j h (ℕ-discrete j cnt);
-    add-ok = λ j h. aokk j h (ℕ-discrete j cnt);
-  }
-    where
-      falls : (j : ℕ) → j < cnt + 1 → Dec (j ≡ cnt) → getD next′ j 0 ≤ j
-      falls j h (yes e) = omega (arith, ap (λ (x : ℕ). getD next′ x 0) e, next-new, heads .head-ok m mok)
-      falls j h (no e) = omega (arith, next-old j (omega arith), nodes .falls j (omega arith))
+  -- a chain without h stays as it is
+  on-new : {i g : ℕ} → (On next i h → ⊥) → On next i g → On next′ i g
+  on-new f (here p e) = here p e
+  on-new {i = i} {g = g} f (later p o) = later p (subst (λ (x : ℕ). On next′ x g) (sym (next-old i (λ e. f (here p e)))) (on-new (λ w. f (later p w)) o))
 
-      ok : (j : ℕ) → j < cnt + 1 → Dec (j ≡ cnt) → getD fars′ j 0 < n
-      ok j h (yes e) = omega (arith, ap (λ (x : ℕ). getD fars′ x 0) e, far-new)
-      ok j h (no e) = omega (arith, far-old j (omega arith), nodes .far-ok j (omega arith))
+  on-old : {i g : ℕ} → (On next i h → ⊥) → On next′ i g → On next i g
+  on-old f (here p e) = here p e
+  on-old {i = i} {g = g} f (later p o) =
+      let s = next-old i (λ e. f (here p e)) in
+      later p (subst (λ (x : ℕ). On next x g) s (on-old (λ w. f (later p (subst (λ (x : ℕ). On next x h) s w))) o))
 
-      aokk : (j : ℕ) → j < cnt + 1 → Dec (j ≡ cnt) → getD add′ j 0 < sumLimit
-      aokk j h (yes e) = omega (arith, ap (λ (x : ℕ). getD add′ x 0) e, add-new)
-      aokk j h (no e) = omega (arith, add-old j (omega arith), nodes .add-ok j (omega arith))
+  chain-new : {i : ℕ} {hs : List ℕ} → (On next i h → ⊥) → Chain next i hs → Chain next′ i hs
+  chain-new f (no-half z) = no-half z
+  chain-new {i = i} f (first {hs = hs} p lt c) =
+      first p lt (subst (λ (x : ℕ). Chain next′ x hs) (sym (next-old i (λ e. f (here p e)))) (chain-new (λ w. f (later p w)) c))
 
-  pub link-heads : Heads n (cnt + 1) head′
-  link-heads = record { heads = rw (lk .heads) (simp length-set (heads .heads)); head-ok = λ x h. go x h (ℕ-discrete x m) }
-    where
-      go : (x : ℕ) → x < n → Dec (x ≡ m) → getD head′ x 0 ≤ cnt + 1
-      go x h (yes e) = omega (arith, ap (λ (y : ℕ). getD head′ y 0) e, head-new)
-      go x h (no e) = omega (arith, head-old x e, heads .head-ok x h)
+  module _ (H : ℕ → ℕ → Type 0) (inside : (x g : ℕ) → H x g → x < n) (isNew : (x : ℕ) → H x h → ⊥) (hs : Holds H n head next) where
+    off : (x : ℕ) → x < n → On next (getD head x 0) h → ⊥
+    off x lt o = isNew x (hs .of x h lt o)
 
-  -- ---- what is held: as before, and the new half
-
-  module _ (H : Line → ℕ → ℕ → ℕ → Type 0) (l : Line) (h : ℕ) (sum : a ≡ l .length * halves + h) where
-    abbrev More : Line → ℕ → ℕ → ℕ → Type 0
-    More = And H l m o h
-
-    keep-node : (x j : ℕ) → j < cnt → HNode H fars add x j → HNode More fars′ add′ x j
-    keep-node x j lt nd = record {
-      l = nd .l;
-      h = nd .h;
-      holds = was (subst (λ (z : ℕ). H (nd .l) x z (nd .h)) (sym (far-old j lt)) (nd .holds));
-      sum = add-old j lt ∙ nd .sum;
+    pub link-holds : Holds (And H m h) n head′ next′
+    link-holds = record {
+      chained = λ x lt. chained x lt (ℕ-discrete x m);
+      of = λ x g lt o. of x g lt o (ℕ-discrete x m);
+      has = has;
     }
-
-    keep-has : {i v s : ℕ} → i ≤ cnt → Has next fars add i v s → Has next′ fars′ add′ i v s
-    keep-has le w =
-        let lt = on-below nodes (w .on) le in
-        record { j = w .j; on = to-new (w .on) le; ends = far-old (w .j) lt ∙ w .ends; sum = add-old (w .j) lt ∙ w .sum }
-
-    pub link-holds : ((k : Line) (u v g : ℕ) → H k u v g → u < n) → Holds H n head next fars add → Holds (And H l m o h) n head′ next′ fars′ add′
-    link-holds low hs = record { of = λ x j lt w. of x j lt w (ℕ-discrete x m); has = has }
       where
-        first : (j : ℕ) → (j ≡ cnt) ⊎ On next′ (getD next′ cnt 0) j → HNode More fars′ add′ m j
-        first j (inl e) = subst (λ (z : ℕ). HNode More fars′ add′ m z) (sym e)
-            (record { l = l; h = h; holds = is refl refl far-new refl; sum = add-new ∙ sum })
-        first j (inr w) =
-            let le = heads .head-ok m mok in
-            let w′ = to-old (subst (λ (z : ℕ). On next′ z j) next-new w) le in
-            keep-node m j (on-below nodes w′ le) (hs .of m j mok w′)
+        -- the chain of m, behind h
+        behind : On next (getD head m 0) h → ⊥
+        behind = off m mok
 
-        of : (x j : ℕ) → x < n → On next′ (getD head′ x 0) j → Dec (x ≡ m) → HNode More fars′ add′ x j
-        of x j lt w (yes e) = subst (λ (z : ℕ). HNode More fars′ add′ z j) (sym e)
-            (first j (on-split next′ cnt j (subst (λ (z : ℕ). On next′ z j) (ap (λ (z : ℕ). getD head′ z 0) e ∙ head-new ∙ add-one cnt) w)))
-        of x j lt w (no e) =
-            let le = heads .head-ok x lt in
-            let w′ = to-old (subst (λ (z : ℕ). On next′ z j) (head-old x e) w) le in
-            keep-node x j (on-below nodes w′ le) (hs .of x j lt w′)
+        chained : (x : ℕ) → x < n → Dec (x ≡ m) → Chained next′ (getD head′ x 0)
+        chained x lt (yes e) =
+            let w = hs .chained m mok in
+            subst (Chained next′) (sym (ap (λ (z : ℕ). getD head′ z 0) e ∙ head-new))
+            (record { nexts = nexts′; hs = h ∷ w .hs; chain = first low high (subst (λ (z : ℕ). Chain next′ z (w .hs)) (sym next-new) (chain-new behind (w .chain))) })
+        chained x lt (no e) =
+            let w = hs .chained x lt in
+            subst (Chained next′) (sym (head-old x e)) (record { nexts = nexts′; hs = w .hs; chain = chain-new (off x lt) (w .chain) })
 
-        behind : {v s : ℕ} → Has next′ fars′ add′ (getD head m 0) v s → Has next′ fars′ add′ (getD head′ m 0) v s
-        behind w = record {
-          j = w .j;
-          on = later cnt (head-new ∙ add-one cnt) (subst (λ (z : ℕ). On next′ z (w .j)) (sym next-new) (w .on));
-          ends = w .ends;
-          sum = w .sum;
-        }
+        front : (g : ℕ) → (g ≡ h) ⊎ On next′ (getD next′ h 0) g → And H m h m g
+        front g (inl e) = inr (refl, e)
+        front g (inr o) = inl (hs .of m g mok (on-old behind (subst (λ (z : ℕ). On next′ z g) next-new o)))
 
-        old-has : (u v s : ℕ) → u < n → Has next fars add (getD head u 0) v s → Dec (u ≡ m) → Has next′ fars′ add′ (getD head′ u 0) v s
-        old-has u v s lt w (yes e) =
-            let w′ = keep-has (heads .head-ok u lt) w in
-            subst (λ (z : ℕ). Has next′ fars′ add′ (getD head′ z 0) v s) (sym e) (behind (subst (λ (z : ℕ). Has next′ fars′ add′ (getD head z 0) v s) e w′))
-        old-has u v s lt w (no e) = subst (λ (z : ℕ). Has next′ fars′ add′ z v s) (sym (head-old u e)) (keep-has (heads .head-ok u lt) w)
+        of : (x g : ℕ) → x < n → On next′ (getD head′ x 0) g → Dec (x ≡ m) → And H m h x g
+        of x g lt o (yes e) = subst (λ (z : ℕ). And H m h z g) (sym e)
+            (front g (on-split (subst (λ (z : ℕ). On next′ z g) (ap (λ (z : ℕ). getD head′ z 0) e ∙ head-new) o)))
+        of x g lt o (no e) = inl (hs .of x g lt (on-old (off x lt) (subst (λ (z : ℕ). On next′ z g) (head-old x e) o)))
 
-        has : (k : Line) (u v g : ℕ) → More k u v g → Has next′ fars′ add′ (getD head′ u 0) v (k .length * halves + g)
-        has k u v g (was w) = old-has u v (k .length * halves + g) (low k u v g w) (hs .has k u v g w) (ℕ-discrete u m)
-        has k u v g (is p q s t) = record {
-          j = cnt;
-          on = here (ap (λ (z : ℕ). getD head′ z 0) q ∙ head-new ∙ add-one cnt);
-          ends = far-new ∙ sym s;
-          sum = add-new ∙ sum ∙ ap (λ (z : Line). z .length * halves + h) (sym p) ∙ ap (λ (z : ℕ). k .length * halves + z) (sym t);
-        }
+        old : (x g : ℕ) → H x g → Dec (x ≡ m) → On next′ (getD head′ x 0) g
+        old x g w (yes e) =
+            let o = on-new behind (subst (λ (z : ℕ). On next (getD head z 0) g) e (hs .has x g w)) in
+            subst (λ (z : ℕ). On next′ z g) (sym (ap (λ (z : ℕ). getD head′ z 0) e ∙ head-new))
+            (later low (subst (λ (z : ℕ). On next′ z g) (sym next-new) o))
+        old x g w (no e) = subst (λ (z : ℕ). On next′ z g) (sym (head-old x e)) (on-new (off x (inside x g w)) (hs .has x g w))
+
+        has : (x g : ℕ) → And H m h x g → On next′ (getD head′ x 0) g
+        has x g (inl w) = old x g w (ℕ-discrete x m)
+        has x g (inr (e, q)) =
+            let z : getD head′ x 0 ≡ h = ap (λ (y : ℕ). getD head′ y 0) e ∙ head-new in
+            here {i = getD head′ x 0} (omega (arith, z)) (z ∙ sym q)
 
 -- ---- both halves of a line
 
-module _ (n cnt : ℕ) (head next fars add h₁ n₁ f₁ a₁ h₂ n₂ f₂ a₂ : List ℕ) (f t no len : ℕ) (pl : Places n cnt head next fars add) (ft : Fits n f t no len)
-    (x : Linked head next fars add h₁ n₁ f₁ a₁ cnt f t (len * halves + no * 2)) (y : Linked h₁ n₁ f₁ a₁ h₂ n₂ f₂ a₂ (cnt + 1) t f (len * halves + no * 2 + 1)) where
-  sp₁ : Space head next fars add cnt f
-  sp₁ = record {
-    heads = omega (arith, pl .heads .heads, ft .f-ok);
-    nexts = omega (arith, pl .nexts);
-    ends = omega (arith, pl .ends);
-    adds = omega (arith, pl .adds);
+module _ (sub sub′ : List Line) (l : Line) {n : ℕ} {ends head next head′ next′ : List ℕ} (sound : AllSound n sub) (s : Sound n l) (wd : Wider sub sub′ l)
+    (isNew : (k : Line) → List·Memᴰ k sub → k .number ≡ l .number → ⊥)
+    (from-is : markOf ends (l .number * 2 + 1) ≡ l .from) (to-is : markOf ends (l .number * 2) ≡ l .to) (room : RoomChains n head next)
+    (jn : Joined ends head next head′ next′ (l .number)) (heads : Heads n head next) (ch : Chains sub n head next) where
+  abbrev f : ℕ
+  f = markOf ends (l .number * 2 + 1)
+
+  abbrev t : ℕ
+  t = markOf ends (l .number * 2)
+
+  abbrev H₀ : ℕ → ℕ → Type 0
+  H₀ = Leaves sub
+
+  abbrev H₁ : ℕ → ℕ → Type 0
+  H₁ = And (Leaves sub) (markOf ends (l .number * 2 + 1)) (l .number * 2)
+
+  abbrev H₂ : ℕ → ℕ → Type 0
+  H₂ = And (And (Leaves sub) (markOf ends (l .number * 2 + 1)) (l .number * 2)) (markOf ends (l .number * 2)) (l .number * 2 + 1)
+
+  f-ok : markOf ends (l .number * 2 + 1) < n
+  f-ok = rw from-is (s .from-high)
+
+  t-ok : markOf ends (l .number * 2) < n
+  t-ok = rw to-is (s .to-high)
+
+  inside₀ : (x g : ℕ) → Leaves sub x g → x < n
+  inside₀ x g w = half-ok (sound (w .l) (w .isLine)) (w .half) .0
+
+  inside₁ : (x g : ℕ) → H₁ x g → x < n
+  inside₁ x g (inl w) = inside₀ x g w
+  inside₁ x g (inr (e, q)) = omega (arith, e, f-ok)
+
+  -- no half of l is on a chain yet
+  new₀ : (x g : ℕ) → 2 * l .number ≤ g → g ≤ 2 * l .number + 1 → Leaves sub x g → ⊥
+  new₀ x g a b w = isNew (w .l) (w .isLine) (omega (arith, half-no (w .half)))
+
+  new₁ : (x : ℕ) → H₁ x (l .number * 2 + 1) → ⊥
+  new₁ x (inl w) = new₀ x (l .number * 2 + 1) (omega arith) (omega arith) w
+  new₁ x (inr (e, q)) = omega arith
+
+  hold₁ : Holds H₁ n (jn .head₁) (jn .next₁)
+  hold₁ = link-holds n head next (jn .head₁) (jn .next₁) (markOf ends (l .number * 2 + 1)) (l .number * 2) room f-ok
+      (omega (arith, s .numbered)) (omega (arith, s .number)) (jn .along)
+      (Leaves sub) inside₀ (λ x w. new₀ x (l .number * 2) (omega arith) (omega arith) w)
+      (record { chained = heads .chained; of = ch .of; has = ch .has })
+
+  room₁ : RoomChains n (jn .head₁) (jn .next₁)
+  room₁ = link-room n head next (jn .head₁) (jn .next₁) (markOf ends (l .number * 2 + 1)) (l .number * 2) room f-ok
+      (omega (arith, s .numbered)) (omega (arith, s .number)) (jn .along)
+
+  hold₂ : Holds H₂ n head′ next′
+  hold₂ = link-holds n (jn .head₁) (jn .next₁) head′ next′ (markOf ends (l .number * 2)) (l .number * 2 + 1) room₁ t-ok
+      (omega arith) (omega (arith, s .number)) (jn .against) H₁ inside₁ new₁ hold₁
+
+  room₂ : RoomChains n head′ next′
+  room₂ = link-room n (jn .head₁) (jn .next₁) head′ next′ (markOf ends (l .number * 2)) (l .number * 2 + 1) room₁ t-ok
+      (omega arith) (omega (arith, s .number)) (jn .against)
+
+  of-two : (x g : ℕ) → H₂ x g → Leaves sub′ x g
+  of-two x g (inl (inl w)) = record { l = w .l; to = w .to; isLine = wd .keeps (w .l) (w .isLine); half = w .half }
+  of-two x g (inl (inr (e, q))) = record { l = l; to = l .to; isLine = wd .mine; half = fore (sym from-is ∙ sym e) refl (omega arith) }
+  of-two x g (inr (e, q)) = record { l = l; to = l .from; isLine = wd .mine; half = aft (sym to-is ∙ sym e) refl (omega arith) }
+
+  mine-two : (x g v : ℕ) → Half l x v g → H₂ x g
+  mine-two x g v (fore p q e) = inl (inr (sym p ∙ sym from-is, omega arith))
+  mine-two x g v (aft p q e) = inr (sym p ∙ sym to-is, omega arith)
+
+  two-of : (x g : ℕ) → Leaves sub′ x g → H₂ x g
+  two-of x g w = go (wd .only (w .l) (w .isLine))
+    where
+      go : (w .l ≡ l) ⊎ List·Memᴰ (w .l) sub → H₂ x g
+      go (inl e) = mine-two x g (w .to) (subst (λ (k : Line). Half k x (w .to) g) e (w .half))
+      go (inr i) = inl (inl (record { l = w .l; to = w .to; isLine = i; half = w .half }))
+
+  -- the chains then hold the line too
+  pub join-draws : Drawn sub′ n head′ next′
+  join-draws = record {
+    heads = record { heads = room₂ .heads; chained = hold₂ .chained };
+    chains = record {
+      of = λ m h lt o. of-two m h (hold₂ .of m h lt o);
+      has = λ m h w. hold₂ .has m h (two-of m h w);
+    };
   }
 
-  nodes₁ : Nodes n (cnt + 1) n₁ f₁ a₁
-  nodes₁ = link-nodes n cnt head next fars add h₁ n₁ f₁ a₁ f t (len * halves + no * 2) (pl .nodes) (pl .heads) sp₁ (ft .f-ok) (ft .t-ok) (omega (arith, ft .number, ft .short)) x
+-- ---- before any line joins
 
-  heads₁ : Heads n (cnt + 1) h₁
-  heads₁ = link-heads n cnt head next fars add h₁ n₁ f₁ a₁ f t (len * halves + no * 2) (pl .nodes) (pl .heads) sp₁ (ft .f-ok) (ft .t-ok) (omega (arith, ft .number, ft .short)) x
+pub draws-none : {n : ℕ} {head next : List ℕ} → RoomChains n head next → ((i : ℕ) → i < n → getD head i 0 ≡ 0) → Drawn [] n head next
+draws-none room zeros = record {
+  heads = record { heads = room .heads; chained = λ m lt. record { nexts = room .nexts; hs = []; chain = no-half (zeros m lt) } };
+  chains = record { of = λ m h lt o. on-zero (zeros m lt) o; has = λ m h w. absurd (List·Memᴰ·not-nil (w .isLine)) };
+}
 
-  sp₂ : Space h₁ n₁ f₁ a₁ (cnt + 1) t
-  sp₂ = record {
-    heads = omega (arith, heads₁ .heads, ft .t-ok);
-    nexts = rw (x .nexts) (simp length-set (omega (arith, pl .nexts)));
-    ends = rw (x .ends) (simp length-set (omega (arith, pl .ends)));
-    adds = rw (x .adds) (simp length-set (omega (arith, pl .adds)));
-  }
+-- what the chains hold goes by members alone
+pub draws-same : {a b : List Line} {n : ℕ} {head next : List ℕ} → ((l : Line) → List·Memᴰ l a → List·Memᴰ l b) → ((l : Line) → List·Memᴰ l b → List·Memᴰ l a)
+    → Drawn a n head next → Drawn b n head next
+draws-same to from d = record {
+  heads = d .heads;
+  chains = record {
+    of = λ m h lt o. let w = d .chains .of m h lt o in record { l = w .l; to = w .to; isLine = to (w .l) (w .isLine); half = w .half };
+    has = λ m h w. d .chains .has m h (record { l = w .l; to = w .to; isLine = from (w .l) (w .isLine); half = w .half });
+  };
+}
 
-  two : cnt + 1 + 1 ≡ cnt + 2
-  two = omega arith
-
-  nodes₂ : Nodes n (cnt + 2) n₂ f₂ a₂
-  nodes₂ = subst (λ (z : ℕ). Nodes n z n₂ f₂ a₂) two
-      (link-nodes n (cnt + 1) h₁ n₁ f₁ a₁ h₂ n₂ f₂ a₂ t f (len * halves + no * 2 + 1) nodes₁ heads₁ sp₂ (ft .t-ok) (ft .f-ok) (omega (arith, ft .number, ft .short)) y)
-
-  heads₂ : Heads n (cnt + 2) h₂
-  heads₂ = subst (λ (z : ℕ). Heads n z h₂) two
-      (link-heads n (cnt + 1) h₁ n₁ f₁ a₁ h₂ n₂ f₂ a₂ t f (len * halves + no * 2 + 1) nodes₁ heads₁ sp₂ (ft .t-ok) (ft .f-ok) (omega (arith, ft .number, ft .short)) y)
-
-  module _ (sub sub′ : List Line) (tip : List ℕ) (l : Line) (sound : AllSound n sub) (l4 : Line4 l f t no len) (wd : Wider sub sub′ l)
-      (tips : (u v h : ℕ) → Half l u v h → getD tip h 0 ≡ v) (ch : Chains sub n head next fars add tip) where
-    abbrev H₀ : Line → ℕ → ℕ → ℕ → Type 0
-    H₀ k u v g = List·Memᴰ k sub × Half k u v g
-
-    abbrev H₁ : Line → ℕ → ℕ → ℕ → Type 0
-    H₁ = And H₀ l f t (no * 2)
-
-    abbrev H₂ : Line → ℕ → ℕ → ℕ → Type 0
-    H₂ = And H₁ l t f (no * 2 + 1)
-
-    low₀ : (k : Line) (u v g : ℕ) → H₀ k u v g → u < n
-    low₀ k u v g (m, fore p q e) = omega (arith, p, sound k m .from-high)
-    low₀ k u v g (m, aft p q e) = omega (arith, p, sound k m .to-high)
-
-    low₁ : (k : Line) (u v g : ℕ) → H₁ k u v g → u < n
-    low₁ k u v g (was w) = low₀ k u v g w
-    low₁ k u v g (is p q s e) = omega (arith, q, ft .f-ok)
-
-    hold₀ : Holds H₀ n head next fars add
-    hold₀ = record {
-      of = λ m j lt w. let nd = ch .of m j lt w in record { l = nd .l; h = nd .h; holds = (nd .isLine, nd .half); sum = nd .sum };
-      has = λ k u v g w. ch .has k u v g (w .0) (w .1);
-    }
-
-    hold₁ : Holds H₁ n h₁ n₁ f₁ a₁
-    hold₁ = link-holds n cnt head next fars add h₁ n₁ f₁ a₁ f t (len * halves + no * 2) (pl .nodes) (pl .heads) sp₁ (ft .f-ok) (ft .t-ok) (omega (arith, ft .number, ft .short)) x
-        H₀ l (no * 2) (omega (arith, l4 .length-is)) low₀ hold₀
-
-    hold₂ : Holds H₂ n h₂ n₂ f₂ a₂
-    hold₂ = link-holds n (cnt + 1) h₁ n₁ f₁ a₁ h₂ n₂ f₂ a₂ t f (len * halves + no * 2 + 1) nodes₁ heads₁ sp₂ (ft .t-ok) (ft .f-ok) (omega (arith, ft .number, ft .short)) y
-        H₁ l (no * 2 + 1) (omega (arith, l4 .length-is)) low₁ hold₁
-
-    half-of : (k : Line) (u v g : ℕ) → H₂ k u v g → List·Memᴰ k sub′ × Half k u v g
-    half-of k u v g (was (was (m, h))) = (wd .keeps k m, h)
-    half-of k u v g (was (is p q s e)) =
-        (Memᴰ·cast p (wd .mine), fore (ap (λ (z : Line). z .from) p ∙ l4 .f-is ∙ sym q) (ap (λ (z : Line). z .to) p ∙ l4 .t-is ∙ sym s) (omega (arith, e, l4 .number-is, ap (λ (z : Line). z .number) p)))
-    half-of k u v g (is p q s e) =
-        (Memᴰ·cast p (wd .mine), aft (ap (λ (z : Line). z .to) p ∙ l4 .t-is ∙ sym q) (ap (λ (z : Line). z .from) p ∙ l4 .f-is ∙ sym s) (omega (arith, e, l4 .number-is, ap (λ (z : Line). z .number) p)))
-
-    of-half : (k : Line) (u v g : ℕ) → (k ≡ l) ⊎ List·Memᴰ k sub → Half k u v g → H₂ k u v g
-    of-half k u v g (inr m) h = was (was (m, h))
-    of-half k u v g (inl p) (fore a b e) =
-        was (is p (sym a ∙ ap (λ (z : Line). z .from) p ∙ l4 .f-is) (sym b ∙ ap (λ (z : Line). z .to) p ∙ l4 .t-is) (omega (arith, e, l4 .number-is, ap (λ (z : Line). z .number) p)))
-    of-half k u v g (inl p) (aft a b e) =
-        is p (sym a ∙ ap (λ (z : Line). z .to) p ∙ l4 .t-is) (sym b ∙ ap (λ (z : Line). z .from) p ∙ l4 .f-is) (omega (arith, e, l4 .number-is, ap (λ (z : Line). z .number) p))
-
-    tip-of : (k : Line) (u v h : ℕ) → (k ≡ l) ⊎ List·Memᴰ k sub → Half k u v h → getD tip h 0 ≡ v
-    tip-of k u v h (inl p) j = tips u v h (subst (λ (z : Line). Half z u v h) p j)
-    tip-of k u v h (inr m) j = ch .tipOf k u v h m j
-
-    pub join-chains : Chains sub′ n h₂ n₂ f₂ a₂ tip
-    join-chains = record {
-      of = λ m j lt w.
-          let nd = hold₂ .of m j lt w in
-          let hm = half-of (nd .l) m (getD f₂ j 0) (nd .h) (nd .holds) in
-          record { l = nd .l; isLine = hm .0; h = nd .h; half = hm .1; sum = nd .sum };
-      has = λ k u v h m j. hold₂ .has k u v h (of-half k u v h (wd .only k m) j);
-      tipOf = λ k u v h m j. tip-of k u v h (wd .only k m) j;
-    }
-
-  pub join-added : Added n cnt head next fars add h₂ n₂ f₂ a₂ f t no len
-  join-added = record { nodes = nodes₂; heads = heads₂; chains = λ sub sub′ tip l s l4 wd tips ch. join-chains sub sub′ tip l s l4 wd tips ch }
+pub bounded-fits : {n : ℕ} {ends : List ℕ} → Bounded n ends → (number : ℕ) → number < numberLimit → Fits n ends number
+bounded-fits b number lt = record {
+  number-ok = lt;
+  ends-at = b .ends-at;
+  from-ok = b .mark-ok (number * 2 + 1) (omega arith);
+  to-ok = b .mark-ok (number * 2) (omega arith);
+}
 
 pub zero-next : (xs : List ℕ) (i : ℕ) → i < length xs → ((j : ℕ) → j < i → getD xs j 0 ≡ 0) → (j : ℕ) → j < i + 1 → getD (set xs i 0) j 0 ≡ 0
 zero-next xs i lt f j h = go (ℕ-discrete j i)

@@ -1,2 +1,3 @@
+pub mod Few
 pub mod Halves
 pub mod Laws

@@ -1,13 +1,13 @@
--- Half lines and chains of nodes: what a chain is and what the chains hold. Assumes nothing.
-use Prim.Native.Nat.{ℕ, suc, _+_, _*_, _-_, _/_, _≤_, _<_}
+-- Half lines and chains of halves: what a chain is and what the chains hold. Assumes nothing.
+use Prim.Native.Nat.{ℕ, _+_, _*_, _-_, _/_, _%_, _≤_, _<_}
 use mathlib.Core.Path.{_≡_}
-use mathlib.Core.List.{List, List·Memᴰ}
+use mathlib.Core.List.{List, [], _∷_, List·Memᴰ}
 use lib.ListN.{length, getD}
 use Rattle.book.specs.Limits.{leastLength, mostLength}
 use Rattle.network.specs.Standing.{Line}
 use Rattle.network.specs.Sound.{Rising}
 
--- ---- limits: no line number, half number or sum of a node reaches past these
+-- ---- limits: no line number and no half number reaches past these
 
 abbrev pub numberLimit : ℕ
 numberLimit = 1024
@@ -15,9 +15,6 @@ numberLimit = 1024
 -- two halves to a line
 abbrev pub halves : ℕ
 halves = 2048
-
-abbrev pub sumLimit : ℕ
-sumLimit = 268435456
 
 -- ---- a half: a line run from u to v, by its number: twice the line's, one more against its sense
 
@@ -29,47 +26,67 @@ pub data Half (l : Line) (u v h : ℕ) : Type 0 where
 abbrev pub flip : ℕ → ℕ
 flip h = h / 2 * 4 + 1 - h
 
--- ---- chains: a pointer is 0 or one more than a node
+-- ---- ends: of each half the length of its line and the mark that it leads to, in one number; 0 where the book has no such standing line
 
+abbrev pub markOf : List ℕ → ℕ → ℕ
+markOf ends h = getD ends h 0 % halves
+
+abbrev pub metresOf : List ℕ → ℕ → ℕ
+metresOf ends h = getD ends h 0 / halves
+
+-- length and half in one number, so that one test compares the lengths and then the line numbers
+abbrev pub sumOf : List ℕ → ℕ → ℕ
+sumOf ends h = getD ends h 0 - getD ends h 0 % halves + h
+
+-- each half leads to a mark below n, and is no longer than a line may be
+pub record Bounded (n : ℕ) (ends : List ℕ) : Type 0 where
+  pub ends-at : halves ≤ length ends
+  pub mark-ok : (h : ℕ) → h < halves → markOf ends h < n
+  pub short : (h : ℕ) → h < halves → metresOf ends h ≤ mostLength
+
+-- what ends says of the lines
+abbrev pub Told : List Line → List ℕ → Type 0
+Told lines ends = (l : Line) (u v h : ℕ) → List·Memᴰ l lines → Half l u v h → getD ends h 0 ≡ l .length * halves + v
+
+-- ---- chains: each half of a chain has the next one at its place of next, the last one 0
+
+-- h is on the chain whose first half is i; 0 is no half
 pub data On (next : List ℕ) : ℕ → ℕ → Type 0 where
-  here : {i j : ℕ} → i ≡ suc j → On next i j
-  later : {i j : ℕ} (k : ℕ) → i ≡ suc k → On next (getD next k 0) j → On next i j
+  here : {i h : ℕ} → 0 < i → i ≡ h → On next i h
+  later : {i h : ℕ} → 0 < i → On next (getD next i 0) h → On next i h
 
--- what an index needs: cnt nodes on marks below n
-pub record Nodes (n cnt : ℕ) (next far add : List ℕ) : Type 0 where
-  pub nexts : cnt ≤ length next
-  pub fars : cnt ≤ length far
-  pub adds : cnt ≤ length add
-  pub falls : (j : ℕ) → j < cnt → getD next j 0 ≤ j
-  pub far-ok : (j : ℕ) → j < cnt → getD far j 0 < n
-  pub add-ok : (j : ℕ) → j < cnt → getD add j 0 < sumLimit
+-- the chain whose first half is i is the halves hs, one after the other, and ends
+pub data Chain (next : List ℕ) : ℕ → List ℕ → Type 0 where
+  no-half : {i : ℕ} → i ≡ 0 → Chain next i []
+  first : {i : ℕ} {hs : List ℕ} → 0 < i → i < halves → Chain next (getD next i 0) hs → Chain next i (i ∷ hs)
 
-pub record Heads (n cnt : ℕ) (head : List ℕ) : Type 0 where
+-- there is such a chain, and next has a place for each half
+pub record Chained (next : List ℕ) (i : ℕ) : Type 0 where
+  pub nexts : halves ≤ length next
+  pub hs : List ℕ
+  pub chain : Chain next i hs
+
+-- each mark below n has its chain, by its first half
+pub record Heads (n : ℕ) (head next : List ℕ) : Type 0 where
   pub heads : n ≤ length head
-  pub head-ok : (m : ℕ) → m < n → getD head m 0 ≤ cnt
+  pub chained : (m : ℕ) → m < n → Chained next (getD head m 0)
 
-pub record Tips (n : ℕ) (tip : List ℕ) : Type 0 where
-  pub tips : halves ≤ length tip
-  pub tip-ok : (h : ℕ) → h < halves → getD tip h 0 < n
-
-pub record Node (sub : List Line) (far add : List ℕ) (m j : ℕ) : Type 0 where
+-- a half of one of the lines sub leaves the mark m
+pub record Leaves (sub : List Line) (m h : ℕ) : Type 0 where
   pub l : Line
+  pub to : ℕ
   pub isLine : List·Memᴰ l sub
-  pub h : ℕ
-  pub half : Half l m (getD far j 0) h
-  pub sum : getD add j 0 ≡ l .length * halves + h
+  pub half : Half l m to h
 
-pub record Has (next far add : List ℕ) (i v a : ℕ) : Type 0 where
-  pub j : ℕ
-  pub on : On next i j
-  pub ends : getD far j 0 ≡ v
-  pub sum : getD add j 0 ≡ a
+-- the chains hold the lines sub, each twice: the chain of a mark has the halves that leave it
+pub record Chains (sub : List Line) (n : ℕ) (head next : List ℕ) : Type 0 where
+  pub of : (m h : ℕ) → m < n → On next (getD head m 0) h → Leaves sub m h
+  pub has : (m h : ℕ) → Leaves sub m h → On next (getD head m 0) h
 
--- the chains hold the lines sub, each twice, at its two ends
-pub record Chains (sub : List Line) (n : ℕ) (head next far add tip : List ℕ) : Type 0 where
-  pub of : (m j : ℕ) → m < n → On next (getD head m 0) j → Node sub far add m j
-  pub has : (l : Line) (u v h : ℕ) → List·Memᴰ l sub → Half l u v h → Has next far add (getD head u 0) v (l .length * halves + h)
-  pub tipOf : (l : Line) (u v h : ℕ) → List·Memᴰ l sub → Half l u v h → getD tip h 0 ≡ v
+-- the chains of the marks below n hold the lines sub
+pub record Drawn (sub : List Line) (n : ℕ) (head next : List ℕ) : Type 0 where
+  pub heads : Heads n head next
+  pub chains : Chains sub n head next
 
 -- lines as a book has them, on marks below n
 pub record Sound (n : ℕ) (l : Line) : Type 0 where
@@ -86,8 +103,26 @@ pub record Sound (n : ℕ) (l : Line) : Type 0 where
 abbrev pub AllSound : ℕ → List Line → Type 0
 AllSound n sub = (l : Line) → List·Memᴰ l sub → Sound n l
 
--- the chains hold sub, lines of a book by rising number
-pub record Given (sub : List Line) (n : ℕ) (head next fars add tip : List ℕ) : Type 0 where
+-- the chains hold sub, lines of a book by rising number, and ends tells of them
+pub record Given (sub : List Line) (n : ℕ) (head next ends : List ℕ) : Type 0 where
   pub rising : Rising sub
   pub sound : AllSound n sub
-  pub chains : Chains sub n head next fars add tip
+  pub few : n ≤ halves
+  pub told : Told sub ends
+  pub chains : Chains sub n head next
+
+-- ---- a half as a search meets it
+
+-- on the chain of m, to the mark that ends has
+pub record Met (sub : List Line) (ends : List ℕ) (m h : ℕ) : Type 0 where
+  pub l : Line
+  pub isLine : List·Memᴰ l sub
+  pub half : Half l m (markOf ends h) h
+  pub sum : sumOf ends h ≡ l .length * halves + h
+
+-- the chain whose first half is i has a half to v with the sum a
+pub record Has (next ends : List ℕ) (i v a : ℕ) : Type 0 where
+  pub h : ℕ
+  pub on : On next i h
+  pub leads : markOf ends h ≡ v
+  pub sum : sumOf ends h ≡ a

@@ -1,14 +1,15 @@
-// Chains of nodes: every line of a subgraph stands twice, in the chain of each of its ends. A half is a line in one sense, by its number: twice
-// the line's number, one more against its sense.
+// Chains of halves: every line of a subgraph stands twice, in the chain of each of its ends. A half is a line in one sense, by its number: twice
+// the line's number, one more against its sense. A chain has a mark's first half in head, and the half after each in next, by half; 0 ends it.
+// Of each half ends has the length of its line and the mark it leads to, length * HALVES + mark.
 ghost use mathlib.Core.Path.{_≡_};
 ghost use Prim.Native.Nat.{ℕ, _+_, _*_, _<_, _≤_};
 ghost use lib.ListN.{length, getD};
-ghost use Rattle.chains.specs.Link.{Space, Linked, Fits, Places, Added};
+ghost use Rattle.chains.specs.Link.{RoomChains, Linked, Fits, Joined};
 
 // More than any line number.
 pub const NUMBERS: u64 = 1024;
 
-// Two halves to a line: more than the number of any half.
+// Two halves to a line: more than the number of any half, and more than any mark.
 pub const HALVES: u64 = 2048;
 
 // The first n places become 0.
@@ -23,43 +24,23 @@ pub fn zero(a: &mut [u64], n: usize)
     }
 }
 
-// Node j, to the mark o with the sum a, goes in front of the chain of m.
-fn link(
-    head: &mut [u64],
-    next: &mut [u64],
-    far: &mut [u64],
-    add: &mut [u64],
-    j: usize,
-    m: usize,
-    o: usize,
-    a: u64,
-)
-    requires { ⌜ Space (now head) (now next) (now far) (now add) j m ⌝ }
-    ensures { λ _. ⌜ Linked (now (head .entry)) (now (next .entry)) (now (far .entry)) (now (add .entry)) (now (head .exit)) (now (next .exit)) (now (far .exit)) (now (add .exit)) j m o a ⌝ }
+// The half h goes in front of the chain of the mark m.
+fn link(head: &mut [u64], next: &mut [u64], m: usize, h: usize)
+    requires { ⌜ m < length (now head) ⌝ ∗ ⌜ h < length (now next) ⌝ }
+    ensures { λ _. ⌜ Linked (now (head .entry)) (now (next .entry)) (now (head .exit)) (now (next .exit)) m h ⌝ }
 {
-    next[j] = head[m];
-    head[m] = (j as u64) + 1;
-    far[j] = o as u64;
-    add[j] = a;
+    next[h] = head[m];
+    head[m] = h as u64;
 }
 
-// The line no from f to t joins what the chains hold.
-pub fn join(
-    head: &mut [u64],
-    next: &mut [u64],
-    far: &mut [u64],
-    add: &mut [u64],
-    n: usize,
-    cnt: usize,
-    f: usize,
-    t: usize,
-    no: u64,
-    len: u64,
-)
-    requires { ⌜ Places n cnt (now head) (now next) (now far) (now add) ⌝ ∗ ⌜ Fits n f t no len ⌝ }
-    ensures { λ _. ⌜ Added n cnt (now (head .entry)) (now (next .entry)) (now (far .entry)) (now (add .entry)) (now (head .exit)) (now (next .exit)) (now (far .exit)) (now (add .exit)) f t no len ⌝ }
+// The line of this number joins what the chains hold: each of its halves at the mark that it leaves, to which the other leads.
+pub fn join(ends: &[u64], head: &mut [u64], next: &mut [u64], n: usize, number: usize)
+    requires { ⌜ Fits n (now ends) number ⌝ ∗ ⌜ RoomChains n (now head) (now next) ⌝ }
+    ensures { λ _. ⌜ Joined (now (ends .entry)) (now (head .entry)) (now (next .entry)) (now (head .exit)) (now (next .exit)) number ⌝ }
 {
-    let a = len * HALVES + no * 2;
-    link(head, next, far, add, cnt, f, t, a);
-    link(head, next, far, add, cnt + 1, t, f, a + 1);
+    let h = number * 2;
+    let from = (ends[h + 1] % HALVES) as usize;
+    let to = (ends[h] % HALVES) as usize;
+    link(head, next, from, h);
+    link(head, next, to, h + 1);
 }

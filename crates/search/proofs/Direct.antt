@@ -16,8 +16,8 @@ use Rattle.network.proofs.Grown.{Scored, scored, score-of, After, new, old, aft
 use Rattle.network.proofs.Shortest.{same, never}
 use Rattle.nearest.specs.Heap.{far, Lesser}
 use Rattle.network.specs.Codes.{codes}
-use Rattle.chains.specs.Chains.{Half, On, here, later, Node, Given, flip, halves}
-use Rattle.chains.proofs.Halves.{half-ends, ends-half, half-low, half-no, half-low-end, half-flip, on-zero, on-split}
+use Rattle.chains.specs.Chains.{Half, markOf, sumOf, On, here, later, Met, Given, flip, halves}
+use Rattle.chains.proofs.Halves.{half-ends, ends-half, half-low, half-no, half-low-end, half-flip, on-zero, on-split, met-on, has-on}
 use Rattle.search.specs.Front.{limit, Two, back, lineage, Written}
 use Rattle.search.specs.Direct.{Sum, LeastSum, Direct}
 use Rattle.search.proofs.Enter.{lowest-is, far-half, step-some}
@@ -27,61 +27,55 @@ use Rattle.search.proofs.Same.{shortest-lineage}
 
 -- ---- the least sum of a chain, and what is on the chain from i
 
-pub record Least (next add : List ℕ) (first i s : ℕ) : Type 0 where
-  pub under : (j : ℕ) → On next first j → (On next i j) ⊎ (s ≤ getD add j 0)
-  pub one : (s ≡ far) ⊎ Sum next add first s
+pub record Least (next ends : List ℕ) (first i s : ℕ) : Type 0 where
+  pub under : (j : ℕ) → On next first j → (On next i j) ⊎ (s ≤ sumOf ends j)
+  pub one : (s ≡ far) ⊎ Sum next ends first s
   pub part : (j : ℕ) → On next i j → On next first j
 
-pub least-start : (next add : List ℕ) (first : ℕ) → Least next add first first far
-least-start next add first = record { under = λ j o. inl o; one = inl refl; part = λ j o. o }
+pub least-start : (next ends : List ℕ) (first : ℕ) → Least next ends first first far
+least-start next ends first = record { under = λ j o. inl o; one = inl refl; part = λ j o. o }
 
-pub least-end : (next add : List ℕ) (first i s : ℕ) → Least next add first i s → i ≤ 0 → LeastSum next add first s
-least-end next add first i s x z = record { under = λ j o. go j (x .under j o); one = x .one }
+pub least-end : (next ends : List ℕ) (first i s : ℕ) → Least next ends first i s → i ≤ 0 → LeastSum next ends first s
+least-end next ends first i s x z = record { under = λ j o. go j (x .under j o); one = x .one }
   where
-    go : (j : ℕ) → (On next i j) ⊎ (s ≤ getD add j 0) → s ≤ getD add j 0
+    go : (j : ℕ) → (On next i j) ⊎ (s ≤ sumOf ends j) → s ≤ sumOf ends j
     go j (inl o) = on-zero (omega arith) o
     go j (inr h) = h
 
-module _ (next add : List ℕ) (first k s s′ : ℕ) (x : Least next add first (suc k) s) (y : Lesser s (getD add k 0) s′) where
-  least-next : Least next add first (getD next k 0) s′
-  least-next = record { under = λ j o. go j (x .under j o); one = pick (y .one); part = λ j o. x .part j (later k refl o) }
+module _ (next ends : List ℕ) (first i s s′ : ℕ) (x : Least next ends first i s) (pos : 0 < i) (y : Lesser s (sumOf ends i) s′) where
+  pub least-turn : Least next ends first (getD next i 0) s′
+  least-turn = record { under = λ j o. go j (x .under j o); one = pick (y .one); part = λ j o. x .part j (later pos o) }
     where
-      hit : (j : ℕ) → (j ≡ k) ⊎ On next (getD next k 0) j → (On next (getD next k 0) j) ⊎ (s′ ≤ getD add j 0)
+      hit : (j : ℕ) → (j ≡ i) ⊎ On next (getD next i 0) j → (On next (getD next i 0) j) ⊎ (s′ ≤ sumOf ends j)
       hit j (inl e) = inr (rw e (y .right))
       hit j (inr o) = inl o
 
-      go : (j : ℕ) → (On next (suc k) j) ⊎ (s ≤ getD add j 0) → (On next (getD next k 0) j) ⊎ (s′ ≤ getD add j 0)
-      go j (inl o) = hit j (on-split next k j o)
+      go : (j : ℕ) → (On next i j) ⊎ (s ≤ sumOf ends j) → (On next (getD next i 0) j) ⊎ (s′ ≤ sumOf ends j)
+      go j (inl o) = hit j (on-split o)
       go j (inr h) = inr (omega (arith, h, y .left))
 
-      same-sum : s′ ≡ s → (s ≡ far) ⊎ Sum next add first s → (s′ ≡ far) ⊎ Sum next add first s′
+      same-sum : s′ ≡ s → (s ≡ far) ⊎ Sum next ends first s → (s′ ≡ far) ⊎ Sum next ends first s′
       same-sum e (inl z) = inl (e ∙ z)
-      same-sum e (inr z) = inr (record { j = z .j; on = z .on; its = e ∙ z .its })
+      same-sum e (inr z) = inr (record { h = z .h; on = z .on; its = e ∙ z .its })
 
-      pick : (s′ ≡ s) ⊎ (s′ ≡ getD add k 0) → (s′ ≡ far) ⊎ Sum next add first s′
+      pick : (s′ ≡ s) ⊎ (s′ ≡ sumOf ends i) → (s′ ≡ far) ⊎ Sum next ends first s′
       pick (inl e) = same-sum e (x .one)
-      pick (inr e) = inr (record { j = k; on = x .part k (here refl); its = e })
-
--- the same by the pointer i, as the code has it
-pub least-turn : (next add : List ℕ) (first i s s′ : ℕ) → Least next add first i s → 0 < i → Lesser s (getD add (i - 1) 0) s′ → Least next add first (getD next (i - 1) 0) s′
-least-turn next add first i s s′ x pos y =
-    let e : i ≡ suc (i - 1) = omega arith in
-    least-next next add first (i - 1) s s′ (subst (λ (z : ℕ). Least next add first z s) e x) y
+      pick (inr e) = inr (record { h = i; on = x .part i (here pos refl); its = e })
 
 -- ---- the path
 
-module _ (n : ℕ) (head next fars add tip : List ℕ) (r to s : ℕ) (two : Two n r to) (ls : LeastSum next add (getD head r 0) s) (small : s < limit)
-    (leads : getD tip (s % halves) 0 ≡ to) where
-  module _ (sub : List Line) (gv : Given sub n head next fars add tip) where
-    sum : Sum next add (getD head r 0) s
+module _ (n : ℕ) (head next ends : List ℕ) (r to s : ℕ) (two : Two n r to) (ls : LeastSum next ends (getD head r 0) s) (small : s < limit)
+    (leads : markOf ends (s % halves) ≡ to) where
+  module _ (sub : List Line) (gv : Given sub n head next ends) where
+    sum : Sum next ends (getD head r 0) s
     sum = pick (ls .one)
       where
-        pick : (s ≡ far) ⊎ Sum next add (getD head r 0) s → Sum next add (getD head r 0) s
+        pick : (s ≡ far) ⊎ Sum next ends (getD head r 0) s → Sum next ends (getD head r 0) s
         pick (inl z) = absurd (omega arith)
         pick (inr z) = z
 
-    nd : Node sub fars add r (sum .j)
-    nd = gv .chains .of r (sum .j) (two .r-ok) (sum .on)
+    nd : Met sub ends r (sum .h)
+    nd = met-on gv r (sum .h) (two .r-ok) (sum .on)
 
     abbrev l : Line
     l = nd .l
@@ -89,14 +83,14 @@ module _ (n : ℕ) (head next fars add tip : List ℕ) (r to s : ℕ) (two : Two
     abbrev first : Entry
     first = entry r 0 none
 
-    its-half : s % halves ≡ nd .h
+    its-half : s % halves ≡ sum .h
     its-half = omega (arith, sum .its, nd .sum, half-low (gv .sound (nd .l) (nd .isLine)) (nd .half))
 
-    its-end : getD fars (sum .j) 0 ≡ to
-    its-end = sym (gv .chains .tipOf (nd .l) r (getD fars (sum .j) 0) (nd .h) (nd .isLine) (nd .half)) ∙ ap (λ (z : ℕ). getD tip z 0) (sym its-half) ∙ leads
+    its-end : markOf ends (sum .h) ≡ to
+    its-end = ap (markOf ends) (sym its-half) ∙ leads
 
-    half : Half (nd .l) r to (nd .h)
-    half = subst (λ (z : ℕ). Half (nd .l) r z (nd .h)) its-end (nd .half)
+    half : Half (nd .l) r to (sum .h)
+    half = subst (λ (z : ℕ). Half (nd .l) r z (sum .h)) its-end (nd .half)
 
     root-in : distance (entry r 0 none ∷ []) r ≡ some 0
     unfolding distance
@@ -131,11 +125,11 @@ module _ (n : ℕ) (head next fars add tip : List ℕ) (r to s : ℕ) (two : Two
         go sc =
             let u = only-root (sc .near) (sc .d) (sc .isIn) in
             let e = ends-half (sc .ends) in
-            let has = gv .chains .has k (sc .near) (sc .away) (e .0) i (e .1) in
-            let on : On next (getD head r 0) (has .j) = subst (λ (z : ℕ). On next (getD head z 0) (has .j)) (u .0) (has .on) in
-            cmp (has .j) (e .0) (ls .under (has .j) on) (has .sum) (omega (arith, sc .sum, u .1)) (half-no (e .1)) (half-low (gv .sound k i) (e .1)) (ℕ-discrete (nd .l .length) t)
+            let has = has-on gv k (sc .near) (sc .away) (e .0) i (e .1) in
+            let on : On next (getD head r 0) (has .h) = subst (λ (z : ℕ). On next (getD head z 0) (has .h)) (u .0) (has .on) in
+            cmp (has .h) (e .0) (ls .under (has .h) on) (has .sum) (omega (arith, sc .sum, u .1)) (half-no (e .1)) (half-low (gv .sound k i) (e .1)) (ℕ-discrete (nd .l .length) t)
           where
-            cmp : (j g : ℕ) → s ≤ getD add j 0 → getD add j 0 ≡ k .length * halves + g → t ≡ k .length → (2 * k .number ≤ g) × (g ≤ 2 * k .number + 1) → g < halves
+            cmp : (j g : ℕ) → s ≤ sumOf ends j → sumOf ends j ≡ k .length * halves + g → t ≡ k .length → (2 * k .number ≤ g) × (g ≤ 2 * k .number + 1) → g < halves
                 → Dec (nd .l .length ≡ t) → (nd .l .length < t) ⊎ ((nd .l .length ≡ t) × (nd .l .number ≤ k .number))
             cmp j g a b c near w (yes z) = inr (z, omega (arith, sum .its, nd .sum, half-no half .0, near .1))
             cmp j g a b c near w (no z) = inl (omega (arith, sum .its, nd .sum))
@@ -143,11 +137,11 @@ module _ (n : ℕ) (head next fars add tip : List ℕ) (r to s : ℕ) (two : Two
     at-two : grow sub (r ∷ []) 2 ≡ entry to (nd .l .length) (some (nd .l)) ∷ entry r 0 none ∷ []
     unfolding grow
     at-two =
-        ap (step sub (r ∷ [])) (at-one sub n head next fars add tip gv r to)
+        ap (step sub (r ∷ [])) (at-one sub n head next ends gv r to)
         ∙ step-some sub (r ∷ []) (entry r 0 none ∷ []) (candidate (nd .l .length) (nd .l))
         (lowest-is (entry r 0 none ∷ []) sub (gv .rising) (nd .l) (nd .l .length) (nd .isLine)
         (score-of (entry r 0 none ∷ []) (nd .l) r to 0 (half-ends half) root-in to-out ∙ ap some (zero-add (nd .l .length))) before)
-        ∙ ap (λ (z : ℕ). entry z (nd .l .length) (some (nd .l)) ∷ entry r 0 none ∷ []) (far-half (entry r 0 none ∷ []) (nd .l) r to (nd .h) 0 half root-in to-out)
+        ∙ ap (λ (z : ℕ). entry z (nd .l .length) (some (nd .l)) ∷ entry r 0 none ∷ []) (far-half (entry r 0 none ∷ []) (nd .l) r to (sum .h) 0 half root-in to-out)
 
     to-in : distance (grow sub (r ∷ []) 2) to ≡ some (nd .l .length)
     to-in = ap (λ (t : Tree). distance t to) at-two ∙ hit (after (entry to (nd .l .length) (some (nd .l))) (entry r 0 none ∷ []) to)
@@ -173,20 +167,20 @@ module _ (n : ℕ) (head next fars add tip : List ℕ) (r to s : ℕ) (two : Two
     way-back =
         ap (λ (t : Tree). lineage t to) at-two
         ∙ lineage-new (entry to (nd .l .length) (some (nd .l))) (entry r 0 none ∷ []) to refl
-        ∙ ap (λ (z : ℕ). back (nd .l) to ∷ lineage (entry r 0 none ∷ []) z) (other-half (nd .l) r to (nd .h) (gv .sound (nd .l) (nd .isLine)) half)
+        ∙ ap (λ (z : ℕ). back (nd .l) to ∷ lineage (entry r 0 none ∷ []) z) (other-half (nd .l) r to (sum .h) (gv .sound (nd .l) (nd .isLine)) half)
         ∙ ap (λ (w : List Pass). back (nd .l) to ∷ w) (lineage-new (entry r 0 none) [] r refl)
 
     direct-is : codes (shortest (n - 1) sub to r) ≡ flip (s % halves) ∷ []
     unfolding codes
     direct-is =
         ap codes (shortest-lineage n sub (gv .sound) (gv .rising) r (n - 1) 2 to (nd .l .length) roomy to-in ∙ way-back)
-        ∙ ap (λ (z : ℕ). z ∷ []) (code-half (nd .l) r to (nd .h) (gv .sound (nd .l) (nd .isLine)) half ∙ ap flip (sym its-half))
+        ∙ ap (λ (z : ℕ). z ∷ []) (code-half (nd .l) r to (sum .h) (gv .sound (nd .l) (nd .isLine)) half ∙ ap flip (sym its-half))
 
-  pub direct-of : Direct n head next fars add tip r to (s % halves)
+  pub direct-of : Direct n head next ends r to (s % halves)
   direct-of = record { low = omega arith; whole = λ _ sub gv. direct-is sub gv }
 
-pub direct-none : (n : ℕ) (head next fars add tip : List ℕ) (r to : ℕ) → Direct n head next fars add tip r to 0
-direct-none n head next fars add tip r to = record { low = omega arith; whole = λ p. absurd (omega arith) }
+pub direct-none : (n : ℕ) (head next ends : List ℕ) (r to : ℕ) → Direct n head next ends r to 0
+direct-none n head next ends r to = record { low = omega arith; whole = λ p. absurd (omega arith) }
 
 -- ---- the path written out
 

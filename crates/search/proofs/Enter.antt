@@ -17,8 +17,8 @@ use Rattle.network.proofs.Without.{lowest-first}
 use Rattle.nearest.specs.Heap.{Heap, Changed}
 use Rattle.nearest.specs.Heap as hp
 use Rattle.nearest.proofs.Laws.{root-least, root-leaf}
-use Rattle.chains.specs.Chains.{Half, fore, aft, Has, Chains, AllSound, halves}
-use Rattle.chains.proofs.Halves.{half-ends, ends-half, half-low, half-no, half-ok}
+use Rattle.chains.specs.Chains.{Half, fore, aft, markOf, Has, Given, AllSound, halves}
+use Rattle.chains.proofs.Halves.{half-ends, ends-half, half-low, half-no, half-ok, met-on, has-on}
 use Rattle.search.specs.Front.{Moved, still, moved, Relaxed, came, By, Key, Keyed, Offer, Front, Nothing, Rest, limit}
 use Rattle.search.specs.Front as f
 
@@ -61,22 +61,22 @@ step-some lines roots es c h = rw h
 
 -- ---- what is popped
 
-pub record Pop (sub : List Line) (n : ℕ) (es : Tree) (best tip : List ℕ) (key : ℕ) : Type 0 where
+pub record Pop (sub : List Line) (n : ℕ) (es : Tree) (best ends : List ℕ) (key : ℕ) : Type 0 where
   pub l : Line
   pub u : ℕ
   pub d : ℕ
   pub isLine : List·Memᴰ l sub
-  pub half : Half l u (getD tip (key % halves) 0) (key % halves)
+  pub half : Half l u (markOf ends (key % halves)) (key % halves)
   pub isIn : distance es u ≡ some d
-  pub isOut : distance es (getD tip (key % halves) 0) ≡ none
-  pub small : getD tip (key % halves) 0 < n
+  pub isOut : distance es (markOf ends (key % halves)) ≡ none
+  pub small : markOf ends (key % halves) < n
   pub sum : key ≡ (d + l .length) * halves + key % halves
-  pub known : getD best (getD tip (key % halves) 0) 0 ≡ key
+  pub known : getD best (markOf ends (key % halves)) 0 ≡ key
   pub isLowest : lowest es sub ≡ some (candidate (d + l .length) l)
 
-module _ (sub : List Line) (n : ℕ) (es : Tree) (best seg tip : List ℕ) (ris : Rising sub) (sound : AllSound n sub)
-    (tipOf : (l : Line) (u v h : ℕ) → List·Memᴰ l sub → Half l u v h → getD tip h 0 ≡ v)
-    (heap : Heap seg n) (fr : Front sub n es best seg tip Nothing)
+module _ (sub : List Line) (n : ℕ) (es : Tree) (best seg ends : List ℕ) (ris : Rising sub) (sound : AllSound n sub)
+    (marked : (l : Line) (u v h : ℕ) → List·Memᴰ l sub → Half l u v h → markOf ends h ≡ v)
+    (heap : Heap seg n) (fr : Front sub n es best seg ends Nothing)
     (near : (m d : ℕ) → distance es m ≡ some d → d ≤ 100000000) where
   -- each line with a score has a leaf no higher than its key
   scored-under : (k : Line) (t : ℕ) → List·Memᴰ k sub → score es k ≡ some t → (h : ℕ) × (getD seg 1 0 ≤ t * halves + h) × (h ≤ 2 * k .number + 1) × (t * halves + h < limit) × (h < halves)
@@ -98,17 +98,17 @@ module _ (sub : List Line) (n : ℕ) (es : Tree) (best seg tip : List ℕ) (ris 
   pub pop-none : limit ≤ getD seg 1 0 → lowest es sub ≡ none
   pop-none h = lowest-gone es sub (λ k t m e. let s = scored-under k t m e in omega (arith, s .1, s .3))
 
-  pub pop-some : getD seg 1 0 < limit → Pop sub n es best tip (getD seg 1 0)
+  pub pop-some : getD seg 1 0 < limit → Pop sub n es best ends (getD seg 1 0)
   pop-some lt = go (root-leaf seg n heap)
     where
       key : ℕ
       key = getD seg 1 0
 
-      made : (m : ℕ) → m < n → getD seg 1 0 ≡ getD best m 0 → distance es m ≡ none → Offer sub es best m → Pop sub n es best tip (getD seg 1 0)
+      made : (m : ℕ) → m < n → getD seg 1 0 ≡ getD best m 0 → distance es m ≡ none → Offer sub es best m → Pop sub n es best ends (getD seg 1 0)
       made m ok e out o =
           let low : o .h < halves = half-low (sound (o .l) (o .isLine)) (o .half) in
           let hm : getD seg 1 0 % halves ≡ o .h = omega (arith, e, o .key) in
-          let tm : getD tip (getD seg 1 0 % halves) 0 ≡ m = ap (λ (z : ℕ). getD tip z 0) hm ∙ tipOf (o .l) (o .u) m (o .h) (o .isLine) (o .half) in
+          let tm : markOf ends (getD seg 1 0 % halves) ≡ m = ap (λ (z : ℕ). markOf ends z) hm ∙ marked (o .l) (o .u) m (o .h) (o .isLine) (o .half) in
           let sc : score es (o .l) ≡ some (o .d + o .l .length) = score-of es (o .l) (o .u) m (o .d) (half-ends (o .half)) (o .isIn) out in
           let num = half-no (o .half) in
           record {
@@ -116,7 +116,7 @@ module _ (sub : List Line) (n : ℕ) (es : Tree) (best seg tip : List ℕ) (ris 
             u = o .u;
             d = o .d;
             isLine = o .isLine;
-            half = rw (hm, tipOf (o .l) (o .u) m (o .h) (o .isLine) (o .half)) (o .half);
+            half = rw (hm, marked (o .l) (o .u) m (o .h) (o .isLine) (o .half)) (o .half);
             isIn = o .isIn;
             isOut = rw tm out;
             small = rw tm ok;
@@ -133,18 +133,18 @@ module _ (sub : List Line) (n : ℕ) (es : Tree) (best seg tip : List ℕ) (ris 
               dec (yes z) = inr (z, omega arith)
               dec (no z) = inl (omega arith)
 
-      hit : (m : ℕ) → m < n → getD seg 1 0 ≡ getD seg (n + m) 0 → (d : Option ℕ) → distance es m ≡ d → Pop sub n es best tip (getD seg 1 0)
+      hit : (m : ℕ) → m < n → getD seg 1 0 ≡ getD seg (n + m) 0 → (d : Option ℕ) → distance es m ≡ d → Pop sub n es best ends (getD seg 1 0)
       hit m ok e (some d) x = absurd (omega (arith, fr .closed m d ok x))
       hit m ok e none x = pick (fr .offered m ok x)
         where
           eb : getD seg 1 0 ≡ getD best m 0
           eb = e ∙ fr .opened m ok x
 
-          pick : (getD best m 0 ≡ hp.far) ⊎ Offer sub es best m → Pop sub n es best tip (getD seg 1 0)
+          pick : (getD best m 0 ≡ hp.far) ⊎ Offer sub es best m → Pop sub n es best ends (getD seg 1 0)
           pick (inl z) = absurd (omega (arith, eb, z))
           pick (inr o) = made m ok eb x o
 
-      go : (m : ℕ) × (m < n) × (getD seg 1 0 ≡ getD seg (n + m) 0) → Pop sub n es best tip (getD seg 1 0)
+      go : (m : ℕ) × (m < n) × (getD seg 1 0 ≡ getD seg (n + m) 0) → Pop sub n es best ends (getD seg 1 0)
       go (m, ok, e) = hit m ok e (distance es m) refl
 
 -- ---- a mark enters
@@ -157,28 +157,28 @@ pub came-old : (e : Entry) (es : Tree) (m : ℕ) → (e .mark ≡ m → ⊥) →
 unfolding came
 came-old e es m h = rw (ne-eqb (e .mark) m h)
 
-pub by-old : (e : Entry) (es : Tree) (tip : List ℕ) (m d h : ℕ) → distance es (e .mark) ≡ none → (e .mark ≡ m → ⊥) → By es tip m d h → By (e ∷ es) tip m d h
-by-old e es tip m d h out x (f.root a b c) = f.root (came-old e es m x ∙ a) b c
-by-old e es tip m d h out x (f.line l u du a b c t i s) = f.line l u du (came-old e es m x ∙ a) b c t (keeps e es u du out i) s
+pub by-old : (e : Entry) (es : Tree) (ends : List ℕ) (m d h : ℕ) → distance es (e .mark) ≡ none → (e .mark ≡ m → ⊥) → By es ends m d h → By (e ∷ es) ends m d h
+by-old e es ends m d h out x (f.root a b c) = f.root (came-old e es m x ∙ a) b c
+by-old e es ends m d h out x (f.line l u du a b c t i s) = f.line l u du (came-old e es m x ∙ a) b c t (keeps e es u du out i) s
 
 -- what the marks are known by stays, and the new one has its own
-pub keyed-enter : (es : Tree) (e : Entry) (best best′ tip : List ℕ) → distance es (e .mark) ≡ none → Keyed es best tip → Key (e ∷ es) best′ tip (e .mark) (e .dist)
-    → ((m : ℕ) → (m ≡ e .mark → ⊥) → getD best′ m 0 ≡ getD best m 0) → Keyed (e ∷ es) best′ tip
-keyed-enter es e best best′ tip out held mine others m d h = go (after e es m)
+pub keyed-enter : (es : Tree) (e : Entry) (best best′ ends : List ℕ) → distance es (e .mark) ≡ none → Keyed es best ends → Key (e ∷ es) best′ ends (e .mark) (e .dist)
+    → ((m : ℕ) → (m ≡ e .mark → ⊥) → getD best′ m 0 ≡ getD best m 0) → Keyed (e ∷ es) best′ ends
+keyed-enter es e best best′ ends out held mine others m d h = go (after e es m)
   where
-    go : After e es m → Key (e ∷ es) best′ tip m d
-    go (new p q) = subst (λ (z : ℕ). Key (e ∷ es) best′ tip z d) p (subst (λ (z : ℕ). Key (e ∷ es) best′ tip (e .mark) z) (same q h) mine)
+    go : After e es m → Key (e ∷ es) best′ ends m d
+    go (new p q) = subst (λ (z : ℕ). Key (e ∷ es) best′ ends z d) p (subst (λ (z : ℕ). Key (e ∷ es) best′ ends (e .mark) z) (same q h) mine)
     go (old p q) =
         let k = held m d (sym q ∙ h) in
-        record { h = k .h; low = k .low; key = others m (λ z. p (sym z)) ∙ k .key; by = by-old e es tip m d (k .h) out p (k .by) }
+        record { h = k .h; low = k .low; key = others m (λ z. p (sym z)) ∙ k .key; by = by-old e es ends m d (k .h) out p (k .by) }
 
-module _ (sub : List Line) (n : ℕ) (head next fars add tip : List ℕ) (chains : Chains sub n head next fars add tip) (es : Tree) (e : Entry)
+module _ (sub : List Line) (n : ℕ) (head next ends : List ℕ) (gv : Given sub n head next ends) (es : Tree) (e : Entry)
     (best seg best′ seg′ : List ℕ) (out : distance es (e .mark) ≡ none) (small : e .mark < n) where
-  pub front-enter : Front sub n es best seg tip Nothing → Key (e ∷ es) best′ tip (e .mark) (e .dist) → ((m : ℕ) → (m ≡ e .mark → ⊥) → getD best′ m 0 ≡ getD best m 0)
-      → Changed seg seg′ n (e .mark) hp.far → Front sub n (e ∷ es) best′ seg′ tip (Rest next fars add (e .mark) (getD head (e .mark) 0))
+  pub front-enter : Front sub n es best seg ends Nothing → Key (e ∷ es) best′ ends (e .mark) (e .dist) → ((m : ℕ) → (m ≡ e .mark → ⊥) → getD best′ m 0 ≡ getD best m 0)
+      → Changed seg seg′ n (e .mark) hp.far → Front sub n (e ∷ es) best′ seg′ ends (Rest next ends (e .mark) (getD head (e .mark) 0))
   front-enter fr mine others ch = record {
     inside = λ m d h. inside m d h (after e es m);
-    keyed = keyed-enter es e best best′ tip out (fr .keyed) mine others;
+    keyed = keyed-enter es e best best′ ends out (fr .keyed) mine others;
     closed = λ m d ok h. closed m d ok h (after e es m);
     opened = λ m ok h. opened m ok h (after e es m);
     offered = λ m ok h. offered m ok h (after e es m);
@@ -219,19 +219,19 @@ module _ (sub : List Line) (n : ℕ) (head next fars add tip : List ℕ) (chains
       bound {v = v} p (inr z) = inr (omega (arith, z, others v (λ w. p (sym w))))
 
       under : (l : Line) (u v h d : ℕ) → List·Memᴰ l sub → Half l u v h → distance (e ∷ es) u ≡ some d → distance (e ∷ es) v ≡ none → After e es u → After e es v
-          → (Rest next fars add (e .mark) (getD head (e .mark) 0) u v (l .length * halves + h)) ⊎ (getD best′ v 0 ≤ (d + l .length) * halves + h)
+          → (Rest next ends (e .mark) (getD head (e .mark) 0) u v (l .length * halves + h)) ⊎ (getD best′ v 0 ≤ (d + l .length) * halves + h)
       under l u v h d i j a b x (new p q) = never q b
       under l u v h d i j a b (new p q) (old p′ q′) =
-          inl (sym p, subst (λ (z : ℕ). Has next fars add (getD head z 0) v (l .length * halves + h)) (sym p) (chains .has l u v h i j))
+          inl (sym p, subst (λ (z : ℕ). Has next ends (getD head z 0) v (l .length * halves + h)) (sym p) (has-on gv l u v h i j))
       under l u v h d i j a b (old p q) (old p′ q′) = bound p′ (fr .under l u v h d i j (sym q ∙ a) (sym q′ ∙ b))
 
 -- ---- its nodes are offered
 
-module _ (sub : List Line) (n : ℕ) (head next fars add tip : List ℕ) (chains : Chains sub n head next fars add tip) (es : Tree) (m dm : ℕ)
+module _ (sub : List Line) (n : ℕ) (head next ends : List ℕ) (gv : Given sub n head next ends) (es : Tree) (m dm : ℕ)
     (best seg best′ seg′ : List ℕ) (ok : m < n) (isIn : distance es m ≡ some dm)
     (sound : AllSound n sub) (newest : (l : Line) (x h dx : ℕ) → List·Memᴰ l sub → Half l m x h → distance es x ≡ some dx → dx < dm + l .length)
-    (rx : Relaxed n next fars add best seg best′ seg′ (getD head m 0) (dm * halves)) where
-  pub front-relaxed : Front sub n es best seg tip (Rest next fars add m (getD head m 0)) → Front sub n es best′ seg′ tip Nothing
+    (rx : Relaxed n next ends best seg best′ seg′ (getD head m 0) (dm * halves)) where
+  pub front-relaxed : Front sub n es best seg ends (Rest next ends m (getD head m 0)) → Front sub n es best′ seg′ ends Nothing
   front-relaxed fr = record {
     inside = fr .inside;
     keyed = λ x d h. let k = fr .keyed x d h in
@@ -242,20 +242,20 @@ module _ (sub : List Line) (n : ℕ) (head next fars add tip : List ℕ) (chains
     under = λ l u v h d i j a b. under l u v h d i j a b (fr .under l u v h d i j a b);
   }
     where
-      settled : (x d : ℕ) → distance es x ≡ some d → Moved n next fars add best seg best′ seg′ (getD head m 0) (dm * halves) x
+      settled : (x d : ℕ) → distance es x ≡ some d → Moved n next ends best seg best′ seg′ (getD head m 0) (dm * halves) x
           → (getD best′ x 0 ≡ getD best x 0) × (getD seg′ (n + x) 0 ≡ getD seg (n + x) 0)
       settled x d h (still a b) = (a, b)
-      settled x d h (moved j on ends val lt s) =
-          let nd = chains .of m j ok on in
-          let hf : Half (nd .l) m x (nd .h) = subst (λ (z : ℕ). Half (nd .l) m z (nd .h)) ends (nd .half) in
+      settled x d h (moved j on leads val lt s) =
+          let nd = met-on gv m j ok on in
+          let hf : Half (nd .l) m x j = subst (λ (z : ℕ). Half (nd .l) m z j) leads (nd .half) in
           let k = fr .keyed x d h in
-          absurd (omega (arith, newest (nd .l) x (nd .h) d (nd .isLine) hf h, val, lt, nd .sum, k .key, k .low))
+          absurd (omega (arith, newest (nd .l) x j d (nd .isLine) hf h, val, lt, nd .sum, k .key, k .low))
 
-      opened : (x : ℕ) → x < n → distance es x ≡ none → Moved n next fars add best seg best′ seg′ (getD head m 0) (dm * halves) x → getD seg′ (n + x) 0 ≡ getD best′ x 0
+      opened : (x : ℕ) → x < n → distance es x ≡ none → Moved n next ends best seg best′ seg′ (getD head m 0) (dm * halves) x → getD seg′ (n + x) 0 ≡ getD best′ x 0
       opened x a h (still p q) = q ∙ fr .opened x a h ∙ sym p
-      opened x a h (moved j on ends val lt s) = s
+      opened x a h (moved j on leads val lt s) = s
 
-      offered : (x : ℕ) → x < n → distance es x ≡ none → Moved n next fars add best seg best′ seg′ (getD head m 0) (dm * halves) x
+      offered : (x : ℕ) → x < n → distance es x ≡ none → Moved n next ends best seg best′ seg′ (getD head m 0) (dm * halves) x
           → (getD best x 0 ≡ hp.far) ⊎ Offer sub es best x → (getD best′ x 0 ≡ hp.far) ⊎ Offer sub es best′ x
       offered x a h (still p q) (inl z) = inl (p ∙ z)
       offered x a h (still p q) (inr o) = inr (record {
@@ -268,28 +268,28 @@ module _ (sub : List Line) (n : ℕ) (head next fars add tip : List ℕ) (chains
         isIn = o .isIn;
         key = p ∙ o .key;
       })
-      offered x a h (moved j on ends val lt s) z =
-          let nd = chains .of m j ok on in
+      offered x a h (moved j on leads val lt s) z =
+          let nd = met-on gv m j ok on in
           inr (record {
             l = nd .l;
             u = m;
-            h = nd .h;
+            h = j;
             d = dm;
             isLine = nd .isLine;
-            half = subst (λ (z : ℕ). Half (nd .l) m z (nd .h)) ends (nd .half);
+            half = subst (λ (z : ℕ). Half (nd .l) m z j) leads (nd .half);
             isIn = isIn;
             key = omega (arith, val, nd .sum);
           })
 
-      less : (v : ℕ) → Moved n next fars add best seg best′ seg′ (getD head m 0) (dm * halves) v → getD best′ v 0 ≤ getD best v 0
+      less : (v : ℕ) → Moved n next ends best seg best′ seg′ (getD head m 0) (dm * halves) v → getD best′ v 0 ≤ getD best v 0
       less v (still p q) = omega (arith, p)
-      less v (moved j on ends val lt s) = omega arith
+      less v (moved j on leads val lt s) = omega arith
 
       under : (l : Line) (u v h d : ℕ) → List·Memᴰ l sub → Half l u v h → distance es u ≡ some d → distance es v ≡ none
-          → (Rest next fars add m (getD head m 0) u v (l .length * halves + h)) ⊎ (getD best v 0 ≤ (d + l .length) * halves + h)
+          → (Rest next ends m (getD head m 0) u v (l .length * halves + h)) ⊎ (getD best v 0 ≤ (d + l .length) * halves + h)
           → ⊥ ⊎ (getD best′ v 0 ≤ (d + l .length) * halves + h)
       under l u v h d i j a b (inl (p, q)) =
           let e : d ≡ dm = same (ap (distance es) (sym p) ∙ a) isIn in
-          let t = rx .under (q .j) (q .on) in
-          inr (omega (arith, e, t, q .sum, ap (λ (z : ℕ). getD best′ z 0) (q .ends)))
+          let t = rx .under (q .h) (q .on) in
+          inr (omega (arith, e, t, q .sum, ap (λ (z : ℕ). getD best′ z 0) (q .leads)))
       under l u v h d i j a b (inr z) = inr (omega (arith, z, less v (rx .each v (half-ok (sound l i) j .1))))

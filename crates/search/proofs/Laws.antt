@@ -9,7 +9,7 @@ use lib.ListN.{length, getD, set, length-set}
 use lib.Seq.{getD-set-same, getD-set-other}
 use Rattle.nearest.specs.Heap.{far, Changed, leafLimit}
 use Rattle.nearest.proofs.Laws.{cleared}
-use Rattle.chains.specs.Chains.{On, here, later, Nodes}
+use Rattle.chains.specs.Chains.{markOf, sumOf, On, here, later}
 use Rattle.chains.proofs.Halves.{on-zero, on-split}
 use Rattle.search.specs.Front.{Stage, Offered, kept, fell, Moved, still, moved, Relaxed}
 
@@ -48,72 +48,63 @@ module _ (n : ℕ) (best seg best′ seg′ : List ℕ) (o k : ℕ) (st : Stage 
 
 -- ---- relax: what is done, and what is on the chain from i
 
-pub record Relaxing (n : ℕ) (next fars add best seg best′ seg′ : List ℕ) (first base i : ℕ) : Type 0 where
+pub record Relaxing (n : ℕ) (next ends best seg best′ seg′ : List ℕ) (first base i : ℕ) : Type 0 where
   pub stage : Stage n best′ seg′
-  pub each : (m : ℕ) → m < n → Moved n next fars add best seg best′ seg′ first base m
-  pub under : (j : ℕ) → On next first j → (On next i j) ⊎ (getD best′ (getD fars j 0) 0 ≤ base + getD add j 0)
+  pub each : (m : ℕ) → m < n → Moved n next ends best seg best′ seg′ first base m
+  pub under : (j : ℕ) → On next first j → (On next i j) ⊎ (getD best′ (markOf ends j) 0 ≤ base + sumOf ends j)
   pub part : (j : ℕ) → On next i j → On next first j
 
-pub relax-start : (n : ℕ) (next fars add best seg : List ℕ) (first base : ℕ) → Stage n best seg → Relaxing n next fars add best seg best seg first base first
-relax-start n next fars add best seg first base st = record { stage = st; each = λ m h. still refl refl; under = λ j o. inl o; part = λ j o. o }
+pub relax-start : (n : ℕ) (next ends best seg : List ℕ) (first base : ℕ) → Stage n best seg → Relaxing n next ends best seg best seg first base first
+relax-start n next ends best seg first base st = record { stage = st; each = λ m h. still refl refl; under = λ j o. inl o; part = λ j o. o }
 
-pub relax-end : (n : ℕ) (next fars add best seg best′ seg′ : List ℕ) (first base i : ℕ) → Relaxing n next fars add best seg best′ seg′ first base i → i ≤ 0
-    → Relaxed n next fars add best seg best′ seg′ first base
-relax-end n next fars add best seg best′ seg′ first base i x z = record { stage = x .stage; each = x .each; under = λ j o. go j (x .under j o) }
+pub relax-end : (n : ℕ) (next ends best seg best′ seg′ : List ℕ) (first base i : ℕ) → Relaxing n next ends best seg best′ seg′ first base i → i ≤ 0
+    → Relaxed n next ends best seg best′ seg′ first base
+relax-end n next ends best seg best′ seg′ first base i x z = record { stage = x .stage; each = x .each; under = λ j o. go j (x .under j o) }
   where
-    go : (j : ℕ) → (On next i j) ⊎ (getD best′ (getD fars j 0) 0 ≤ base + getD add j 0) → getD best′ (getD fars j 0) 0 ≤ base + getD add j 0
+    go : (j : ℕ) → (On next i j) ⊎ (getD best′ (markOf ends j) 0 ≤ base + sumOf ends j) → getD best′ (markOf ends j) 0 ≤ base + sumOf ends j
     go j (inl o) = on-zero (omega arith) o
     go j (inr h) = h
 
-module _ (n : ℕ) (next fars add best seg b₁ s₁ b₂ s₂ : List ℕ) (first base k : ℕ) (x : Relaxing n next fars add best seg b₁ s₁ first base (suc k))
-    (lt : getD fars k 0 < n) (y : Offered n b₁ s₁ b₂ s₂ (getD fars k 0) (base + getD add k 0)) where
-  each-next : (m : ℕ) → m < n → Moved n next fars add best seg b₁ s₁ first base m → Offered n b₁ s₁ b₂ s₂ (getD fars k 0) (base + getD add k 0)
-      → Moved n next fars add best seg b₂ s₂ first base m
-  each-next m h w (kept a p q) = subst (λ (z : List ℕ). Moved n next fars add best seg z s₂ first base m) (sym p)
-      (subst (λ (z : List ℕ). Moved n next fars add best seg b₁ z first base m) (sym q) w)
-  each-next m h w (fell a p ch) = go (ℕ-discrete m (getD fars k 0)) w
+module _ (n : ℕ) (next ends best seg b₁ s₁ b₂ s₂ : List ℕ) (first base i : ℕ) (x : Relaxing n next ends best seg b₁ s₁ first base i) (pos : 0 < i)
+    (lt : markOf ends i < n) (y : Offered n b₁ s₁ b₂ s₂ (markOf ends i) (base + sumOf ends i)) where
+  each-next : (m : ℕ) → m < n → Moved n next ends best seg b₁ s₁ first base m → Offered n b₁ s₁ b₂ s₂ (markOf ends i) (base + sumOf ends i)
+      → Moved n next ends best seg b₂ s₂ first base m
+  each-next m h w (kept a p q) = subst (λ (z : List ℕ). Moved n next ends best seg z s₂ first base m) (sym p)
+      (subst (λ (z : List ℕ). Moved n next ends best seg b₁ z first base m) (sym q) w)
+  each-next m h w (fell a p ch) = go (ℕ-discrete m (markOf ends i)) w
     where
-      go : Dec (m ≡ getD fars k 0) → Moved n next fars add best seg b₁ s₁ first base m → Moved n next fars add best seg b₂ s₂ first base m
-      go (no e) (still u v) = still (rw (p, getD-set-other b₁ (getD fars k 0) m (base + getD add k 0) 0 e) u) (ch .others m h e ∙ v)
+      go : Dec (m ≡ markOf ends i) → Moved n next ends best seg b₁ s₁ first base m → Moved n next ends best seg b₂ s₂ first base m
+      go (no e) (still u v) = still (rw (p, getD-set-other b₁ (markOf ends i) m (base + sumOf ends i) 0 e) u) (ch .others m h e ∙ v)
       go (no e) (moved j on u v lt s) =
-          let q : getD b₂ m 0 ≡ getD b₁ m 0 = rw p (getD-set-other b₁ (getD fars k 0) m (base + getD add k 0) 0 e) in
+          let q : getD b₂ m 0 ≡ getD b₁ m 0 = rw p (getD-set-other b₁ (markOf ends i) m (base + sumOf ends i) 0 e) in
           moved j on u (q ∙ v) (omega (arith, q, lt)) (ch .others m h e ∙ s ∙ sym q)
-      go (yes e) w = moved k (x .part k (here refl)) (sym e) val (below w) (ap (λ (z : ℕ). getD s₂ (n + z) 0) e ∙ ch .here ∙ sym val)
+      go (yes e) w = moved i (x .part i (here pos refl)) (sym e) val (below w) (ap (λ (z : ℕ). getD s₂ (n + z) 0) e ∙ ch .here ∙ sym val)
         where
-          val : getD b₂ m 0 ≡ base + getD add k 0
-          val = rw (p, e) (getD-set-same b₁ (getD fars k 0) (base + getD add k 0) 0 (omega (arith, x .stage .places)))
+          val : getD b₂ m 0 ≡ base + sumOf ends i
+          val = rw (p, e) (getD-set-same b₁ (markOf ends i) (base + sumOf ends i) 0 (omega (arith, x .stage .places)))
 
-          a′ : base + getD add k 0 < getD b₁ m 0
+          a′ : base + sumOf ends i < getD b₁ m 0
           a′ = rw e a
 
-          below : Moved n next fars add best seg b₁ s₁ first base m → getD b₂ m 0 < getD best m 0
+          below : Moved n next ends best seg b₁ s₁ first base m → getD b₂ m 0 < getD best m 0
           below (still u v) = omega (arith, val, u, a′)
           below (moved j on u v l s) = omega (arith, val, l, a′)
 
-  pub relax-next : Relaxing n next fars add best seg b₂ s₂ first base (getD next k 0)
-  relax-next = record {
-    stage = offered-stage n b₁ s₁ b₂ s₂ (getD fars k 0) (base + getD add k 0) (x .stage) lt y;
+  pub relax-turn : Relaxing n next ends best seg b₂ s₂ first base (getD next i 0)
+  relax-turn = record {
+    stage = offered-stage n b₁ s₁ b₂ s₂ (markOf ends i) (base + sumOf ends i) (x .stage) lt y;
     each = λ m h. each-next m h (x .each m h) y;
     under = λ j o. go j (x .under j o);
-    part = λ j o. x .part j (later k refl o);
+    part = λ j o. x .part j (later pos o);
   }
     where
-      hit : (j : ℕ) → (j ≡ k) ⊎ On next (getD next k 0) j → (On next (getD next k 0) j) ⊎ (getD b₂ (getD fars j 0) 0 ≤ base + getD add j 0)
-      hit j (inl e) = inr (rw e (offered-at n b₁ s₁ b₂ s₂ (getD fars k 0) (base + getD add k 0) (x .stage) lt y))
+      hit : (j : ℕ) → (j ≡ i) ⊎ On next (getD next i 0) j → (On next (getD next i 0) j) ⊎ (getD b₂ (markOf ends j) 0 ≤ base + sumOf ends j)
+      hit j (inl e) = inr (rw e (offered-at n b₁ s₁ b₂ s₂ (markOf ends i) (base + sumOf ends i) (x .stage) lt y))
       hit j (inr o) = inl o
 
-      go : (j : ℕ) → (On next (suc k) j) ⊎ (getD b₁ (getD fars j 0) 0 ≤ base + getD add j 0) → (On next (getD next k 0) j) ⊎ (getD b₂ (getD fars j 0) 0 ≤ base + getD add j 0)
-      go j (inl o) = hit j (on-split next k j o)
-      go j (inr h) = inr (omega (arith, h, offered-le n b₁ s₁ b₂ s₂ (getD fars k 0) (base + getD add k 0) (x .stage) lt y (getD fars j 0)))
-
--- the same by the pointer i, as the code has it
-module _ (n cnt : ℕ) (next fars add best seg b₁ s₁ b₂ s₂ : List ℕ) (first base i : ℕ) (nodes : Nodes n cnt next fars add)
-    (x : Relaxing n next fars add best seg b₁ s₁ first base i) (pos : 0 < i) (le : i ≤ cnt) where
-  pub relax-turn : Offered n b₁ s₁ b₂ s₂ (getD fars (i - 1) 0) (base + getD add (i - 1) 0) → Relaxing n next fars add best seg b₂ s₂ first base (getD next (i - 1) 0)
-  relax-turn y =
-      let e : i ≡ suc (i - 1) = omega arith in
-      relax-next n next fars add best seg b₁ s₁ b₂ s₂ first base (i - 1) (subst (λ (z : ℕ). Relaxing n next fars add best seg b₁ s₁ first base z) e x)
-      (nodes .far-ok (i - 1) (omega arith)) y
+      go : (j : ℕ) → (On next i j) ⊎ (getD b₁ (markOf ends j) 0 ≤ base + sumOf ends j) → (On next (getD next i 0) j) ⊎ (getD b₂ (markOf ends j) 0 ≤ base + sumOf ends j)
+      go j (inl o) = hit j (on-split o)
+      go j (inr h) = inr (omega (arith, h, offered-le n b₁ s₁ b₂ s₂ (markOf ends i) (base + sumOf ends i) (x .stage) lt y (markOf ends j)))
 
 -- ---- stages of a search
 

@@ -17,10 +17,10 @@ use Rattle.network.proofs.Shortest.{same, never, turn, frontier, rising}
 use Rattle.nearest.specs.Heap.{Changed, leafLimit}
 use Rattle.nearest.specs.Heap as hp
 use Rattle.nearest.proofs.Laws.{cleared}
-use Rattle.chains.specs.Chains.{Half, flip, AllSound, Given, halves}
+use Rattle.chains.specs.Chains.{Half, flip, markOf, AllSound, Given, halves}
 use Rattle.search.specs.Front.{Stage, Relaxed, Key, Keyed, Front, Nothing, Rest, Begun, Two, top, lead, Turned, more, found, nothing, limit, Outcome, reached, cut-off}
 use Rattle.search.specs.Front as f
-use Rattle.chains.proofs.Halves.{half-ends, half-flip, half-low-end}
+use Rattle.chains.proofs.Halves.{half-ends, half-flip, half-low-end, mark-of}
 use Rattle.search.proofs.Enter.{lowest-gone, far-half, step-some, Pop, pop-none, pop-some, came-new, keyed-enter, front-enter, front-relaxed}
 
 -- ---- distances stay small
@@ -58,12 +58,12 @@ newest-line n sub sound roots k e b l x h dx i j a = go (after e (grow sub roots
         let f = frontier sub g l x (e .mark) dx i (turn (half-ends j)) (sym q ∙ a) (ap (distance (grow sub roots k)) (b .itsMark) ∙ b .sc .isOut) in
         omega (arith, f .0, rising sub g b, sound l i .long)
 
-module _ (sub : List Line) (n : ℕ) (head next fars add tip : List ℕ) (gv : Given sub n head next fars add tip) (r to : ℕ) where
+module _ (sub : List Line) (n : ℕ) (head next ends : List ℕ) (gv : Given sub n head next ends) (r to : ℕ) where
   abbrev pub at : ℕ → Tree
   at k = grow sub (r ∷ []) k
 
   pub record Searching (k : ℕ) (best seg : List ℕ) : Type 0 where
-    pub front : Front sub n (at k) best seg tip Nothing
+    pub front : Front sub n (at k) best seg ends Nothing
     pub rootIn : distance (at k) r ≡ some 0
     pub out : distance (at k) to ≡ none
 
@@ -75,12 +75,12 @@ module _ (sub : List Line) (n : ℕ) (head next fars add tip : List ℕ) (gv : G
 
   pub search-start : (best seg best′ seg′ : List ℕ) → n ≤ leafLimit → r < n → n ≤ length best → 2 * n ≤ length seg
       → ((i : ℕ) → i < n → getD best i 0 ≡ hp.far) → ((i : ℕ) → i < 2 * n → getD seg i 0 ≡ hp.far) → (r ≡ to → ⊥)
-      → Relaxed n next fars add (set best r 0) seg best′ seg′ (getD head r 0) 0 → Searching 1 best′ seg′
+      → Relaxed n next ends (set best r 0) seg best′ seg′ (getD head r 0) 0 → Searching 1 best′ seg′
   unfolding distance
   search-start best seg best′ seg′ few ok lb ls fb fs ne rx =
-      made (subst (λ (t : Tree). Front sub n t best′ seg′ tip Nothing × (distance t r ≡ some 0) × (distance t to ≡ none)) (sym at-one) (fr, ri, ou))
+      made (subst (λ (t : Tree). Front sub n t best′ seg′ ends Nothing × (distance t r ≡ some 0) × (distance t to ≡ none)) (sym at-one) (fr, ri, ou))
     where
-      made : Front sub n (at 1) best′ seg′ tip Nothing × (distance (at 1) r ≡ some 0) × (distance (at 1) to ≡ none) → Searching 1 best′ seg′
+      made : Front sub n (at 1) best′ seg′ ends Nothing × (distance (at 1) r ≡ some 0) × (distance (at 1) to ≡ none) → Searching 1 best′ seg′
       made (a, b, c) = record { front = a; rootIn = b; out = c }
 
       e : Entry
@@ -100,7 +100,7 @@ module _ (sub : List Line) (n : ℕ) (head next fars add tip : List ℕ) (gv : G
           hit (new p q) = absurd (ne p)
           hit (old p q) = q
 
-      fr₀ : Front sub n [] best seg tip Nothing
+      fr₀ : Front sub n [] best seg ends Nothing
       fr₀ = record {
         inside = λ m d h. never h refl;
         keyed = λ m d h. never h refl;
@@ -110,11 +110,11 @@ module _ (sub : List Line) (n : ℕ) (head next fars add tip : List ℕ) (gv : G
         under = λ l u v h d i j a b. never a refl;
       }
 
-      key : Key (entry r 0 none ∷ []) (set best r 0) tip r 0
+      key : Key (entry r 0 none ∷ []) (set best r 0) ends r 0
       key = record { h = 0; low = omega arith; key = getD-set-same best r 0 0 (omega arith); by = f.root (came-new (entry r 0 none) [] r refl) refl refl }
 
-      fr₁ : Front sub n (entry r 0 none ∷ []) (set best r 0) seg tip (Rest next fars add r (getD head r 0))
-      fr₁ = front-enter sub n head next fars add tip (gv .chains) [] (entry r 0 none) best seg (set best r 0) seg refl ok fr₀ key (λ m d. getD-set-other best r m 0 0 d)
+      fr₁ : Front sub n (entry r 0 none ∷ []) (set best r 0) seg ends (Rest next ends r (getD head r 0))
+      fr₁ = front-enter sub n head next ends gv [] (entry r 0 none) best seg (set best r 0) seg refl ok fr₀ key (λ m d. getD-set-other best r m 0 0 d)
           (record { heap = cleared seg n few (omega arith) ls fs; here = fs (n + r) (omega arith); others = λ j a d. refl })
 
       newest : (l : Line) (x h dx : ℕ) → List·Memᴰ l sub → Half l r x h → distance (entry r 0 none ∷ []) x ≡ some dx → dx < 0 + l .length
@@ -124,8 +124,8 @@ module _ (sub : List Line) (n : ℕ) (head next fars add tip : List ℕ) (gv : G
           hit (new p q) = omega (arith, same q a, gv .sound l i .long)
           hit (old p q) = never (sym q ∙ a) refl
 
-      fr : Front sub n (entry r 0 none ∷ []) best′ seg′ tip Nothing
-      fr = front-relaxed sub n head next fars add tip (gv .chains) (entry r 0 none ∷ []) r 0 (set best r 0) seg best′ seg′ ok ri (gv .sound) newest rx fr₁
+      fr : Front sub n (entry r 0 none ∷ []) best′ seg′ ends Nothing
+      fr = front-relaxed sub n head next ends gv (entry r 0 none ∷ []) r 0 (set best r 0) seg best′ seg′ ok ri (gv .sound) newest rx fr₁
 
   -- ---- one more mark
 
@@ -142,21 +142,21 @@ module _ (sub : List Line) (n : ℕ) (head next fars add tip : List ℕ) (gv : G
         same-step : step sub (r ∷ []) (at k) ≡ at k
         same-step = rw (h, sr .rootIn)
 
-    pub search-none : {b : Bool} → limit ≤ getD seg 1 0 → k < n → b ≡ false → Outcome sub n best tip r to b
+    pub search-none : {b : Bool} → limit ≤ getD seg 1 0 → k < n → b ≡ false → Outcome sub n best ends r to b
     search-none big lt e =
-        let p = pop-none sub n (at k) best seg tip (gv .rising) (gv .sound) (gv .chains .tipOf) (st .heap) (sr .front) small big in
+        let p = pop-none sub n (at k) best seg ends (gv .rising) (gv .sound) (mark-of gv) (st .heap) (sr .front) small big in
         let q : n - 1 ≡ (n - 1 - k) + k = omega arith in
         cut-off e (ap (λ (t : Tree). distance t to) (stays p (n - 1 - k) (n - 1) q) ∙ sr .out)
 
     module _ (lt : getD seg 1 0 < limit) where
-      pop : Pop sub n (at k) best tip (getD seg 1 0)
-      pop = pop-some sub n (at k) best seg tip (gv .rising) (gv .sound) (gv .chains .tipOf) (st .heap) (sr .front) small lt
+      pop : Pop sub n (at k) best ends (getD seg 1 0)
+      pop = pop-some sub n (at k) best seg ends (gv .rising) (gv .sound) (mark-of gv) (st .heap) (sr .front) small lt
 
       abbrev mk : ℕ
-      mk = getD tip (getD seg 1 0 % halves) 0
+      mk = markOf ends (getD seg 1 0 % halves)
 
       e : Entry
-      e = entry (getD tip (getD seg 1 0 % halves) 0) (pop .d + pop .l .length) (some (pop .l))
+      e = entry (markOf ends (getD seg 1 0 % halves)) (pop .d + pop .l .length) (some (pop .l))
 
       isFar : far (at k) (pop .l) ≡ mk
       isFar = far-half (at k) (pop .l) (pop .u) mk (getD seg 1 0 % halves) (pop .d) (pop .half) (pop .isIn) (pop .isOut)
@@ -172,13 +172,13 @@ module _ (sub : List Line) (n : ℕ) (head next fars add tip : List ℕ) (gv : G
           let sc = scored (at k) (pop .l) (pop .d + pop .l .length) (w .itsScore) in
           record { l = pop .l; its = refl; isLine = w .isLine; sc = sc; itsMark = sym isFar ∙ sc .isFar; least = w .least }
 
-      key : Key (entry mk (pop .d + pop .l .length) (some (pop .l)) ∷ at k) best tip mk (pop .d + pop .l .length)
+      key : Key (entry mk (pop .d + pop .l .length) (some (pop .l)) ∷ at k) best ends mk (pop .d + pop .l .length)
       key = record {
         h = getD seg 1 0 % halves;
         low = omega arith;
         key = pop .known ∙ pop .sum;
         by = f.line (pop .l) (pop .u) (pop .d) (came-new (entry mk (pop .d + pop .l .length) (some (pop .l))) (at k) mk refl) (pop .half) (omega arith)
-            (gv .chains .tipOf (pop .l) mk (pop .u) (flip (getD seg 1 0 % halves)) (pop .isLine) (half-flip (pop .half)))
+            (mark-of gv (pop .l) mk (pop .u) (flip (getD seg 1 0 % halves)) (pop .isLine) (half-flip (pop .half)))
             (keeps (entry mk (pop .d + pop .l .length) (some (pop .l))) (at k) (pop .u) (pop .d) (pop .isOut) (pop .isIn)) refl;
       }
 
@@ -190,23 +190,23 @@ module _ (sub : List Line) (n : ℕ) (head next fars add tip : List ℕ) (gv : G
           hit (new p q) = q
           hit (old p q) = absurd (p refl)
 
-      pub search-found : {b : Bool} → k + 1 < n → mk ≡ to → b ≡ true → Outcome sub n best tip r to b
+      pub search-found : {b : Bool} → k + 1 < n → mk ≡ to → b ≡ true → Outcome sub n best ends r to b
       search-found few t b = reached b (suc k) (pop .d + pop .l .length) (omega arith)
-          (subst (λ (z : Tree). Keyed z best tip) (sym at-next)
-          (keyed-enter (at k) (entry mk (pop .d + pop .l .length) (some (pop .l))) best best tip (pop .isOut) (sr .front .keyed) key (λ m d. refl)))
+          (subst (λ (z : Tree). Keyed z best ends) (sym at-next)
+          (keyed-enter (at k) (entry mk (pop .d + pop .l .length) (some (pop .l))) best best ends (pop .isOut) (sr .front .keyed) key (λ m d. refl)))
           (ap (λ (z : Tree). distance z to) at-next ∙ ap (distance (entry mk (pop .d + pop .l .length) (some (pop .l)) ∷ at k)) (sym t) ∙ there)
 
       module _ (seg₁ : List ℕ) (ch : Changed seg seg₁ n mk hp.far) where
-        fr₁ : Front sub n (entry mk (pop .d + pop .l .length) (some (pop .l)) ∷ at k) best seg₁ tip (Rest next fars add mk (getD head mk 0))
-        fr₁ = front-enter sub n head next fars add tip (gv .chains) (at k) (entry mk (pop .d + pop .l .length) (some (pop .l))) best seg best seg₁
+        fr₁ : Front sub n (entry mk (pop .d + pop .l .length) (some (pop .l)) ∷ at k) best seg₁ ends (Rest next ends mk (getD head mk 0))
+        fr₁ = front-enter sub n head next ends gv (at k) (entry mk (pop .d + pop .l .length) (some (pop .l))) best seg best seg₁
             (pop .isOut) (pop .small) (sr .front) key (λ m d. refl) ch
 
         pub search-next : (best′ seg′ : List ℕ) → (mk ≡ to → ⊥)
-            → Relaxed n next fars add best seg₁ best′ seg′ (getD head mk 0) (getD seg 1 0 - getD seg 1 0 % halves) → Searching (k + 1) best′ seg′
+            → Relaxed n next ends best seg₁ best′ seg′ (getD head mk 0) (getD seg 1 0 - getD seg 1 0 % halves) → Searching (k + 1) best′ seg′
         search-next best′ seg′ ne rx = made
-            (subst (λ (z : Tree). Front sub n z best′ seg′ tip Nothing × (distance z r ≡ some 0) × (distance z to ≡ none)) (sym (ap at (add-one k) ∙ at-next)) (fr, ri, ou))
+            (subst (λ (z : Tree). Front sub n z best′ seg′ ends Nothing × (distance z r ≡ some 0) × (distance z to ≡ none)) (sym (ap at (add-one k) ∙ at-next)) (fr, ri, ou))
           where
-            made : Front sub n (at (k + 1)) best′ seg′ tip Nothing × (distance (at (k + 1)) r ≡ some 0) × (distance (at (k + 1)) to ≡ none) → Searching (k + 1) best′ seg′
+            made : Front sub n (at (k + 1)) best′ seg′ ends Nothing × (distance (at (k + 1)) r ≡ some 0) × (distance (at (k + 1)) to ≡ none) → Searching (k + 1) best′ seg′
             made (a, b, c) = record { front = a; rootIn = b; out = c }
 
             ri : distance (entry mk (pop .d + pop .l .length) (some (pop .l)) ∷ at k) r ≡ some 0
@@ -222,46 +222,46 @@ module _ (sub : List Line) (n : ℕ) (head next fars add tip : List ℕ) (gv : G
             base : getD seg 1 0 - getD seg 1 0 % halves ≡ (pop .d + pop .l .length) * halves
             base = omega (arith, pop .sum)
 
-            fr : Front sub n (entry mk (pop .d + pop .l .length) (some (pop .l)) ∷ at k) best′ seg′ tip Nothing
-            fr = front-relaxed sub n head next fars add tip (gv .chains) (entry mk (pop .d + pop .l .length) (some (pop .l)) ∷ at k) mk (pop .d + pop .l .length)
+            fr : Front sub n (entry mk (pop .d + pop .l .length) (some (pop .l)) ∷ at k) best′ seg′ ends Nothing
+            fr = front-relaxed sub n head next ends gv (entry mk (pop .d + pop .l .length) (some (pop .l)) ∷ at k) mk (pop .d + pop .l .length)
                 best seg₁ best′ seg′ (pop .small) there (gv .sound)
                 (newest-line n sub (gv .sound) (r ∷ []) k (entry mk (pop .d + pop .l .length) (some (pop .l))) by)
-                (subst (λ (z : ℕ). Relaxed n next fars add best seg₁ best′ seg′ (getD head mk 0) z) base rx) fr₁
+                (subst (λ (z : ℕ). Relaxed n next ends best seg₁ best′ seg′ (getD head mk 0) z) base rx) fr₁
 
-  pub search-end : (k : ℕ) (best seg : List ℕ) {b : Bool} → Searching k best seg → k ≡ n - 1 → b ≡ false → Outcome sub n best tip r to b
+  pub search-end : (k : ℕ) (best seg : List ℕ) {b : Bool} → Searching k best seg → k ≡ n - 1 → b ≡ false → Outcome sub n best ends r to b
   search-end k best seg sr e q = cut-off q (ap (λ (z : ℕ). distance (at z) to) (sym e) ∙ sr .out)
 
   -- ---- by what `begin` and `turn` say
 
-  pub begun-searching : (best′ seg′ : List ℕ) → Two n r to → Begun n head next fars add best′ seg′ r → Searching 1 best′ seg′
+  pub begun-searching : (best′ seg′ : List ℕ) → Two n r to → Begun n head next ends best′ seg′ r → Searching 1 best′ seg′
   begun-searching best′ seg′ two b = search-start (b .best) (b .seg) best′ seg′ (b .room .few) (two .r-ok) (b .room .bests) (b .room .segs) (b .bests) (b .segs) (two .apart) (b .offered)
 
   module _ (k : ℕ) (best seg best′ seg′ : List ℕ) (a : ℕ) (st : Stage n best seg) (lt : k < leafLimit) (sr : Searching k best seg) where
-    lead-low : top seg < limit → 0 < lead tip seg
+    lead-low : top seg < limit → 0 < lead ends seg
     lead-low l = let p = pop k best seg st sr lt l in half-low-end (gv .sound (p .l) (p .isLine)) (p .half)
 
-    pub turned-more : Turned n head next fars add tip best seg best′ seg′ to a → (a ≡ 0 → ⊥) → (a ≡ to → ⊥) → Searching (k + 1) best′ seg′
+    pub turned-more : Turned n head next ends best seg best′ seg′ to a → (a ≡ 0 → ⊥) → (a ≡ to → ⊥) → Searching (k + 1) best′ seg′
     turned-more (more z l seg₁ ch ne rx) e t = search-next k best seg st sr lt l seg₁ ch best′ seg′ ne rx
     turned-more (found z l q p p′) e t = absurd (t (z ∙ q))
     turned-more (nothing z l q q′) e t = absurd (e z)
 
-    pub turned-none : Turned n head next fars add tip best seg best′ seg′ to a → a ≡ 0 → k + 1 < n → Outcome sub n best′ tip r to false
+    pub turned-none : Turned n head next ends best seg best′ seg′ to a → a ≡ 0 → k + 1 < n → Outcome sub n best′ ends r to false
     turned-none (more z l seg₁ ch ne rx) e w = absurd (omega (arith, lead-low l))
     turned-none (found z l q p p′) e w = absurd (omega (arith, lead-low l))
     turned-none (nothing z l q q′) e w =
-        subst (λ (x : List ℕ). Outcome sub n x tip r to false) (sym q) (search-none k best seg st sr lt l (omega arith) refl)
+        subst (λ (x : List ℕ). Outcome sub n x ends r to false) (sym q) (search-none k best seg st sr lt l (omega arith) refl)
 
-    pub turned-found : Turned n head next fars add tip best seg best′ seg′ to a → (a ≡ 0 → ⊥) → a ≡ to → k + 1 < n → Outcome sub n best′ tip r to true
+    pub turned-found : Turned n head next ends best seg best′ seg′ to a → (a ≡ 0 → ⊥) → a ≡ to → k + 1 < n → Outcome sub n best′ ends r to true
     turned-found (more z l seg₁ ch ne rx) e t w = absurd (ne (sym z ∙ t))
     turned-found (found z l q p p′) e t w =
-        subst (λ (x : List ℕ). Outcome sub n x tip r to true) (sym p) (search-found k best seg st sr lt l w q refl)
+        subst (λ (x : List ℕ). Outcome sub n x ends r to true) (sym p) (search-found k best seg st sr lt l w q refl)
     turned-found (nothing z l q q′) e t w = absurd (e z)
 
 -- the stage stands after any turn
-pub turned-any : (n : ℕ) (head next fars add tip best seg best′ seg′ : List ℕ) (to a : ℕ) → Stage n best seg
-    → Turned n head next fars add tip best seg best′ seg′ to a → Stage n best′ seg′
-turned-any n head next fars add tip best seg best′ seg′ to a st (more z l seg₁ ch ne rx) = rx .stage
-turned-any n head next fars add tip best seg best′ seg′ to a st (found z l t q q′) =
+pub turned-any : (n : ℕ) (head next ends best seg best′ seg′ : List ℕ) (to a : ℕ) → Stage n best seg
+    → Turned n head next ends best seg best′ seg′ to a → Stage n best′ seg′
+turned-any n head next ends best seg best′ seg′ to a st (more z l seg₁ ch ne rx) = rx .stage
+turned-any n head next ends best seg best′ seg′ to a st (found z l t q q′) =
     subst (λ (x : List ℕ). Stage n x seg′) (sym q) (subst (λ (y : List ℕ). Stage n best y) (sym q′) st)
-turned-any n head next fars add tip best seg best′ seg′ to a st (nothing z l q q′) =
+turned-any n head next ends best seg best′ seg′ to a st (nothing z l q q′) =
     subst (λ (x : List ℕ). Stage n x seg′) (sym q) (subst (λ (y : List ℕ). Stage n best y) (sym q′) st)

@@ -13,7 +13,7 @@ use Rattle.network.specs.Standing.{Line}
 use Rattle.network.specs.Tree.{Tree, distance, grow}
 use Rattle.network.specs.Path.{Pass, pass, shortest}
 use Rattle.network.specs.Codes.{codes}
-use Rattle.chains.specs.Chains.{Half, flip, On, Has, Nodes, Heads, Tips, Given, halves}
+use Rattle.chains.specs.Chains.{Half, flip, markOf, sumOf, On, Has, Bounded, Heads, Given, halves}
 use Rattle.nearest.specs.Heap.{far, Heap, Changed, leafLimit}
 
 -- ---- what `offer` and `relax` do, with no word of lines
@@ -33,26 +33,26 @@ pub data Offered (n : ℕ) (best seg best′ seg′ : List ℕ) (o k : ℕ) : Ty
   kept : getD best o 0 ≤ k → best′ ≡ best → seg′ ≡ seg → Offered n best seg best′ seg′ o k
   fell : k < getD best o 0 → best′ ≡ set best o k → Changed seg seg′ n o k → Offered n best seg best′ seg′ o k
 
-pub data Moved (n : ℕ) (next far add best seg best′ seg′ : List ℕ) (i base m : ℕ) : Type 0 where
-  still : getD best′ m 0 ≡ getD best m 0 → getD seg′ (n + m) 0 ≡ getD seg (n + m) 0 → Moved n next far add best seg best′ seg′ i base m
-  moved : (j : ℕ) → On next i j → getD far j 0 ≡ m → getD best′ m 0 ≡ base + getD add j 0 → getD best′ m 0 < getD best m 0
-      → getD seg′ (n + m) 0 ≡ getD best′ m 0 → Moved n next far add best seg best′ seg′ i base m
+pub data Moved (n : ℕ) (next ends best seg best′ seg′ : List ℕ) (i base m : ℕ) : Type 0 where
+  still : getD best′ m 0 ≡ getD best m 0 → getD seg′ (n + m) 0 ≡ getD seg (n + m) 0 → Moved n next ends best seg best′ seg′ i base m
+  moved : (j : ℕ) → On next i j → markOf ends j ≡ m → getD best′ m 0 ≡ base + sumOf ends j → getD best′ m 0 < getD best m 0
+      → getD seg′ (n + m) 0 ≡ getD best′ m 0 → Moved n next ends best seg best′ seg′ i base m
 
-pub record Relaxed (n : ℕ) (next far add best seg best′ seg′ : List ℕ) (i base : ℕ) : Type 0 where
+pub record Relaxed (n : ℕ) (next ends best seg best′ seg′ : List ℕ) (i base : ℕ) : Type 0 where
   pub stage : Stage n best′ seg′
-  pub each : (m : ℕ) → m < n → Moved n next far add best seg best′ seg′ i base m
-  pub under : (j : ℕ) → On next i j → getD best′ (getD far j 0) 0 ≤ base + getD add j 0
+  pub each : (m : ℕ) → m < n → Moved n next ends best seg best′ seg′ i base m
+  pub under : (j : ℕ) → On next i j → getD best′ (markOf ends j) 0 ≤ base + sumOf ends j
 
 -- ---- what `begin` and `turn` do
 
 -- room for a search
-pub record Room (n : ℕ) (best seg : List ℕ) : Type 0 where
+pub record RoomSearch (n : ℕ) (best seg : List ℕ) : Type 0 where
   pub few : n ≤ leafLimit
   pub bests : n ≤ length best
   pub segs : 2 * n ≤ length seg
 
-pub record Rooms (n : ℕ) (best seg out : List ℕ) : Type 0 where
-  pub room : Room n best seg
+pub record RoomPath (n : ℕ) (best seg out : List ℕ) : Type 0 where
+  pub room : RoomSearch n best seg
   pub outs : n ≤ length out
 
 pub record Two (n r to : ℕ) : Type 0 where
@@ -60,13 +60,13 @@ pub record Two (n r to : ℕ) : Type 0 where
   pub to-ok : to < n
   pub apart : r ≡ to → ⊥
 
-pub record Begun (n : ℕ) (head next fars add best′ seg′ : List ℕ) (r : ℕ) : Type 0 where
+pub record Begun (n : ℕ) (head next ends best′ seg′ : List ℕ) (r : ℕ) : Type 0 where
   pub best : List ℕ
   pub seg : List ℕ
-  pub room : Room n best seg
+  pub room : RoomSearch n best seg
   pub bests : (i : ℕ) → i < n → getD best i 0 ≡ far
   pub segs : (i : ℕ) → i < 2 * n → getD seg i 0 ≡ far
-  pub offered : Relaxed n next fars add (set best r 0) seg best′ seg′ (getD head r 0) 0
+  pub offered : Relaxed n next ends (set best r 0) seg best′ seg′ (getD head r 0) 0
 
 -- more than any key is
 abbrev pub limit : ℕ
@@ -77,14 +77,14 @@ top seg = getD seg 1 0
 
 -- the mark that the least key leads to
 abbrev pub lead : List ℕ → List ℕ → ℕ
-lead tip seg = getD tip (top seg % halves) 0
+lead ends seg = markOf ends (top seg % halves)
 
 -- the mark that entered, or 0
-pub data Turned (n : ℕ) (head next fars add tip best seg best′ seg′ : List ℕ) (to a : ℕ) : Type 0 where
-  more : a ≡ lead tip seg → top seg < limit → (seg₁ : List ℕ) → Changed seg seg₁ n (lead tip seg) far → (lead tip seg ≡ to → ⊥)
-      → Relaxed n next fars add best seg₁ best′ seg′ (getD head (lead tip seg) 0) (top seg - top seg % halves) → Turned n head next fars add tip best seg best′ seg′ to a
-  found : a ≡ lead tip seg → top seg < limit → lead tip seg ≡ to → best′ ≡ best → seg′ ≡ seg → Turned n head next fars add tip best seg best′ seg′ to a
-  nothing : a ≡ 0 → limit ≤ top seg → best′ ≡ best → seg′ ≡ seg → Turned n head next fars add tip best seg best′ seg′ to a
+pub data Turned (n : ℕ) (head next ends best seg best′ seg′ : List ℕ) (to a : ℕ) : Type 0 where
+  more : a ≡ lead ends seg → top seg < limit → (seg₁ : List ℕ) → Changed seg seg₁ n (lead ends seg) far → (lead ends seg ≡ to → ⊥)
+      → Relaxed n next ends best seg₁ best′ seg′ (getD head (lead ends seg) 0) (top seg - top seg % halves) → Turned n head next ends best seg best′ seg′ to a
+  found : a ≡ lead ends seg → top seg < limit → lead ends seg ≡ to → best′ ≡ best → seg′ ≡ seg → Turned n head next ends best seg best′ seg′ to a
+  nothing : a ≡ 0 → limit ≤ top seg → best′ ≡ best → seg′ ≡ seg → Turned n head next ends best seg best′ seg′ to a
 
 -- ---- the line by which a mark came in, and the way back by such lines
 
@@ -122,18 +122,18 @@ lineage (e ∷ es) m = orPath (eqb (e .mark) m) (viaOf (e .by) m (λ u. lineage 
 
 -- ---- the state of a search over sub when the marks of es are in
 
-pub data By (es : Tree) (tip : List ℕ) (m d h : ℕ) : Type 0 where
-  root : came es m ≡ none → d ≡ 0 → h ≡ 0 → By es tip m d h
-  line : (l : Line) (u du : ℕ) → came es m ≡ some l → Half l u m h → h < halves → getD tip (flip h) 0 ≡ u → distance es u ≡ some du → d ≡ du + l .length → By es tip m d h
+pub data By (es : Tree) (ends : List ℕ) (m d h : ℕ) : Type 0 where
+  root : came es m ≡ none → d ≡ 0 → h ≡ 0 → By es ends m d h
+  line : (l : Line) (u du : ℕ) → came es m ≡ some l → Half l u m h → h < halves → markOf ends (flip h) ≡ u → distance es u ≡ some du → d ≡ du + l .length → By es ends m d h
 
-pub record Key (es : Tree) (best tip : List ℕ) (m d : ℕ) : Type 0 where
+pub record Key (es : Tree) (best ends : List ℕ) (m d : ℕ) : Type 0 where
   pub h : ℕ
   pub low : h < halves
   pub key : getD best m 0 ≡ d * halves + h
-  pub by : By es tip m d h
+  pub by : By es ends m d h
 
 abbrev pub Keyed : Tree → List ℕ → List ℕ → Type 0
-Keyed es best tip = (m d : ℕ) → distance es m ≡ some d → Key es best tip m d
+Keyed es best ends = (m d : ℕ) → distance es m ≡ some d → Key es best ends m d
 
 pub record Offer (sub : List Line) (es : Tree) (best : List ℕ) (m : ℕ) : Type 0 where
   pub l : Line
@@ -145,10 +145,10 @@ pub record Offer (sub : List Line) (es : Tree) (best : List ℕ) (m : ℕ) : Typ
   pub isIn : distance es u ≡ some d
   pub key : getD best m 0 ≡ (d + l .length) * halves + h
 
--- `todo u v a`: a node from u to v with the sum a is still to be offered
-pub record Front (sub : List Line) (n : ℕ) (es : Tree) (best seg tip : List ℕ) (todo : ℕ → ℕ → ℕ → Type 0) : Type 0 where
+-- `todo u v a`: a half from u to v with the sum a is still to be offered
+pub record Front (sub : List Line) (n : ℕ) (es : Tree) (best seg ends : List ℕ) (todo : ℕ → ℕ → ℕ → Type 0) : Type 0 where
   pub inside : (m d : ℕ) → distance es m ≡ some d → m < n
-  pub keyed : Keyed es best tip
+  pub keyed : Keyed es best ends
   pub closed : (m d : ℕ) → m < n → distance es m ≡ some d → getD seg (n + m) 0 ≡ far
   pub opened : (m : ℕ) → m < n → distance es m ≡ none → getD seg (n + m) 0 ≡ getD best m 0
   pub offered : (m : ℕ) → m < n → distance es m ≡ none → (getD best m 0 ≡ far) ⊎ Offer sub es best m
@@ -158,33 +158,33 @@ pub record Front (sub : List Line) (n : ℕ) (es : Tree) (best seg tip : List �
 abbrev pub Nothing : ℕ → ℕ → ℕ → Type 0
 Nothing u v a = ⊥
 
-abbrev pub Rest : List ℕ → List ℕ → List ℕ → ℕ → ℕ → ℕ → ℕ → ℕ → Type 0
-Rest next fars add m i u v a = (u ≡ m) × Has next fars add i v a
+abbrev pub Rest : List ℕ → List ℕ → ℕ → ℕ → ℕ → ℕ → ℕ → Type 0
+Rest next ends m i u v a = (u ≡ m) × Has next ends i v a
 
 -- ---- a search from r until `to` is in
 
-pub data Outcome (sub : List Line) (n : ℕ) (best tip : List ℕ) (r to : ℕ) (a : Bool) : Type 0 where
-  reached : a ≡ true → (k d : ℕ) → k < n → Keyed (grow sub (r ∷ []) k) best tip → distance (grow sub (r ∷ []) k) to ≡ some d → Outcome sub n best tip r to a
-  cut-off : a ≡ false → distance (grow sub (r ∷ []) (n - 1)) to ≡ none → Outcome sub n best tip r to a
+pub data Outcome (sub : List Line) (n : ℕ) (best ends : List ℕ) (r to : ℕ) (a : Bool) : Type 0 where
+  reached : a ≡ true → (k d : ℕ) → k < n → Keyed (grow sub (r ∷ []) k) best ends → distance (grow sub (r ∷ []) k) to ≡ some d → Outcome sub n best ends r to a
+  cut-off : a ≡ false → distance (grow sub (r ∷ []) (n - 1)) to ≡ none → Outcome sub n best ends r to a
 
 -- whatever lines the chains hold
-abbrev pub Searched : ℕ → List ℕ → List ℕ → List ℕ → List ℕ → List ℕ → List ℕ → ℕ → ℕ → Bool → Type 0
-Searched n head next fars add tip best r to a = (sub : List Line) → Given sub n head next fars add tip → Outcome sub n best tip r to a
+abbrev pub Searched : ℕ → List ℕ → List ℕ → List ℕ → List ℕ → ℕ → ℕ → Bool → Type 0
+Searched n head next ends best r to a = (sub : List Line) → Given sub n head next ends → Outcome sub n best ends r to a
 
 -- ---- the way back, written out
 
 -- document 01: "A mark's way to its root is followed line by line, and the distance falls at each step." From the mark m the way goes by the
 -- halves hs; each leads against the half by which its mark came in, to a mark that is nearer by the least length of a line
-pub data Way (best tip : List ℕ) : ℕ → List ℕ → Type 0 where
-  rooted : {m : ℕ} → m < length best → getD best m 0 ≡ 0 → Way best tip m []
-  onward : {m : ℕ} (g u : ℕ) {hs : List ℕ} → m < length best → 0 < getD best m 0 → g ≡ flip (getD best m 0 % halves) → u ≡ getD tip g 0
-      → getD best u 0 / halves + leastLength ≤ getD best m 0 / halves → Way best tip u hs → Way best tip m (g ∷ hs)
+pub data Way (best ends : List ℕ) : ℕ → List ℕ → Type 0 where
+  rooted : {m : ℕ} → m < length best → getD best m 0 ≡ 0 → Way best ends m []
+  onward : {m : ℕ} (g u : ℕ) {hs : List ℕ} → m < length best → 0 < getD best m 0 → g ≡ flip (getD best m 0 % halves) → u ≡ markOf ends g
+      → getD best u 0 / halves + leastLength ≤ getD best m 0 / halves → Way best ends u hs → Way best ends m (g ∷ hs)
 
 -- there is a way from m, and room for it from place c on
-pub record Leads (best tip out : List ℕ) (c m : ℕ) : Type 0 where
-  pub tips : halves ≤ length tip
+pub record Leads (best ends out : List ℕ) (c m : ℕ) : Type 0 where
+  pub ends-at : halves ≤ length ends
   pub hs : List ℕ
-  pub way : Way best tip m hs
+  pub way : Way best ends m hs
   pub room : c + length hs ≤ length out
 
 -- the halves hs stand in out′ from place c on, and a is where they end
@@ -193,7 +193,7 @@ pub record Put (hs out out′ : List ℕ) (c a : ℕ) : Type 0 where
   pub count : a ≡ c + length hs
 
 abbrev pub Walked : List ℕ → List ℕ → List ℕ → List ℕ → ℕ → ℕ → ℕ → Type 0
-Walked best tip out out′ c m a = (hs : List ℕ) → Way best tip m hs → Put hs out out′ c a
+Walked best ends out out′ c m a = (hs : List ℕ) → Way best ends m hs → Put hs out out′ c a
 
 -- ---- the path of a closing line
 
@@ -204,13 +204,12 @@ pub record Written (n : ℕ) (ps : List Pass) (out out′ : List ℕ) (a : ℕ) 
   pub few : a < n
 
 -- the chains hold some lines of a book
-pub record Held (n cnt : ℕ) (head next fars add tip : List ℕ) : Type 0 where
-  pub nodes : Nodes n cnt next fars add
-  pub heads : Heads n cnt head
-  pub tips : Tips n tip
+pub record Held (n : ℕ) (head next ends : List ℕ) : Type 0 where
+  pub bounded : Bounded n ends
+  pub heads : Heads n head next
   pub sub : List Line
-  pub given : Given sub n head next fars add tip
+  pub given : Given sub n head next ends
 
 -- the path of the definition is written out
-abbrev pub Pathed : ℕ → List ℕ → List ℕ → List ℕ → List ℕ → List ℕ → List ℕ → List ℕ → ℕ → ℕ → ℕ → Type 0
-Pathed n head next fars add tip out out′ r to a = (sub : List Line) → Given sub n head next fars add tip → Written n (shortest (n - 1) sub to r) out out′ a
+abbrev pub Pathed : ℕ → List ℕ → List ℕ → List ℕ → List ℕ → List ℕ → ℕ → ℕ → ℕ → Type 0
+Pathed n head next ends out out′ r to a = (sub : List Line) → Given sub n head next ends → Written n (shortest (n - 1) sub to r) out out′ a

@@ -1,9 +1,9 @@
-// A search by distance from one mark over chains of nodes. A key is a distance and the half that leads there in one number, distance * HALVES + half,
+// A search by distance from one mark over chains of halves. A key is a distance and the half that leads there in one number, distance * HALVES + half,
 // so that one test compares distance and then line number.
 ghost use Prim.Native.Nat.{_+_, _*_, _<_, _≤_};
-ghost use Rattle.chains.specs.Chains.{Nodes, Heads, Tips};
+ghost use Rattle.chains.specs.Chains.{Bounded, Chained, Heads};
 ghost use Rattle.search.specs.Direct.{LeastSum, Direct};
-ghost use Rattle.search.specs.Front.{limit, Stage, Offered, Relaxed, Room, Rooms, Two, Begun, Turned, Searched, Leads, Walked, Held, Pathed};
+ghost use Rattle.search.specs.Front.{limit, Stage, Offered, Relaxed, RoomSearch, RoomPath, Two, Begun, Turned, Searched, Leads, Walked, Held, Pathed};
 
 // More than any key.
 const LIMIT: u64 = 1152921504606846976;
@@ -19,86 +19,74 @@ fn offer(best: &mut [u64], seg: &mut [u64], n: usize, o: usize, k: u64)
     }
 }
 
-// Every node of the chain from the pointer first offers its far mark base and its own sum.
+// Every half of the chain from first on offers the mark it leads to base and its own sum.
 pub fn relax(
     next: &[u64],
-    far: &[u64],
-    add: &[u64],
+    ends: &[u64],
     best: &mut [u64],
     seg: &mut [u64],
     n: usize,
-    cnt: usize,
     first: usize,
     base: u64,
 )
-    requires { ⌜ Nodes n cnt (now next) (now far) (now add) ⌝ ∗ ⌜ Stage n (now best) (now seg) ⌝ ∗ ⌜ first ≤ cnt ⌝ ∗ ⌜ base ≤ limit ⌝ }
-    ensures { λ _. ⌜ Relaxed n (now (next .entry)) (now (far .entry)) (now (add .entry)) (now (best .entry)) (now (seg .entry)) (now (best .exit)) (now (seg .exit)) first base ⌝ }
+    requires { ⌜ Bounded n (now ends) ⌝ ∗ ⌜ Chained (now next) first ⌝ ∗ ⌜ Stage n (now best) (now seg) ⌝ ∗ ⌜ base ≤ limit ⌝ }
+    ensures { λ _. ⌜ Relaxed n (now (next .entry)) (now (ends .entry)) (now (best .entry)) (now (seg .entry)) (now (best .exit))
+        (now (seg .exit)) first base ⌝ }
 {
-    let mut i = first;
-    while 0 < i {
-        let j = i - 1;
-        offer(best, seg, n, far[j] as usize, base + add[j]);
-        i = next[j] as usize;
+    let mut h = first;
+    while 0 < h {
+        let e = ends[h];
+        let m = e % chains::HALVES;
+        let sum = e - m + h as u64;
+        offer(best, seg, n, m as usize, base + sum);
+        h = next[h] as usize;
     }
 }
 
-// A search from the mark r begins: its arrays are cleared, and what is at r is offered.
+// A search from the mark r begins: its arrays are cleared, and the halves that leave r are offered.
 fn begin(
     head: &[u64],
     next: &[u64],
-    far: &[u64],
-    add: &[u64],
+    ends: &[u64],
     best: &mut [u64],
     seg: &mut [u64],
     n: usize,
-    cnt: usize,
     r: usize,
 )
-    requires { ⌜ Nodes n cnt (now next) (now far) (now add) ⌝ ∗ ⌜ Heads n cnt (now head) ⌝ ∗ ⌜ Room n (now best) (now seg) ⌝ ∗ ⌜ r < n ⌝ }
-    ensures { λ _. ⌜ Begun n (now (head .entry)) (now (next .entry)) (now (far .entry)) (now (add .entry)) (now (best .exit)) (now (seg .exit)) r ⌝ }
+    requires { ⌜ Bounded n (now ends) ⌝ ∗ ⌜ Heads n (now head) (now next) ⌝ ∗ ⌜ RoomSearch n (now best) (now seg) ⌝ ∗ ⌜ r < n ⌝ }
+    ensures { λ _. ⌜ Begun n (now (head .entry)) (now (next .entry)) (now (ends .entry)) (now (best .exit)) (now (seg .exit)) r ⌝ }
 {
     nearest::clear(best, n);
     nearest::clear(seg, n * 2);
     best[r] = 0;
-    relax(next, far, add, best, seg, n, cnt, head[r] as usize, 0);
+    relax(next, ends, best, seg, n, head[r] as usize, 0);
 }
 
-// The nearest open mark enters. Unless it is the mark to, it is open no more and its nodes are offered. The answer is that mark, or 0 where none is open.
+// The nearest open mark enters. Unless it is the mark to, it is open no more and its halves are offered. The answer is that mark, or 0 where none is open.
 pub fn turn(
     head: &[u64],
     next: &[u64],
-    far: &[u64],
-    add: &[u64],
-    tip: &[u64],
+    ends: &[u64],
     best: &mut [u64],
     seg: &mut [u64],
     n: usize,
-    cnt: usize,
     to: usize,
 ) -> usize
-    requires { ⌜ Nodes n cnt (now next) (now far) (now add) ⌝ ∗ ⌜ Heads n cnt (now head) ⌝ ∗ ⌜ Tips n (now tip) ⌝ ∗ ⌜ Stage n (now best) (now seg) ⌝ }
-    ensures { λ a. ⌜ Turned n (now (head .entry)) (now (next .entry)) (now (far .entry)) (now (add .entry)) (now (tip .entry)) (now (best .entry)) (now (seg .entry)) (now (best .exit)) (now (seg .exit)) to a ⌝ }
+    requires { ⌜ Bounded n (now ends) ⌝ ∗ ⌜ Heads n (now head) (now next) ⌝ ∗ ⌜ Stage n (now best) (now seg) ⌝ }
+    ensures { λ a. ⌜ Turned n (now (head .entry)) (now (next .entry)) (now (ends .entry)) (now (best .entry)) (now (seg .entry))
+        (now (best .exit)) (now (seg .exit)) to a ⌝ }
 {
     let key = seg[1];
     if LIMIT <= key {
         return 0;
     }
-    let m = tip[(key % chains::HALVES) as usize] as usize;
+    let h = key % chains::HALVES;
+    let m = (ends[h as usize] % chains::HALVES) as usize;
     if m == to {
         return m;
     }
     nearest::close(seg, n, m);
-    relax(
-        next,
-        far,
-        add,
-        best,
-        seg,
-        n,
-        cnt,
-        head[m] as usize,
-        key - key % chains::HALVES,
-    );
+    relax(next, ends, best, seg, n, head[m] as usize, key - h);
     m
 }
 
@@ -106,23 +94,20 @@ pub fn turn(
 fn search(
     head: &[u64],
     next: &[u64],
-    far: &[u64],
-    add: &[u64],
-    tip: &[u64],
+    ends: &[u64],
     best: &mut [u64],
     seg: &mut [u64],
     n: usize,
-    cnt: usize,
     r: usize,
     to: usize,
 ) -> bool
-    requires { ⌜ Nodes n cnt (now next) (now far) (now add) ⌝ ∗ ⌜ Heads n cnt (now head) ⌝ ∗ ⌜ Tips n (now tip) ⌝ ∗ ⌜ Room n (now best) (now seg) ⌝ ∗ ⌜ Two n r to ⌝ }
-    ensures { λ a. ⌜ Searched n (now (head .entry)) (now (next .entry)) (now (far .entry)) (now (add .entry)) (now (tip .entry)) (now (best .exit)) r to a ⌝ }
+    requires { ⌜ Bounded n (now ends) ⌝ ∗ ⌜ Heads n (now head) (now next) ⌝ ∗ ⌜ RoomSearch n (now best) (now seg) ⌝ ∗ ⌜ Two n r to ⌝ }
+    ensures { λ a. ⌜ Searched n (now (head .entry)) (now (next .entry)) (now (ends .entry)) (now (best .exit)) r to a ⌝ }
 {
-    begin(head, next, far, add, best, seg, n, cnt, r);
+    begin(head, next, ends, best, seg, n, r);
     let mut k = 1;
     while k + 1 < n {
-        let m = turn(head, next, far, add, tip, best, seg, n, cnt, to);
+        let m = turn(head, next, ends, best, seg, n, to);
         if m == 0 {
             return false;
         }
@@ -135,9 +120,9 @@ fn search(
 }
 
 // The way from the mark m to its root, line by line, into out from place c on: the half of each line as it is run. The answer is where they end.
-fn way(tip: &[u64], best: &[u64], out: &mut [u16], c: usize, m: usize) -> usize
-    requires { ⌜ Leads (now best) (now tip) (now out) c m ⌝ }
-    ensures { λ a. ⌜ Walked (now (best .entry)) (now (tip .entry)) (now (out .entry)) (now (out .exit)) c m a ⌝ }
+fn way(ends: &[u64], best: &[u64], out: &mut [u16], c: usize, m: usize) -> usize
+    requires { ⌜ Leads (now best) (now ends) (now out) c m ⌝ }
+    ensures { λ a. ⌜ Walked (now (best .entry)) (now (ends .entry)) (now (out .entry)) (now (out .exit)) c m a ⌝ }
 {
     let key = best[m];
     if key == 0 {
@@ -146,45 +131,41 @@ fn way(tip: &[u64], best: &[u64], out: &mut [u16], c: usize, m: usize) -> usize
     let h = key % chains::HALVES;
     let g = h / 2 * 4 + 1 - h;
     out[c] = g as u16;
-    way(tip, best, out, c + 1, tip[g as usize] as usize)
+    way(
+        ends,
+        best,
+        out,
+        c + 1,
+        (ends[g as usize] % chains::HALVES) as usize,
+    )
 }
 
-// The least sum of the nodes on the chain from the pointer first, or FAR.
-fn least_sum(next: &[u64], far: &[u64], add: &[u64], n: usize, cnt: usize, first: usize) -> u64
-    requires { ⌜ Nodes n cnt (now next) (now far) (now add) ⌝ ∗ ⌜ first ≤ cnt ⌝ }
-    ensures { λ s. ⌜ LeastSum (now (next .entry)) (now (add .entry)) first s ⌝ }
+// The least sum of the halves on the chain from first on, or FAR.
+fn least_sum(next: &[u64], ends: &[u64], n: usize, first: usize) -> u64
+    requires { ⌜ Bounded n (now ends) ⌝ ∗ ⌜ Chained (now next) first ⌝ }
+    ensures { λ s. ⌜ LeastSum (now (next .entry)) (now (ends .entry)) first s ⌝ }
 {
     let mut s = nearest::FAR;
-    let mut i = first;
-    while 0 < i {
-        let j = i - 1;
-        s = nearest::lesser(s, add[j]);
-        i = next[j] as usize;
+    let mut h = first;
+    while 0 < h {
+        let e = ends[h];
+        s = nearest::lesser(s, e - e % chains::HALVES + h as u64);
+        h = next[h] as usize;
     }
     s
 }
 
 // The half of the least line at the mark r, if it leads to the mark to; else 0. It needs no search: nothing is nearer.
-fn direct_half(
-    head: &[u64],
-    next: &[u64],
-    far: &[u64],
-    add: &[u64],
-    tip: &[u64],
-    n: usize,
-    cnt: usize,
-    r: usize,
-    to: usize,
-) -> u64
-    requires { ⌜ Nodes n cnt (now next) (now far) (now add) ⌝ ∗ ⌜ Heads n cnt (now head) ⌝ ∗ ⌜ Tips n (now tip) ⌝ ∗ ⌜ Two n r to ⌝ }
-    ensures { λ h. ⌜ Direct n (now (head .entry)) (now (next .entry)) (now (far .entry)) (now (add .entry)) (now (tip .entry)) r to h ⌝ }
+fn direct_half(head: &[u64], next: &[u64], ends: &[u64], n: usize, r: usize, to: usize) -> u64
+    requires { ⌜ Bounded n (now ends) ⌝ ∗ ⌜ Heads n (now head) (now next) ⌝ ∗ ⌜ Two n r to ⌝ }
+    ensures { λ h. ⌜ Direct n (now (head .entry)) (now (next .entry)) (now (ends .entry)) r to h ⌝ }
 {
-    let s = least_sum(next, far, add, n, cnt, head[r] as usize);
+    let s = least_sum(next, ends, n, head[r] as usize);
     if LIMIT <= s {
         return 0;
     }
     let h = s % chains::HALVES;
-    if tip[h as usize] as usize == to {
+    if (ends[h as usize] % chains::HALVES) as usize == to {
         return h;
     }
     0
@@ -194,27 +175,24 @@ fn direct_half(
 pub fn path(
     head: &[u64],
     next: &[u64],
-    far: &[u64],
-    add: &[u64],
-    tip: &[u64],
+    ends: &[u64],
     best: &mut [u64],
     seg: &mut [u64],
     out: &mut [u16],
     n: usize,
-    cnt: usize,
     r: usize,
     to: usize,
 ) -> usize
-    requires { ⌜ Held n cnt (now head) (now next) (now far) (now add) (now tip) ⌝ ∗ ⌜ Rooms n (now best) (now seg) (now out) ⌝ ∗ ⌜ Two n r to ⌝ }
-    ensures { λ a. ⌜ Pathed n (now (head .entry)) (now (next .entry)) (now (far .entry)) (now (add .entry)) (now (tip .entry)) (now (out .entry)) (now (out .exit)) r to a ⌝ }
+    requires { ⌜ Held n (now head) (now next) (now ends) ⌝ ∗ ⌜ RoomPath n (now best) (now seg) (now out) ⌝ ∗ ⌜ Two n r to ⌝ }
+    ensures { λ a. ⌜ Pathed n (now (head .entry)) (now (next .entry)) (now (ends .entry)) (now (out .entry)) (now (out .exit)) r to a ⌝ }
 {
-    let h = direct_half(head, next, far, add, tip, n, cnt, r, to);
+    let h = direct_half(head, next, ends, n, r, to);
     if 0 < h {
         out[0] = (h / 2 * 4 + 1 - h) as u16;
         return 1;
     }
-    if search(head, next, far, add, tip, best, seg, n, cnt, r, to) {
-        return way(tip, best, out, 0, to);
+    if search(head, next, ends, best, seg, n, r, to) {
+        return way(ends, best, out, 0, to);
     }
     0
 }

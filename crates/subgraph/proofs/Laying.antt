@@ -10,50 +10,31 @@ use lib.ListN.{length, getD, length-append}
 use Rattle.network.specs.Standing.{Line}
 use Rattle.network.specs.Tree.{Tree, grow, marks, tree, treeLines, lines1}
 use Rattle.network.specs.Subgraph.{only, numbers}
-use Rattle.network.proofs.Subgraph.{in-only, nos-isIn}
-use Rattle.chains.specs.Chains.{Half, fore, aft, Nodes, Heads, Chains, halves}
-use Rattle.chains.specs.Link.{Wider}
+use Rattle.network.proofs.Subgraph.{in-only, nos-isIn, of-treeLines}
+use Rattle.network.proofs.Count.{unique}
+use Rattle.network.proofs.Flow.{ends-in}
+use Rattle.network.proofs.Grown.{ByLine, ByRoot, grown}
+use Rattle.network.specs.Walk.{Ends}
+use Rattle.chains.specs.Chains.{Half, fore, aft, Drawn, halves}
+use Rattle.chains.specs.Link.{RoomChains, Joined, Wider}
 use Rattle.chains.specs.Listed.{Listed}
-use Rattle.chains.proofs.Halves.{on-zero}
+use Rattle.chains.proofs.Halves.{line-from, line-to}
+use Rattle.chains.proofs.Laws.{join-draws, draws-none, draws-same}
 use Rattle.search.specs.Front.{By, Key}
 use Rattle.search.specs.Front as f
 use Rattle.tree.specs.Plant.{Holding}
 use Rattle.tree.proofs.Entries.{Enters, enters-line, enters-at, later, EntryOf, in-at, order-of, came-of}
-use Rattle.subgraph.specs.Drawn.{Joined, Laid, stayed, joined, TreeDrawn}
+use Rattle.subgraph.specs.Drawn.{Laid, stayed, joined, TreeDrawn}
 use Rattle.subgraph.proofs.Only.{only-numbers}
-
--- ---- what the chains hold goes by members alone
-
-pub chains-same : {a b : List Line} {n : ℕ} {head next fars add tip : List ℕ} → ((l : Line) → List·Memᴰ l a → List·Memᴰ l b) → ((l : Line) → List·Memᴰ l b → List·Memᴰ l a)
-    → Chains a n head next fars add tip → Chains b n head next fars add tip
-chains-same to from ch = record {
-  of = λ m j lt w. let nd = ch .of m j lt w in record { l = nd .l; isLine = to (nd .l) (nd .isLine); h = nd .h; half = nd .half; sum = nd .sum };
-  has = λ l u v h i j. ch .has l u v h (from l i) j;
-  tipOf = λ l u v h i j. ch .tipOf l u v h (from l i) j;
-}
-
--- chains of nothing
-pub chains-none : {n : ℕ} {head next fars add tip : List ℕ} → ((i : ℕ) → i < n → getD head i 0 ≡ 0) → Chains [] n head next fars add tip
-chains-none zeros = record {
-  of = λ m j lt w. on-zero (zeros m lt) w;
-  has = λ l u v h i j. absurd (List·Memᴰ·not-nil i);
-  tipOf = λ l u v h i j. absurd (List·Memᴰ·not-nil i);
-}
 
 -- ---- a line of the book joins, by its number
 
-module _ {n q cnt : ℕ} {tip long head next fars add head′ next′ fars′ add′ : List ℕ} (lines : List Line) (li : Listed lines n q tip long) (l : Line) (isLine : List·Memᴰ l lines) where
-  pub line-joins : (sub sub′ : List Line) → ((k : Line) → List·Memᴰ k sub → List·Memᴰ k lines) → Wider sub sub′ l
-      → Joined n cnt tip long head next fars add head′ next′ fars′ add′ (l .number) → Chains sub n head next fars add tip → Chains sub′ n head′ next′ fars′ add′ tip
-  line-joins sub sub′ part wd jn ch =
-      jn .chains sub sub′ tip l (λ k i. li .sound k (part k i))
-      (record {
-        f-is = sym (li .tipOf l (l .to) (l .from) (l .number * 2 + 1) isLine (aft refl refl (omega arith)));
-        t-is = sym (li .tipOf l (l .from) (l .to) (l .number * 2) isLine (fore refl refl (omega arith)));
-        number-is = refl;
-        length-is = sym (li .longOf l isLine);
-      })
-      wd (λ u v h j. li .tipOf l u v h isLine j) ch
+-- it is none of the lines that the chains hold
+pub line-joins : {n q : ℕ} {ends head next head′ next′ : List ℕ} (lines : List Line) → Listed lines n q ends → (l : Line) → List·Memᴰ l lines
+    → (sub sub′ : List Line) → ((k : Line) → List·Memᴰ k sub → List·Memᴰ k lines) → ((k : Line) → List·Memᴰ k sub → k .number ≡ l .number → ⊥)
+    → Wider sub sub′ l → RoomChains n head next → Joined ends head next head′ next′ (l .number) → Drawn sub n head next → Drawn sub′ n head′ next′
+line-joins lines li l i sub sub′ part isNew wd room jn d =
+    join-draws sub sub′ l (λ k j. li .sound k (part k j)) (li .sound l i) wd isNew (line-from li l i) (line-to li l i) room jn (d .heads) (d .chains)
 
 -- ---- the tree's lines join, entry by entry
 
@@ -77,17 +58,17 @@ lines1-some : (o : Option Line) (ls : List Line) (l : Line) → o ≡ some l →
 lines1-some none ls l e = absurd (Option·none-ne-some l e)
 lines1-some (some k) ls l e = length-append ls (k ∷ [])
 
-module _ (n q : ℕ) (tip long : List ℕ) (lines : List Line) (li : Listed lines n q tip long) (best order : List ℕ) (ho : Holding (tree (n - 1) lines) best order tip) where
+module _ (n q : ℕ) (ends : List ℕ) (lines : List Line) (li : Listed lines n q ends) (best order : List ℕ) (ho : Holding (tree (n - 1) lines) best order ends) where
   abbrev at : ℕ → Tree
   at k = grow lines (marks (n - 1)) k
 
-  pub record LayingAt (k cnt : ℕ) (head next fars add : List ℕ) : Type 0 where
-    pub chains : Chains (treeLines (grow lines (marks (n - 1)) k)) n head next fars add tip
-    pub count : cnt ≡ 2 * length (treeLines (grow lines (marks (n - 1)) k))
+  pub record LayingAt (k count : ℕ) (head next : List ℕ) : Type 0 where
+    pub drawn : Drawn (treeLines (grow lines (marks (n - 1)) k)) n head next
+    pub counted : count ≡ length (treeLines (grow lines (marks (n - 1)) k))
 
-  pub lay-start : (head next fars add : List ℕ) → ((i : ℕ) → i < n → getD head i 0 ≡ 0) → LayingAt 0 0 head next fars add
+  pub lay-start : (head next : List ℕ) → RoomChains n head next → ((i : ℕ) → i < n → getD head i 0 ≡ 0) → LayingAt 0 0 head next
   unfolding grow treeLines
-  lay-start head next fars add zeros = record { chains = chains-none zeros; count = refl }
+  lay-start head next room zeros = record { drawn = draws-none room zeros; counted = refl }
 
   -- the tree's lines are lines
   tree-part : (k : ℕ) → k < n → (l : Line) → List·Memᴰ l (treeLines (at k)) → List·Memᴰ l lines
@@ -106,7 +87,7 @@ module _ (n q : ℕ) (tip long : List ℕ) (lines : List Line) (li : Listed line
               hit (inl i) = ih i
               hit (inr i) = Memᴰ·cast (List·Memᴰ·eq-of-singleton i) (enters-line en j e)
 
-  module _ (k cnt r : ℕ) (head next fars add head′ next′ fars′ add′ : List ℕ) (few : k + 1 < n) (la : LayingAt k cnt head next fars add) where
+  module _ (k count r : ℕ) (head next head′ next′ : List ℕ) (few : k + 1 < n) (room : RoomChains n head next) (la : LayingAt k count head next) where
     abbrev en : Enters lines (at k) (at (suc k))
     en = enters-at n lines (li .sound) k few
 
@@ -114,7 +95,7 @@ module _ (n q : ℕ) (tip long : List ℕ) (lines : List Line) (li : Listed line
     unfolding tree
     mark = record { k = k; few = few; its = en; isMark = sym (order-of n lines (li .sound) order (ho .entered) k few) }
 
-    key : Key (at (n - 1)) best tip (getD order k 0) (en .e .dist)
+    key : Key (at (n - 1)) best ends (getD order k 0) (en .e .dist)
     unfolding tree mark
     key = ho .keyed (getD order k 0) (en .e .dist) (later n lines (li .sound) (suc k) (n - 1) (getD order k 0) (en .e .dist) (omega arith) (in-at n lines (li .sound) (getD order k 0) mark))
 
@@ -135,7 +116,7 @@ module _ (n q : ℕ) (tip long : List ℕ) (lines : List Line) (li : Listed line
     unfolding mark
     root-by z = go (key .by)
       where
-        go : By (at (n - 1)) tip (getD order k 0) (en .e .dist) (key .h) → en .e .by ≡ none
+        go : By (at (n - 1)) ends (getD order k 0) (en .e .dist) (key .h) → en .e .by ≡ none
         go (f.root c a b) = sym (came-of n lines (li .sound) (getD order k 0) mark) ∙ c
         go (f.line l u du c hf lo t i s) =
             let by : en .e .by ≡ some l = sym (came-of n lines (li .sound) (getD order k 0) mark) ∙ c in
@@ -149,74 +130,47 @@ module _ (n q : ℕ) (tip long : List ℕ) (lines : List Line) (li : Listed line
         num (fore p x z) = omega (arith, key .key, key .low)
         num (aft p x z) = omega (arith, key .key, key .low)
 
-        go : By (at (n - 1)) tip (getD order k 0) (en .e .dist) (key .h) → (l : Line) × (en .e .by ≡ some l) × (getD best (getD order k 0) 0 % halves / 2 ≡ l .number)
+        go : By (at (n - 1)) ends (getD order k 0) (en .e .dist) (key .h) → (l : Line) × (en .e .by ≡ some l) × (getD best (getD order k 0) 0 % halves / 2 ≡ l .number)
         go (f.root c a b) = absurd (nz (omega (arith, key .key, a, b)))
         go (f.line l u du c hf lo t i s) = (l, sym (came-of n lines (li .sound) (getD order k 0) mark) ∙ c, num hf)
 
-    pub laid-next : Laid n cnt tip long head next fars add head′ next′ fars′ add′ (getD best (getD order k 0) 0) r → LayingAt (k + 1) r head′ next′ fars′ add′
-    laid-next (stayed z e eh ex ef ea) =
+    -- the line by which a mark enters has an end outside the tree, and so is none of its lines yet
+    line-new : (l : Line) → en .e .by ≡ some l → (j : Line) → List·Memᴰ j (treeLines (at k)) → j .number ≡ l .number → ⊥
+    line-new l e j m same = go (en .by)
+      where
+        go : ByLine lines (at k) (en .e) ⊎ ByRoot lines (at k) (en .e) → ⊥
+        go (inr x) = Option·none-ne-some l (sym (x .its) ∙ e)
+        go (inl x) =
+            let own : l ≡ x .l = Option·some-injective _ _ (sym e ∙ x .its) in
+            let is : x .l ≡ j = unique lines (li .rising) (x .l) j (x .isLine) (tree-part k (omega arith) j m) (ap (λ (z : Line). z .number) (sym own) ∙ sym same) in
+            let t = of-treeLines (at k) j m in
+            ends-in lines (grown lines (marks (n - 1)) k) (t .0) (t .1) j (t .2) (x .sc .near) (x .sc .away)
+            (subst (λ (z : Line). Ends z (x .sc .near) (x .sc .away)) is (x .sc .ends)) (x .sc .isOut)
+
+    pub laid-next : Laid ends head next head′ next′ (getD best (getD order k 0) 0) r → LayingAt (k + 1) (count + r) head′ next′
+    laid-next (stayed z e eh ex) =
         let same-lines : treeLines (at (k + 1)) ≡ treeLines (at k) = ap (λ (j : ℕ). treeLines (at j)) (add-one k) ∙ root-stays (root-by z) in
-        record {
-          chains = rw (same-lines, eh, ex, ef, ea) (la .chains);
-          count = rw same-lines (e ∙ la .count);
-        }
+        record { drawn = rw (same-lines, eh, ex) (la .drawn); counted = rw same-lines (omega (arith, e, la .counted)) }
     laid-next (joined nz e jn) =
         let w = line-by nz in
         let wd : Wider (treeLines (at k)) (treeLines (at (k + 1))) (w .0) = subst (λ (j : ℕ). Wider (treeLines (at k)) (treeLines (at j)) (w .0)) (sym (add-one k)) (line-more (w .0) (w .1)) in
         record {
-          chains = line-joins lines li (w .0) (enters-line en (w .0) (w .1)) (treeLines (at k)) (treeLines (at (k + 1))) (tree-part k (omega arith)) wd
-              (subst (λ (j : ℕ). Joined n cnt tip long head next fars add head′ next′ fars′ add′ j) (w .2) jn) (la .chains);
-          count = omega (arith, la .count, line-count (w .0) (w .1), ap (λ (j : ℕ). length (treeLines (at j))) (add-one k));
+          drawn = line-joins lines li (w .0) (enters-line en (w .0) (w .1)) (treeLines (at k)) (treeLines (at (k + 1))) (tree-part k (omega arith))
+              (line-new (w .0) (w .1)) wd room (subst (Joined ends head next head′ next′) (w .2) jn) (la .drawn);
+          counted = omega (arith, la .counted, line-count (w .0) (w .1), ap (λ (j : ℕ). length (treeLines (at j))) (add-one k));
         }
 
-  pub lay-end : (k cnt : ℕ) (head next fars add : List ℕ) → 0 < n → k ≡ n - 1 → Nodes n cnt next fars add → Heads n cnt head → LayingAt k cnt head next fars add
-      → TreeDrawn lines n head next fars add tip cnt
+  pub lay-end : (k count : ℕ) (head next : List ℕ) → 0 < n → k ≡ n - 1 → LayingAt k count head next → TreeDrawn lines n head next count
   unfolding tree
-  lay-end k cnt head next fars add pos e nodes heads la = record {
-    drawn = record {
-      nodes = nodes;
-      heads = heads;
-      chains = chains-same
-          (λ l i. in-only (numbers (treeLines (at (n - 1)))) lines l (tree-part (n - 1) (omega arith) l i) (nos-isIn (treeLines (at (n - 1))) l i))
-          (λ l i. only-numbers lines (treeLines (at (n - 1))) (li .rising) (tree-part (n - 1) (omega arith)) l i)
-          (subst (λ (j : ℕ). Chains (treeLines (at j)) n head next fars add tip) e (la .chains));
-    };
-    count = la .count ∙ ap (λ (j : ℕ). 2 * length (treeLines (at j))) e;
+  lay-end k count head next pos e la = record {
+    drawn = draws-same
+        (λ l i. in-only (numbers (treeLines (at (n - 1)))) lines l (tree-part (n - 1) (omega arith) l i) (nos-isIn (treeLines (at (n - 1))) l i))
+        (λ l i. only-numbers lines (treeLines (at (n - 1))) (li .rising) (tree-part (n - 1) (omega arith)) l i)
+        (subst (λ (j : ℕ). Drawn (treeLines (at j)) n head next) e (la .drawn));
+    count = la .counted ∙ ap (λ (j : ℕ). length (treeLines (at j))) e;
   }
 
--- ---- nodes and heads
-
-pub heads-none : (n : ℕ) (head : List ℕ) → n ≤ length head → ((i : ℕ) → i < n → getD head i 0 ≡ 0) → Heads n 0 head
-heads-none n head l zeros = record { heads = l; head-ok = λ m h. omega (arith, zeros m h) }
-
-pub nodes-none : (n : ℕ) (next fars add : List ℕ) → Nodes n 0 next fars add
-nodes-none n next fars add = record {
-  nexts = omega arith;
-  fars = omega arith;
-  adds = omega arith;
-  falls = λ j h. absurd (omega arith);
-  far-ok = λ j h. absurd (omega arith);
-  add-ok = λ j h. absurd (omega arith);
-}
-
-module _ {n cnt key r : ℕ} {tip long head next fars add head′ next′ fars′ add′ : List ℕ} (la : Laid n cnt tip long head next fars add head′ next′ fars′ add′ key r) where
-  nodes-of : Laid n cnt tip long head next fars add head′ next′ fars′ add′ key r → Nodes n cnt next fars add → Nodes n r next′ fars′ add′
-  nodes-of (stayed z e eh ex ef ea) w = rw (e, ex, ef, ea) w
-  nodes-of (joined z e jn) w = rw e (jn .nodes)
-
-  pub laid-nodes : Nodes n cnt next fars add → Nodes n r next′ fars′ add′
-  laid-nodes w = nodes-of la w
-
-  heads-of : Laid n cnt tip long head next fars add head′ next′ fars′ add′ key r → Heads n cnt head → Heads n r head′
-  heads-of (stayed z e eh ex ef ea) he = rw (e, eh) he
-  heads-of (joined z e jn) he = rw e (jn .heads)
-
-  pub laid-heads : Heads n cnt head → Heads n r head′
-  laid-heads he = heads-of la he
-
-  high-of : Laid n cnt tip long head next fars add head′ next′ fars′ add′ key r → r ≤ cnt + 2
-  high-of (stayed z e eh ex ef ea) = omega arith
-  high-of (joined z e jn) = omega arith
-
-  pub laid-high : r ≤ cnt + 2
-  laid-high = high-of la
+-- one mark lays one line at most
+pub laid-high : {key r : ℕ} {ends head next head′ next′ : List ℕ} → Laid ends head next head′ next′ key r → r ≤ 1
+laid-high (stayed z e eh ex) = omega arith
+laid-high (joined z e jn) = omega arith

@@ -4,7 +4,7 @@ use native.Mathlib.Omega.{arith}
 use native.Mathlib.Numerals.{add-one}
 use mathlib.Core.Path.{_≡_, refl, sym, _∙_, ap, subst}
 use mathlib.Core.Logic.{_⊎_, inl, inr}
-use mathlib.Core.Bool.{true}
+use mathlib.Core.Bool.{true, false}
 use mathlib.Core.List.{List, [], _∷_, _++_, List·Memᴰ, List·Memᴰ·head, List·Memᴰ·tail, append-assoc, append-nil}
 use lib.ListN.{length, getD, set, length-set, length-append}
 use lib.Seq.{sets, getD-set-same, getD-set-other}
@@ -13,17 +13,20 @@ use Rattle.network.specs.Tree.{tree, treeLines}
 use Rattle.network.specs.Closing.{closing}
 use Rattle.network.specs.Path.{Pass, pass, shortest}
 use Rattle.network.specs.Subgraph.{isIn, only, numbers}
-use Rattle.network.proofs.Count.{unique, tree-and-roots, closing-count}
-use Rattle.network.specs.Sound.{Placed}
-use Rattle.network.proofs.Marks.{size, grows}
-use Rattle.network.proofs.Closers.{closing-line}
+use Rattle.network.proofs.Count.{unique}
+use Rattle.network.proofs.Descent.{clash}
+use Rattle.network.specs.Sound.{Placed, Sound}
 use Rattle.loops.specs.Loops.{Loop, added, loopsFrom, loops}
 use Rattle.network.proofs.Subgraph.{in-only, of-only, rising-only}
-use Rattle.chains.specs.Chains.{fore, aft, Tips, Given, numberLimit}
-use Rattle.chains.specs.Link.{Places, Wider}
+use Rattle.network.proofs.Pairwise.{pairwise-rest}
+use Rattle.loops.proofs.EachLoop.{ToCome, come-next, closing-lines-to-come}
+use Rattle.chains.specs.Chains.{markOf, Bounded, Drawn, Given, halves, numberLimit}
+use Rattle.chains.specs.Link.{RoomChains, Fits, Joined, Wider}
 use Rattle.chains.specs.Listed.{Listed}
+use Rattle.chains.proofs.Halves.{line-from, line-to}
+use Rattle.chains.proofs.Laws.{bounded-fits}
 use Rattle.search.specs.Front.{Two, Held, Pathed, Written}
-use Rattle.subgraph.specs.Drawn.{Drawn, Joined, TreeDrawn}
+use Rattle.subgraph.specs.Drawn.{TreeDrawn}
 use Rattle.subgraph.specs.Turn.{Taking, Takes, Took, Reached, Queue, empty, next-is, Going}
 use Rattle.subgraph.proofs.Only.{in-first, in-more, in-cases}
 use Rattle.subgraph.proofs.Laying.{line-joins}
@@ -53,89 +56,107 @@ added-more c (x ∷ y ∷ p) sub e = refl
 
 -- ---- the subgraph is what a search asks for
 
-module _ {n q cnt number : ℕ} {tip long head next fars add : List ℕ} (lines : List Line) (sub : List ℕ) (c : Line)
-    (tk : Taking lines sub c n q cnt number tip long head next fars add) where
-  given : Given (only sub lines) n head next fars add tip
+module _ {n q number : ℕ} {ends head next : List ℕ} (lines : List Line) (sub : List ℕ) (c : Line) (tk : Taking lines sub c n q number ends head next) where
+  part : (l : Line) → List·Memᴰ l (only sub lines) → List·Memᴰ l lines
+  part l i = of-only sub lines l i .0
+
+  given : Given (only sub lines) n head next ends
   given = record {
     rising = rising-only sub lines (tk .listed .rising);
-    sound = λ l i. tk .listed .sound l (of-only sub lines l i .0);
+    sound = λ l i. tk .listed .sound l (part l i);
+    few = tk .listed .few;
+    told = λ l u v h i. tk .listed .told l u v h (part l i);
     chains = tk .drawn .chains;
   }
 
-  held : Tips n tip → Held n cnt head next fars add tip
-  held t = record { nodes = tk .drawn .nodes; heads = tk .drawn .heads; tips = t; sub = only sub lines; given = given }
+  held : Bounded n ends → Held n head next ends
+  held b = record { bounded = b; heads = tk .drawn .heads; sub = only sub lines; given = given }
 
-  from-is : getD tip (number * 2 + 1) 0 ≡ c .from
-  from-is = tk .listed .tipOf c (c .to) (c .from) (number * 2 + 1) (tk .isLine) (aft refl refl (omega (arith, tk .its)))
+  from-is : markOf ends (number * 2 + 1) ≡ c .from
+  from-is = ap (λ (j : ℕ). markOf ends (j * 2 + 1)) (sym (tk .its)) ∙ line-from (tk .listed) c (tk .isLine)
 
-  to-is : getD tip (number * 2) 0 ≡ c .to
-  to-is = tk .listed .tipOf c (c .from) (c .to) (number * 2) (tk .isLine) (fore refl refl (omega (arith, tk .its)))
+  to-is : markOf ends (number * 2) ≡ c .to
+  to-is = ap (λ (j : ℕ). markOf ends (j * 2)) (sym (tk .its)) ∙ line-to (tk .listed) c (tk .isLine)
 
-  two : Two n (getD tip (number * 2 + 1) 0) (getD tip (number * 2) 0)
+  two : Two n (markOf ends (number * 2 + 1)) (markOf ends (number * 2))
   two = let s = tk .listed .sound c (tk .isLine) in record {
     r-ok = rw from-is (s .from-high);
     to-ok = rw to-is (s .to-high);
     apart = λ e. s .apart (sym from-is ∙ e ∙ to-is);
   }
 
-  module _ {out out′ : List ℕ} {count : ℕ} (pt : Pathed n head next fars add tip out out′ (getD tip (number * 2 + 1) 0) (getD tip (number * 2) 0) count) where
+  room : RoomChains n head next
+  room = record { heads = tk .drawn .heads .heads; nexts = tk .drawn .heads .chained (c .from) (tk .listed .sound c (tk .isLine) .from-high) .nexts }
+
+  -- no line of the subgraph has its number
+  isNew : (k : Line) → List·Memᴰ k (only sub lines) → k .number ≡ c .number → ⊥
+  isNew k i e = clash (of-only sub lines k i .1) (ap (λ (j : ℕ). isIn j sub) e ∙ tk .notYet)
+
+  module _ {out out′ : List ℕ} {count : ℕ} (pt : Pathed n head next ends out out′ (markOf ends (number * 2 + 1)) (markOf ends (number * 2)) count) where
     abbrev path : List Pass
     path = shortest (n - 1) (only sub lines) (c .to) (c .from)
 
     written : Written n (shortest (n - 1) (only sub lines) (c .to) (c .from)) out out′ count
     written = subst (λ (u : ℕ). Written n (shortest (n - 1) (only sub lines) u (c .from)) out out′ count) to-is
-        (subst (λ (r : ℕ). Written n (shortest (n - 1) (only sub lines) (getD tip (number * 2) 0) r) out out′ count) from-is (pt (only sub lines) given))
+        (subst (λ (r : ℕ). Written n (shortest (n - 1) (only sub lines) (markOf ends (number * 2)) r) out out′ count) from-is (pt (only sub lines) given))
 
     -- a path of one line
-    pub took-same : count ≡ 1 → Took lines sub c n cnt tip out head next fars add out′ count cnt
+    pub took-same : count ≡ 1 → Took lines sub c n out head next out′ count
     took-same e = record {
       written = written;
-      drawn = subst (λ (s : List ℕ). Drawn lines s n cnt head next fars add tip) (sym (added-one (c .number) path sub (sym (written .count) ∙ e))) (tk .drawn);
-      few = omega arith;
+      drawn = subst (λ (s : List ℕ). Drawn (only s lines) n head next) (sym (added-one (c .number) path sub (sym (written .count) ∙ e))) (tk .drawn);
     }
 
-    pub took-more : {head′ next′ fars′ add′ : List ℕ} → (count ≡ 1 → ⊥) → Joined n cnt tip long head next fars add head′ next′ fars′ add′ number
-        → Took lines sub c n cnt tip out head′ next′ fars′ add′ out′ count (cnt + 2)
-    took-more {head′ = head′} {next′ = next′} {fars′ = fars′} {add′ = add′} e jn = record {
+    pub took-more : {head′ next′ : List ℕ} → (count ≡ 1 → ⊥) → Joined ends head next head′ next′ number → Took lines sub c n out head′ next′ out′ count
+    took-more {head′ = head′} {next′ = next′} e jn = record {
       written = written;
-      drawn = subst (λ (s : List ℕ). Drawn lines s n (cnt + 2) head′ next′ fars′ add′ tip) (sym (added-more (c .number) path sub (λ z. e (written .count ∙ z))))
-          (record {
-            nodes = jn .nodes;
-            heads = jn .heads;
-            chains = line-joins lines (tk .listed) c (tk .isLine) (only sub lines) (only (c .number ∷ sub) lines) (λ k i. of-only sub lines k i .0)
-                (wider-only lines sub c (λ k i x. unique lines (tk .listed .rising) k c i (tk .isLine) x) (tk .isLine))
-                (subst (λ (j : ℕ). Joined n cnt tip long head next fars add head′ next′ fars′ add′ j) (sym (tk .its)) jn) (tk .drawn .chains);
-          });
-      few = omega arith;
+      drawn = subst (λ (s : List ℕ). Drawn (only s lines) n head′ next′) (sym (added-more (c .number) path sub (λ z. e (written .count ∙ z))))
+          (line-joins lines (tk .listed) c (tk .isLine) (only sub lines) (only (c .number ∷ sub) lines) part isNew
+          (wider-only lines sub c (λ k i x. unique lines (tk .listed .rising) k c i (tk .isLine) x) (tk .isLine)) room
+          (subst (Joined ends head next head′ next′) (sym (tk .its)) jn) (tk .drawn));
     }
 
-module _ {n cnt number : ℕ} {tip long head next fars add best seg out : List ℕ} (tk : Takes n cnt number tip long head next fars add best seg out) where
-  pub takes-held : Held n cnt head next fars add tip
-  takes-held = held (tk .lines) (tk .sub) (tk .c) (tk .taking) (tk .tips)
+module _ {n number : ℕ} {ends head next best seg out : List ℕ} (tk : Takes n number ends head next best seg out) where
+  pub takes-held : Held n head next ends
+  takes-held = held (tk .lines) (tk .sub) (tk .c) (tk .taking) (tk .bounded)
 
-  pub takes-two : Two n (getD tip (number * 2 + 1) 0) (getD tip (number * 2) 0)
+  pub takes-two : Two n (markOf ends (number * 2 + 1)) (markOf ends (number * 2))
   takes-two = two (tk .lines) (tk .sub) (tk .c) (tk .taking)
 
   pub takes-number : number < numberLimit
   takes-number = omega (arith, tk .taking .its, tk .taking .listed .sound (tk .c) (tk .taking .isLine) .number)
 
-  pub takes-places : Places n cnt head next fars add
-  takes-places = record { heads = tk .taking .drawn .heads; nodes = tk .taking .drawn .nodes; nexts = tk .nexts; ends = tk .ends; adds = tk .adds }
+  pub takes-fits : Fits n ends number
+  takes-fits = bounded-fits (tk .bounded) number takes-number
+
+  pub takes-room : RoomChains n head next
+  takes-room = room (tk .lines) (tk .sub) (tk .c) (tk .taking)
 
 -- ---- loop by loop
 
-pub reached-start : (b : ℕ) (lines : List Line) → ((c : Line) → List·Memᴰ c (closing lines (tree b lines)) → List·Memᴰ c lines)
+pub reached-start : (b : ℕ) (lines : List Line) → ToCome lines (numbers (treeLines (tree b lines))) (closing lines (tree b lines))
     → Reached b lines [] (closing lines (tree b lines)) (numbers (treeLines (tree b lines)))
 unfolding loops
-reached-start b lines f = record { all = refl; lines-left = f }
+reached-start b lines t = record { all = refl; lines-left = t .stand; differ = t .differ; notYet = t .notYet }
+
+-- the others are still to come, whether or not the first is added
+come-added : {lines : List Line} {sub : List ℕ} {c : Line} {cs : List Line} (p : List Pass) → ToCome lines sub (c ∷ cs) → ToCome lines (added (c .number) p sub) cs
+come-added [] t = come-next t
+come-added (x ∷ []) t = record { stand = λ k i. t .stand k (List·Memᴰ·tail i); differ = pairwise-rest (t .differ); notYet = λ k i. t .notYet k (List·Memᴰ·tail i) }
+come-added (x ∷ y ∷ p) t = come-next t
 
 pub reached-next : (b : ℕ) (lines : List Line) (done : List Loop) (c : Line) (rest : List Line) (sub : List ℕ) → Reached b lines done (c ∷ rest) sub
     → Reached b lines (done ++ ((pass c true ∷ shortest b (only sub lines) (c .to) (c .from)) ∷ [])) rest (added (c .number) (shortest b (only sub lines) (c .to) (c .from)) sub)
 unfolding loopsFrom
-reached-next b lines done c rest sub r = record {
-  all = r .all ∙ sym (append-assoc done ((pass c true ∷ shortest b (only sub lines) (c .to) (c .from)) ∷ []) (loopsFrom b lines rest (added (c .number) (shortest b (only sub lines) (c .to) (c .from)) sub)));
-  lines-left = λ k i. r .lines-left k (List·Memᴰ·tail i);
-}
+reached-next b lines done c rest sub r =
+    let path = shortest b (only sub lines) (c .to) (c .from) in
+    let t = come-added {lines = lines} {sub = sub} path (record { stand = r .lines-left; differ = r .differ; notYet = r .notYet }) in
+    record {
+      all = r .all ∙ sym (append-assoc done ((pass c true ∷ path) ∷ []) (loopsFrom b lines rest (added (c .number) path sub)));
+      lines-left = t .stand;
+      differ = t .differ;
+      notYet = t .notYet;
+    }
 
 -- ---- the closing lines that are left stand in the array
 
@@ -153,29 +174,28 @@ queue-start out out′ cs h e = subst (λ (z : List ℕ). Queue z 0 cs) (sym e) 
 
 -- ---- what a driver goes by
 
-module _ (n : ℕ) (lines : List Line) (tip close : List ℕ) where
+module _ (n : ℕ) (lines : List Line) (close : List ℕ) where
   -- before the first loop
-  pub going-start : (q cnt : ℕ) (long head next fars add : List ℕ) → 0 < n → Listed lines n q tip long → TreeDrawn lines n head next fars add tip cnt
-      → Queue close 0 (closing lines (tree (n - 1) lines)) → Going n 0 cnt lines tip close head next fars add
-  going-start q cnt long head next fars add pos li td qu = record {
+  pub going-start : (q r : ℕ) (ends head next : List ℕ) → Listed lines n q ends → TreeDrawn lines n head next r
+      → Queue close 0 (closing lines (tree (n - 1) lines)) → Going n 0 lines close head next
+  going-start q r ends head next li td qu = record {
     done = [];
     rest = closing lines (tree (n - 1) lines);
     sub = numbers (treeLines (tree (n - 1) lines));
-    reached = reached-start (n - 1) lines (λ c i. closing-line lines (li .rising) apart (grows (n - 1) lines placed) c i);
+    reached = reached-start (n - 1) lines (closing-lines-to-come (n - 1) lines sound);
     count = refl;
     queue = qu;
     drawn = td .drawn;
-    room = omega (arith, td .count, tree-and-roots (tree (n - 1) lines), size (n - 1) lines placed, closing-count (n - 1) lines placed (li .rising) apart);
   }
     where
       placed : (l : Line) → List·Memᴰ l lines → Placed (n - 1) l
       placed l i = let x = li .sound l i in
           record { from-low = x .from-low; from-high = omega (arith, x .from-high); to-low = x .to-low; to-high = omega (arith, x .to-high) }
 
-      apart : (l : Line) → List·Memᴰ l lines → l .from ≡ l .to → ⊥
-      apart l i = li .sound l i .apart
+      sound : Sound (n - 1) lines
+      sound = record { placed = placed; apart = λ l i. li .sound l i .apart; long-enough = λ l i. li .sound l i .long; rising = li .rising }
 
-  module _ (i cnt : ℕ) (head next fars add : List ℕ) (g : Going n i cnt lines tip close head next fars add) where
+  module _ (i : ℕ) (head next : List ℕ) (g : Going n i lines close head next) where
     -- the closing line whose turn it is
     pub record Next : Type 0 where
       pub c : Line
@@ -183,6 +203,7 @@ module _ (n : ℕ) (lines : List Line) (tip close : List ℕ) where
       pub is : g .rest ≡ c ∷ rest
       pub number : getD close i 0 ≡ c .number
       pub isLine : List·Memᴰ c lines
+      pub notYet : isIn (c .number) (g .sub) ≡ false
       pub queue : Queue close (suc i) rest
 
     pub going-turn : i < length (loops (n - 1) lines) → Next
@@ -194,10 +215,12 @@ module _ (n : ℕ) (lines : List Line) (tip close : List ℕ) where
           where
             no-loops : length (loopsFrom (n - 1) lines [] (g .sub)) ≡ 0
             no-loops = refl
-        go (c ∷ rest) e (next-is x q) = record { c = c; rest = rest; is = e; number = x; isLine = g .reached .lines-left c (subst (λ (r : List Line). List·Memᴰ c r) (sym e) (List·Memᴰ·head refl)); queue = q }
+        go (c ∷ rest) e (next-is x q) =
+            let first : List·Memᴰ c (g .rest) = subst (λ (r : List Line). List·Memᴰ c r) (sym e) (List·Memᴰ·head refl) in
+            record { c = c; rest = rest; is = e; number = x; isLine = g .reached .lines-left c first; notYet = g .reached .notYet c first; queue = q }
 
-    pub going-next : {head′ next′ fars′ add′ out out′ : List ℕ} {count nodes : ℕ} (x : Next)
-        → Took lines (g .sub) (x .c) n cnt tip out head′ next′ fars′ add′ out′ count nodes → Going n (i + 1) nodes lines tip close head′ next′ fars′ add′
+    pub going-next : {head′ next′ out out′ : List ℕ} {count : ℕ} (x : Next) → Took lines (g .sub) (x .c) n out head′ next′ out′ count
+        → Going n (i + 1) lines close head′ next′
     going-next x t = record {
       done = g .done ++ ((pass (x .c) true ∷ shortest (n - 1) (only (g .sub) lines) (x .c .to) (x .c .from)) ∷ []);
       rest = x .rest;
@@ -206,10 +229,9 @@ module _ (n : ℕ) (lines : List Line) (tip close : List ℕ) where
       count = length-append (g .done) ((pass (x .c) true ∷ shortest (n - 1) (only (g .sub) lines) (x .c .to) (x .c .from)) ∷ []) ∙ omega (arith, g .count);
       queue = subst (λ (k : ℕ). Queue close k (x .rest)) (sym (add-one i)) (x .queue);
       drawn = t .drawn;
-      room = omega (arith, g .room, ap length (x .is), t .few);
     }
 
-    pub going-more : {head′ next′ fars′ add′ out out′ : List ℕ} {count nodes : ℕ} (x : Next) (t : Took lines (g .sub) (x .c) n cnt tip out head′ next′ fars′ add′ out′ count nodes)
+    pub going-more : {head′ next′ out out′ : List ℕ} {count : ℕ} (x : Next) (t : Took lines (g .sub) (x .c) n out head′ next′ out′ count)
         → going-next x t .done ≡ g .done ++ ((pass (x .c) true ∷ shortest (n - 1) (only (g .sub) lines) (x .c .to) (x .c .from)) ∷ [])
     unfolding going-next
     going-more x t = refl
@@ -218,7 +240,7 @@ nothing : (l : List Loop) → length l ≡ 0 → l ≡ []
 nothing [] e = refl
 nothing (x ∷ l) e = absurd (omega arith)
 
-module _ {n i cnt : ℕ} {lines : List Line} {tip close head next fars add : List ℕ} (g : Going n i cnt lines tip close head next fars add) where
+module _ {n i : ℕ} {lines : List Line} {close head next : List ℕ} (g : Going n i lines close head next) where
   -- before the first turn no loop is done
   pub going-none : i ≡ 0 → g .done ≡ []
   going-none e = nothing (g .done) (g .count ∙ e)

@@ -20,10 +20,10 @@ use Rattle.network.proofs.Marks.{one-each}
 use Rattle.nearest.specs.Heap.{Changed, leafLimit}
 use Rattle.nearest.specs.Heap as hp
 use Rattle.nearest.proofs.Laws.{cleared}
-use Rattle.chains.specs.Chains.{Half, flip, Tips, Given, halves}
+use Rattle.chains.specs.Chains.{Half, flip, Bounded, Given, halves}
 use Rattle.search.specs.Front.{Stage, Relaxed, Key, Offer, Front, Nothing, limit, top, lead, Turned, more, found, nothing}
 use Rattle.search.specs.Front as f
-use Rattle.chains.proofs.Halves.{half-ends, half-flip, half-low-end}
+use Rattle.chains.proofs.Halves.{half-ends, half-flip, half-low-end, mark-of}
 use Rattle.search.proofs.Enter.{far-half, step-some, Pop, pop-none, pop-some, came-new, front-enter, front-relaxed}
 use Rattle.search.proofs.Searched.{near, newest-line, turned-any}
 use Rattle.tree.specs.Plant.{FirstFar, Sprouted, by-line, by-root, ended, Entered, none-yet, enters, Holding, Below}
@@ -80,7 +80,7 @@ pub entered-new : (order : List ℕ) (e : Entry) (es : Tree) (k v : ℕ) → len
 entered-new order e es k v h lt q x =
     enters (ap (λ (z : ℕ). getD (set order k v) z 0) h ∙ getD-set-same order k v 0 lt ∙ q) (entered-other k v (omega arith) x)
 
-module _ (lines : List Line) (n : ℕ) (head next fars add tip : List ℕ) (gv : Given lines n head next fars add tip) where
+module _ (lines : List Line) (n : ℕ) (head next ends : List ℕ) (gv : Given lines n head next ends) where
   abbrev rts : List ℕ
   rts = marks (n - 1)
 
@@ -95,7 +95,7 @@ module _ (lines : List Line) (n : ℕ) (head next fars add tip : List ℕ) (gv :
   sized k h = one-each (n - 1) lines placed k (omega arith) .1
 
   pub record Planting (k : ℕ) (best seg order : List ℕ) (root : ℕ) : Type 0 where
-    pub front : Front lines n (grow lines (marks (n - 1)) k) best seg tip Nothing
+    pub front : Front lines n (grow lines (marks (n - 1)) k) best seg ends Nothing
     pub low : 0 < root
     pub passed : (m : ℕ) → 0 < m → m < root → distance (grow lines (marks (n - 1)) k) m ≡ none → ⊥
     pub entered : Entered order (grow lines (marks (n - 1)) k)
@@ -130,17 +130,17 @@ module _ (lines : List Line) (n : ℕ) (head next fars add tip : List ℕ) (gv :
     -- ---- by a line
 
     module _ (lt : top seg < limit) where
-      pop : Pop lines n (at k) best tip (getD seg 1 0)
-      pop = pop-some lines n (at k) best seg tip (gv .rising) (gv .sound) (gv .chains .tipOf) (st .heap) (pl .front) small lt
+      pop : Pop lines n (at k) best ends (getD seg 1 0)
+      pop = pop-some lines n (at k) best seg ends (gv .rising) (gv .sound) (mark-of gv) (st .heap) (pl .front) small lt
 
-      lead-low : 0 < lead tip seg
+      lead-low : 0 < lead ends seg
       lead-low = half-low-end (gv .sound (pop .l) (pop .isLine)) (pop .half)
 
       abbrev en : Entry
-      en = entry (lead tip seg) (pop .d + pop .l .length) (some (pop .l))
+      en = entry (lead ends seg) (pop .d + pop .l .length) (some (pop .l))
 
-      isFar : far (at k) (pop .l) ≡ lead tip seg
-      isFar = far-half (at k) (pop .l) (pop .u) (lead tip seg) (top seg % halves) (pop .d) (pop .half) (pop .isIn) (pop .isOut)
+      isFar : far (at k) (pop .l) ≡ lead ends seg
+      isFar = far-half (at k) (pop .l) (pop .u) (lead ends seg) (top seg % halves) (pop .d) (pop .half) (pop .isIn) (pop .isOut)
 
       at-next : at (suc k) ≡ en ∷ at k
       unfolding grow
@@ -153,27 +153,27 @@ module _ (lines : List Line) (n : ℕ) (head next fars add tip : List ℕ) (gv :
           let sc = scored (at k) (pop .l) (pop .d + pop .l .length) (w .itsScore) in
           record { l = pop .l; its = refl; isLine = w .isLine; sc = sc; itsMark = sym isFar ∙ sc .isFar; least = w .least }
 
-      key : Key (en ∷ at k) best tip (lead tip seg) (pop .d + pop .l .length)
+      key : Key (en ∷ at k) best ends (lead ends seg) (pop .d + pop .l .length)
       key = record {
         h = top seg % halves;
         low = omega arith;
         key = pop .known ∙ pop .sum;
-        by = f.line (pop .l) (pop .u) (pop .d) (came-new en (at k) (lead tip seg) refl) (pop .half) (omega arith)
-            (gv .chains .tipOf (pop .l) (lead tip seg) (pop .u) (flip (top seg % halves)) (pop .isLine) (half-flip (pop .half)))
+        by = f.line (pop .l) (pop .u) (pop .d) (came-new en (at k) (lead ends seg) refl) (pop .half) (omega arith)
+            (mark-of gv (pop .l) (lead ends seg) (pop .u) (flip (top seg % halves)) (pop .isLine) (half-flip (pop .half)))
             (keeps en (at k) (pop .u) (pop .d) (pop .isOut) (pop .isIn)) refl;
       }
 
-      there : distance (en ∷ at k) (lead tip seg) ≡ some (pop .d + pop .l .length)
-      there = hit (after en (at k) (lead tip seg))
+      there : distance (en ∷ at k) (lead ends seg) ≡ some (pop .d + pop .l .length)
+      there = hit (after en (at k) (lead ends seg))
         where
-          hit : After en (at k) (lead tip seg) → distance (en ∷ at k) (lead tip seg) ≡ some (pop .d + pop .l .length)
+          hit : After en (at k) (lead ends seg) → distance (en ∷ at k) (lead ends seg) ≡ some (pop .d + pop .l .length)
           hit (new p q) = q
           hit (old p q) = absurd (p refl)
 
-      line-next : (seg₁ best′ seg′ : List ℕ) (v : ℕ) → v ≡ lead tip seg → Changed seg seg₁ n (lead tip seg) hp.far
-          → Relaxed n next fars add best seg₁ best′ seg′ (getD head (lead tip seg) 0) (top seg - top seg % halves) → Planting (k + 1) best′ seg′ (set order k v) root
+      line-next : (seg₁ best′ seg′ : List ℕ) (v : ℕ) → v ≡ lead ends seg → Changed seg seg₁ n (lead ends seg) hp.far
+          → Relaxed n next ends best seg₁ best′ seg′ (getD head (lead ends seg) 0) (top seg - top seg % halves) → Planting (k + 1) best′ seg′ (set order k v) root
       line-next seg₁ best′ seg′ v q ch rx = record {
-        front = subst (λ (z : Tree). Front lines n z best′ seg′ tip Nothing) (sym (ap at (add-one k) ∙ at-next)) fr;
+        front = subst (λ (z : Tree). Front lines n z best′ seg′ ends Nothing) (sym (ap at (add-one k) ∙ at-next)) fr;
         low = pl .low;
         passed = λ m a b. still-in m (pl .passed m a b);
         entered = subst (λ (z : Tree). Entered (set order k v) z) (sym (ap at (add-one k) ∙ at-next)) (entered-new order en (at k) k v (sized k (omega arith)) space q (pl .entered));
@@ -182,17 +182,17 @@ module _ (lines : List Line) (n : ℕ) (head next fars add tip : List ℕ) (gv :
           base : top seg - top seg % halves ≡ (pop .d + pop .l .length) * halves
           base = omega (arith, pop .sum)
 
-          fr : Front lines n (en ∷ at k) best′ seg′ tip Nothing
-          fr = front-relaxed lines n head next fars add tip (gv .chains) (en ∷ at k) (lead tip seg) (pop .d + pop .l .length) best seg₁ best′ seg′ (pop .small) there (gv .sound)
+          fr : Front lines n (en ∷ at k) best′ seg′ ends Nothing
+          fr = front-relaxed lines n head next ends gv (en ∷ at k) (lead ends seg) (pop .d + pop .l .length) best seg₁ best′ seg′ (pop .small) there (gv .sound)
               (newest-line n lines (gv .sound) rts k en by)
-              (subst (λ (z : ℕ). Relaxed n next fars add best seg₁ best′ seg′ (getD head (lead tip seg) 0) z) base rx)
-              (front-enter lines n head next fars add tip (gv .chains) (at k) en best seg best seg₁ (pop .isOut) (pop .small) (pl .front) key (λ m d. refl) ch)
+              (subst (λ (z : ℕ). Relaxed n next ends best seg₁ best′ seg′ (getD head (lead ends seg) 0) z) base rx)
+              (front-enter lines n head next ends gv (at k) en best seg best seg₁ (pop .isOut) (pop .small) (pl .front) key (λ m d. refl) ch)
 
     -- ---- by a root, where nothing is left
 
     module _ (big : limit ≤ top seg) where
       gone : lowest (at k) lines ≡ none
-      gone = pop-none lines n (at k) best seg tip (gv .rising) (gv .sound) (gv .chains .tipOf) (st .heap) (pl .front) small big
+      gone = pop-none lines n (at k) best seg ends (gv .rising) (gv .sound) (mark-of gv) (st .heap) (pl .front) small big
 
       out-far : (m : ℕ) → m < n → distance (at k) m ≡ none → getD best m 0 ≡ hp.far
       out-far m ok h = go (pl .front .offered m ok h)
@@ -215,11 +215,11 @@ module _ (lines : List Line) (n : ℕ) (head next fars add tip : List ℕ) (gv :
           go (yes e) = ff .before m (omega arith) b (out-far m (omega (arith, ff .high)) h)
           go (no e) = pl .passed m a (omega arith) h
 
-      root-next : (r : ℕ) (best′ seg′ : List ℕ) → FirstFar best n root r → r < n → Relaxed n next fars add (set best r 0) seg best′ seg′ (getD head r 0) 0
+      root-next : (r : ℕ) (best′ seg′ : List ℕ) → FirstFar best n root r → r < n → Relaxed n next ends (set best r 0) seg best′ seg′ (getD head r 0) 0
           → Planting (k + 1) best′ seg′ (set order k r) r
       unfolding grow step marks
       root-next r best′ seg′ ff lt rx = record {
-        front = subst (λ (z : Tree). Front lines n z best′ seg′ tip Nothing) (sym (ap at (add-one k) ∙ at-next)) fr;
+        front = subst (λ (z : Tree). Front lines n z best′ seg′ ends Nothing) (sym (ap at (add-one k) ∙ at-next)) fr;
         low = omega (arith, pl .low, ff .low);
         passed = λ m a b. still-in m (all-in r ff m a b);
         entered = subst (λ (z : Tree). Entered (set order k r) z) (sym (ap at (add-one k) ∙ at-next)) (entered-new order (entry r 0 none) (at k) k r (sized k (omega arith)) space refl (pl .entered));
@@ -235,7 +235,7 @@ module _ (lines : List Line) (n : ℕ) (head next fars add tip : List ℕ) (gv :
           at-next = ap (λ (o : Option Candidate). tr.next (at k) o (firstOut (at k) rts)) gone
               ∙ ap (λ (o : Option ℕ). tr.next (at k) none o) (out-first (at k) (n - 1) [] r (omega (arith, pl .low, ff .low)) (omega arith) out (all-in r ff))
 
-          key : Key (entry r 0 none ∷ at k) (set best r 0) tip r 0
+          key : Key (entry r 0 none ∷ at k) (set best r 0) ends r 0
           key = record { h = 0; low = omega arith; key = getD-set-same best r 0 0 (omega (arith, st .places)); by = f.root (came-new (entry r 0 none) (at k) r refl) refl refl }
 
           ri : distance (entry r 0 none ∷ at k) r ≡ some 0
@@ -252,16 +252,16 @@ module _ (lines : List Line) (n : ℕ) (head next fars add tip : List ℕ) (gv :
               hit (new p q) = omega (arith, same q a, gv .sound l i .long)
               hit (old p q) = never (score-of (at k) l x r dx (turn (half-ends j)) (sym q ∙ a) out) (lowest-none (at k) lines gone l i)
 
-          fr : Front lines n (entry r 0 none ∷ at k) best′ seg′ tip Nothing
-          fr = front-relaxed lines n head next fars add tip (gv .chains) (entry r 0 none ∷ at k) r 0 (set best r 0) seg best′ seg′ lt ri (gv .sound) newest rx
-              (front-enter lines n head next fars add tip (gv .chains) (at k) (entry r 0 none) best seg (set best r 0) seg out lt (pl .front) key
+          fr : Front lines n (entry r 0 none ∷ at k) best′ seg′ ends Nothing
+          fr = front-relaxed lines n head next ends gv (entry r 0 none ∷ at k) r 0 (set best r 0) seg best′ seg′ lt ri (gv .sound) newest rx
+              (front-enter lines n head next ends gv (at k) (entry r 0 none) best seg (set best r 0) seg out lt (pl .front) key
               (λ m d. getD-set-other best r m 0 0 d)
               (record { heap = st .heap; here = pl .front .opened r lt out ∙ ff .at lt; others = λ j a d. refl }))
 
       end-next : (r : ℕ) → FirstFar best n root r → r ≡ n → Planting (k + 1) best seg order r
       unfolding grow step marks
       end-next r ff e = record {
-        front = subst (λ (z : Tree). Front lines n z best seg tip Nothing) (sym (ap at (add-one k) ∙ at-next)) (pl .front);
+        front = subst (λ (z : Tree). Front lines n z best seg ends Nothing) (sym (ap at (add-one k) ∙ at-next)) (pl .front);
         low = omega (arith, pl .low, ff .low);
         passed = λ m a b. still-in m (all-in r ff m a b);
         entered = subst (λ (z : Tree). Entered order z) (sym (ap at (add-one k) ∙ at-next)) (pl .entered);
@@ -271,7 +271,7 @@ module _ (lines : List Line) (n : ℕ) (head next fars add tip : List ℕ) (gv :
           at-next = ap (λ (o : Option Candidate). tr.next (at k) o (firstOut (at k) rts)) gone
               ∙ ap (λ (o : Option ℕ). tr.next (at k) none o) (out-past (at k) (n - 1) [] (λ m a b. all-in r ff m a (omega arith)))
 
-    pub sprouted-next : (best′ seg′ order′ : List ℕ) (r : ℕ) → Sprouted n head next fars add tip best seg order best′ seg′ order′ k root r → Planting (k + 1) best′ seg′ order′ r
+    pub sprouted-next : (best′ seg′ order′ : List ℕ) (r : ℕ) → Sprouted n head next ends best seg order best′ seg′ order′ k root r → Planting (k + 1) best′ seg′ order′ r
     sprouted-next best′ seg′ order′ r (by-line a (more z lt seg₁ ch ne rx) e q o) =
         subst (λ (x : List ℕ). Planting (k + 1) best′ seg′ x r) (sym o) (subst (λ (x : ℕ). Planting (k + 1) best′ seg′ (set order k a) x) (sym q) (line-next lt seg₁ best′ seg′ a z ch rx))
     sprouted-next best′ seg′ order′ r (by-line a (found z lt t q q₂) e q′ o) = absurd (e (z ∙ t))
@@ -281,17 +281,17 @@ module _ (lines : List Line) (n : ℕ) (head next fars add tip : List ℕ) (gv :
     sprouted-next best′ seg′ order′ r (by-root a best₁ seg₁ (nothing z lt q q′) e ff l x o) =
         subst (λ (y : List ℕ). Planting (k + 1) best′ seg′ y r) (sym o)
         (root-next lt r best′ seg′ (subst (λ (y : List ℕ). FirstFar y n root r) q ff) l
-        (subst (λ (y : List ℕ). Relaxed n next fars add (set y r 0) seg best′ seg′ (getD head r 0) 0) q
-        (subst (λ (y : List ℕ). Relaxed n next fars add (set best₁ r 0) y best′ seg′ (getD head r 0) 0) q′ x)))
+        (subst (λ (y : List ℕ). Relaxed n next ends (set y r 0) seg best′ seg′ (getD head r 0) 0) q
+        (subst (λ (y : List ℕ). Relaxed n next ends (set best₁ r 0) y best′ seg′ (getD head r 0) 0) q′ x)))
     sprouted-next best′ seg′ order′ r (ended a (more z lt s ch ne rx) e ff l o) = absurd (ne (sym z ∙ e))
     sprouted-next best′ seg′ order′ r (ended a (found z lt t q q₂) e ff l o) = absurd (omega (arith, lead-low lt, t))
     sprouted-next best′ seg′ order′ r (ended a (nothing z lt q q′) e ff l o) =
         subst (λ (y : List ℕ). Planting (k + 1) best′ seg′ y r) (sym o) (subst (λ (y : List ℕ). Planting (k + 1) y seg′ order r) (sym q) (subst (λ (y : List ℕ). Planting (k + 1) best y order r) (sym q′)
         (end-next lt r (subst (λ (y : List ℕ). FirstFar y n root r) q ff) l)))
 
-  pub plant-end : (k : ℕ) (best seg order : List ℕ) (rt : ℕ) → Planting k best seg order rt → k ≡ n - 1 → Holding (tree (n - 1) lines) best order tip
+  pub plant-end : (k : ℕ) (best seg order : List ℕ) (rt : ℕ) → Planting k best seg order rt → k ≡ n - 1 → Holding (tree (n - 1) lines) best order ends
   unfolding tree
-  plant-end k best seg order rt pl e = subst (λ (z : ℕ). Holding (grow lines (marks (n - 1)) z) best order tip) e (record { keyed = pl .front .keyed; entered = pl .entered })
+  plant-end k best seg order rt pl e = subst (λ (z : ℕ). Holding (grow lines (marks (n - 1)) z) best order ends) e (record { keyed = pl .front .keyed; entered = pl .entered })
 
 -- ---- first_far
 
@@ -314,23 +314,23 @@ stage-clear n best seg few pos lb ls fb fs = record {
   tops = λ m h. omega (arith, fb m h);
 }
 
-module _ (n : ℕ) (head next fars add tip best seg order best′ seg′ order′ : List ℕ) (k rt r : ℕ) where
-  pub sprouted-high : rt ≤ n → Sprouted n head next fars add tip best seg order best′ seg′ order′ k rt r → r ≤ n
+module _ (n : ℕ) (head next ends best seg order best′ seg′ order′ : List ℕ) (k rt r : ℕ) where
+  pub sprouted-high : rt ≤ n → Sprouted n head next ends best seg order best′ seg′ order′ k rt r → r ≤ n
   sprouted-high h (by-line a t e q o) = omega arith
   sprouted-high h (by-root a b s t e ff l x o) = omega arith
   sprouted-high h (ended a t e ff q o) = omega arith
 
-  pub sprouted-below : Stage n best seg → Tips n tip → Below n order → Sprouted n head next fars add tip best seg order best′ seg′ order′ k rt r → Below n order′
+  pub sprouted-below : Stage n best seg → Bounded n ends → Below n order → Sprouted n head next ends best seg order best′ seg′ order′ k rt r → Below n order′
   sprouted-below st tp o (by-line a t e q z) m h = rw z (below-set n order k a (turned-low t) o m h)
     where
-      turned-low : Turned n head next fars add tip best seg best′ seg′ 0 a → a < n
-      turned-low (more x l s ch ne rx) = rw x (tp .tip-ok (top seg % halves) (omega arith))
-      turned-low (found x l y p p₂) = rw x (tp .tip-ok (top seg % halves) (omega arith))
+      turned-low : Turned n head next ends best seg best′ seg′ 0 a → a < n
+      turned-low (more x l s ch ne rx) = rw x (tp .mark-ok (top seg % halves) (omega arith))
+      turned-low (found x l y p p₂) = rw x (tp .mark-ok (top seg % halves) (omega arith))
       turned-low (nothing x l p p′) = absurd (e x)
   sprouted-below st tp o (by-root a b s t e ff l x z) m h = rw z (below-set n order k r l o m h)
   sprouted-below st tp o (ended a t e ff q z) m h = rw z (o m h)
 
-  pub sprouted-stage : Stage n best seg → Tips n tip → Sprouted n head next fars add tip best seg order best′ seg′ order′ k rt r → Stage n best′ seg′
-  sprouted-stage st tp (by-line a t e q o) = turned-any n head next fars add tip best seg best′ seg′ 0 a st t
+  pub sprouted-stage : Stage n best seg → Bounded n ends → Sprouted n head next ends best seg order best′ seg′ order′ k rt r → Stage n best′ seg′
+  sprouted-stage st tp (by-line a t e q o) = turned-any n head next ends best seg best′ seg′ 0 a st t
   sprouted-stage st tp (by-root a b s t e ff l x o) = x .stage
-  sprouted-stage st tp (ended a t e ff q o) = turned-any n head next fars add tip best seg best′ seg′ 0 a st t
+  sprouted-stage st tp (ended a t e ff q o) = turned-any n head next ends best seg best′ seg′ 0 a st t

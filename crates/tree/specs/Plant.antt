@@ -7,7 +7,7 @@ use Rattle.network.specs.Standing.{Line}
 use Rattle.network.specs.Tree.{Entry, Tree, tree}
 use Rattle.nearest.specs.Heap as hp
 use Rattle.chains.specs.Chains.{Given}
-use Rattle.search.specs.Front.{Room, Relaxed, Turned, Keyed}
+use Rattle.search.specs.Front.{RoomSearch, Relaxed, Turned, Keyed}
 
 -- r is the first place from i on that holds `far`, or n
 pub record FirstFar (best : List ℕ) (n i r : ℕ) : Type 0 where
@@ -17,14 +17,14 @@ pub record FirstFar (best : List ℕ) (n i r : ℕ) : Type 0 where
   pub at : r < n → getD best r 0 ≡ hp.far
 
 -- the mark that enters k-th stands at place k of order
-pub data Sprouted (n : ℕ) (head next fars add tip best seg order best′ seg′ order′ : List ℕ) (k root r : ℕ) : Type 0 where
-  by-line : (a : ℕ) → Turned n head next fars add tip best seg best′ seg′ 0 a → (a ≡ 0 → ⊥) → r ≡ root → order′ ≡ set order k a
-      → Sprouted n head next fars add tip best seg order best′ seg′ order′ k root r
-  by-root : (a : ℕ) (best₁ seg₁ : List ℕ) → Turned n head next fars add tip best seg best₁ seg₁ 0 a → a ≡ 0 → FirstFar best₁ n root r → r < n
-      → Relaxed n next fars add (set best₁ r 0) seg₁ best′ seg′ (getD head r 0) 0 → order′ ≡ set order k r
-      → Sprouted n head next fars add tip best seg order best′ seg′ order′ k root r
-  ended : (a : ℕ) → Turned n head next fars add tip best seg best′ seg′ 0 a → a ≡ 0 → FirstFar best′ n root r → r ≡ n → order′ ≡ order
-      → Sprouted n head next fars add tip best seg order best′ seg′ order′ k root r
+pub data Sprouted (n : ℕ) (head next ends best seg order best′ seg′ order′ : List ℕ) (k root r : ℕ) : Type 0 where
+  by-line : (a : ℕ) → Turned n head next ends best seg best′ seg′ 0 a → (a ≡ 0 → ⊥) → r ≡ root → order′ ≡ set order k a
+      → Sprouted n head next ends best seg order best′ seg′ order′ k root r
+  by-root : (a : ℕ) (best₁ seg₁ : List ℕ) → Turned n head next ends best seg best₁ seg₁ 0 a → a ≡ 0 → FirstFar best₁ n root r → r < n
+      → Relaxed n next ends (set best₁ r 0) seg₁ best′ seg′ (getD head r 0) 0 → order′ ≡ set order k r
+      → Sprouted n head next ends best seg order best′ seg′ order′ k root r
+  ended : (a : ℕ) → Turned n head next ends best seg best′ seg′ 0 a → a ≡ 0 → FirstFar best′ n root r → r ≡ n → order′ ≡ order
+      → Sprouted n head next ends best seg order best′ seg′ order′ k root r
 
 -- order has the marks of the tree as they entered
 pub data Entered (order : List ℕ) : Tree → Type 0 where
@@ -32,20 +32,20 @@ pub data Entered (order : List ℕ) : Tree → Type 0 where
   enters : {e : Entry} {es : Tree} → getD order (length es) 0 ≡ e .mark → Entered order es → Entered order (e ∷ es)
 
 -- the arrays hold the tree: of each mark its distance and the line it came in by, and the order of entry
-pub record Holding (es : Tree) (best order tip : List ℕ) : Type 0 where
-  pub keyed : Keyed es best tip
+pub record Holding (es : Tree) (best order ends : List ℕ) : Type 0 where
+  pub keyed : Keyed es best ends
   pub entered : Entered order es
 
 -- it is the definition's
-abbrev pub Planted : ℕ → List ℕ → List ℕ → List ℕ → List ℕ → List ℕ → List ℕ → List ℕ → Type 0
-Planted n head next fars add tip best order = (lines : List Line) → Given lines n head next fars add tip → Holding (tree (n - 1) lines) best order tip
+abbrev pub Planted : ℕ → List ℕ → List ℕ → List ℕ → List ℕ → List ℕ → Type 0
+Planted n head next ends best order = (lines : List Line) → Given lines n head next ends → Holding (tree (n - 1) lines) best order ends
 
 -- the first n places hold numbers below n
 abbrev pub Below : ℕ → List ℕ → Type 0
 Below n xs = (k : ℕ) → k < n → getD xs k 0 < n
 
 -- room for the order of entry of the marks below n
-pub record Roomy (n : ℕ) (best seg order : List ℕ) : Type 0 where
-  pub room : Room n best seg
+pub record RoomTree (n : ℕ) (best seg order : List ℕ) : Type 0 where
+  pub room : RoomSearch n best seg
   pub some-mark : 0 < n
   pub orders : n ≤ length order

@@ -1,9 +1,9 @@
 // The tree of a book: all its pieces, by the same search as a path.
 ghost use Prim.Native.Nat.{_+_, _*_, _<_, _≤_};
 ghost use lib.ListN.{length};
-ghost use Rattle.chains.specs.Chains.{Nodes, Heads, Tips};
+ghost use Rattle.chains.specs.Chains.{Bounded, Heads};
 ghost use Rattle.search.specs.Front.{Stage};
-ghost use Rattle.tree.specs.Plant.{FirstFar, Sprouted, Planted, Below, Roomy};
+ghost use Rattle.tree.specs.Plant.{FirstFar, Sprouted, Planted, Below, RoomTree};
 
 // The first place from i on that holds FAR, or n.
 fn first_far(best: &[u64], n: usize, i: usize) -> usize
@@ -24,21 +24,20 @@ fn first_far(best: &[u64], n: usize, i: usize) -> usize
 fn sprout(
     head: &[u64],
     next: &[u64],
-    far: &[u64],
-    add: &[u64],
-    tip: &[u64],
+    ends: &[u64],
     best: &mut [u64],
     seg: &mut [u64],
     order: &mut [u64],
     n: usize,
-    cnt: usize,
     k: usize,
     root: usize,
 ) -> usize
-    requires { ⌜ Nodes n cnt (now next) (now far) (now add) ⌝ ∗ ⌜ Heads n cnt (now head) ⌝ ∗ ⌜ Tips n (now tip) ⌝ ∗ ⌜ Stage n (now best) (now seg) ⌝ ∗ ⌜ (root ≤ n) × (k < length (now order)) ⌝ }
-    ensures { λ r. ⌜ Sprouted n (now (head .entry)) (now (next .entry)) (now (far .entry)) (now (add .entry)) (now (tip .entry)) (now (best .entry)) (now (seg .entry)) (now (order .entry)) (now (best .exit)) (now (seg .exit)) (now (order .exit)) k root r ⌝ }
+    requires { ⌜ Bounded n (now ends) ⌝ ∗ ⌜ Heads n (now head) (now next) ⌝ ∗ ⌜ Stage n (now best) (now seg) ⌝
+        ∗ ⌜ (root ≤ n) × (k < length (now order)) ⌝ }
+    ensures { λ r. ⌜ Sprouted n (now (head .entry)) (now (next .entry)) (now (ends .entry)) (now (best .entry)) (now (seg .entry))
+        (now (order .entry)) (now (best .exit)) (now (seg .exit)) (now (order .exit)) k root r ⌝ }
 {
-    let m = search::turn(head, next, far, add, tip, best, seg, n, cnt, 0);
+    let m = search::turn(head, next, ends, best, seg, n, 0);
     if m != 0 {
         order[k] = m as u64;
         return root;
@@ -46,7 +45,7 @@ fn sprout(
     let r = first_far(best, n, root);
     if r < n {
         best[r] = 0;
-        search::relax(next, far, add, best, seg, n, cnt, head[r] as usize, 0);
+        search::relax(next, ends, best, seg, n, head[r] as usize, 0);
         order[k] = r as u64;
     }
     r
@@ -56,17 +55,15 @@ fn sprout(
 pub fn plant(
     head: &[u64],
     next: &[u64],
-    far: &[u64],
-    add: &[u64],
-    tip: &[u64],
+    ends: &[u64],
     best: &mut [u64],
     seg: &mut [u64],
     order: &mut [u64],
     n: usize,
-    cnt: usize,
 )
-    requires { ⌜ Nodes n cnt (now next) (now far) (now add) ⌝ ∗ ⌜ Heads n cnt (now head) ⌝ ∗ ⌜ Tips n (now tip) ⌝ ∗ ⌜ Roomy n (now best) (now seg) (now order) ⌝ }
-    ensures { λ _. ⌜ Planted n (now (head .entry)) (now (next .entry)) (now (far .entry)) (now (add .entry)) (now (tip .entry)) (now (best .exit)) (now (order .exit)) ⌝ ∗ ⌜ Below n (now (order .exit)) ⌝ }
+    requires { ⌜ Bounded n (now ends) ⌝ ∗ ⌜ Heads n (now head) (now next) ⌝ ∗ ⌜ RoomTree n (now best) (now seg) (now order) ⌝ }
+    ensures { λ _. ⌜ Planted n (now (head .entry)) (now (next .entry)) (now (ends .entry)) (now (best .exit)) (now (order .exit)) ⌝
+        ∗ ⌜ Below n (now (order .exit)) ⌝ }
 {
     chains::zero(order, n);
     nearest::clear(best, n);
@@ -74,7 +71,7 @@ pub fn plant(
     let mut root = 1;
     let mut k = 0;
     while k + 1 < n {
-        root = sprout(head, next, far, add, tip, best, seg, order, n, cnt, k, root);
+        root = sprout(head, next, ends, best, seg, order, n, k, root);
         k += 1;
     }
 }

@@ -1,9 +1,10 @@
+use Prim.Native.Nat.{_/_}
 use lib.ListN.{length-set, getD}
 use Rattle.chains.specs.Chains.{halves}
-use Prim.Native.Nat.{_/_, ℕ, _<_}
+use Rattle.search.proofs.Ways.{way-low, walk-end, walk-room, walk-falls, walk-next, walk-put}
 use borrow.Author.Needs.{needs}
 use native.Mathlib.Omega.{arith}
-use Rattle.search.proofs.Ways.{way-low, walk-end, walk-room, walk-falls, walk-next, walk-put}
+use Prim.Native.Nat.{ℕ, _<_}
 use borrow.Fn.Kinds.{In}
 use borrow.Fn.PlainCycle.{Measures, is, falls, and}
 use Rattle.search.proofs.way.Reads as way
@@ -22,11 +23,15 @@ abbrev way-below : ℕ → In 3 way-kinds.ps
 way-below t = and 3 way-kinds.ps (falls 3 way-kinds.ps _<_ μ-way t) way.Pre
 
 way-mul-key : (t : ℕ) → way-lts.Need-mul-key (way-below t, way.Post) (way-at t) way.Post
-way-mul-key t c = omega (arith, way-low (c .before .before .before .pre .1 .way))
+way-mul-key t c =
+    let entry : way-lts.Start (way-below t, way.Post) (way-at t) way.Post = search in
+    omega (arith, way-low (entry .pre .1 .way))
 
 way-shared-slice-read-key :
     (t : ℕ) → way-lts.Need-shared-slice-read-key (way-below t, way.Post) (way-at t) way.Post
-way-shared-slice-read-key t c = omega (arith, way-low (c .before .before .before .before .pre .1 .way))
+way-shared-slice-read-key t c =
+    let entry : way-lts.Start (way-below t, way.Post) (way-at t) way.Post = search in
+    way-low (entry .pre .1 .way)
 
 way-returns : (t : ℕ) → way-lts.Need-returns (way-below t, way.Post) (way-at t) way.Post
 way-returns t c = λ hs w. walk-end w (omega arith) _ _
@@ -48,7 +53,9 @@ way-mul-out t c = search needs
 
 way-slice-write-out :
     (t : ℕ) → way-lts.Need-slice-write-out (way-below t, way.Post) (way-at t) way.Post
-way-slice-write-out t c = walk-room _ _ _ _ _ (λ e. omega arith) (c .before .before .before .before .before .pre .1)
+way-slice-write-out t c =
+    let entry : way-lts.Start (way-below t, way.Post) (way-at t) way.Post = search in
+    walk-room _ _ _ _ _ (λ e. omega arith) (entry .pre .1)
 
 way-add-way : (t : ℕ) → way-lts.Need-add-way (way-below t, way.Post) (way-at t) way.Post
 way-add-way t c = search needs
@@ -61,7 +68,9 @@ way-shared-slice-read-way :
 way-shared-slice-read-way t c = search needs
 
 way-way-requires : (t : ℕ) → way-lts.Need-way-requires (way-below t, way.Post) (way-at t) way.Post
-way-way-requires t c κs = (walk-falls _ _ _ _ _ (λ e. omega arith) (c .before .before .before .before .before .before .before .pre .1) t (c .before .before .before .before .before .before .before .pre .0), walk-next _ _ _ _ _ (λ e. omega arith) (c .before .before .before .before .before .before .before .pre .1))
+way-way-requires t c κs =
+    let entry : way-lts.Start (way-below t, way.Post) (way-at t) way.Post = search in
+    (walk-falls _ _ _ _ _ (λ e. omega arith) (entry .pre .1) t (entry .pre .0), walk-next _ _ _ _ _ (λ e. omega arith) (entry .pre .1))
 
 way-same-length : (t : ℕ) → way-lts.Need-same-length (way-below t, way.Post) (way-at t) way.Post
 way-same-length t c = simp length-set at (c .before .before .way .kept .1 .1 .0)

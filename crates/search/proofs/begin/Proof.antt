@@ -34,7 +34,7 @@ relax-requires c κs =
     let p = entry .pre in
     let a = after-clear .clear .ensures in
     let b = after-clear2 .clear2 .ensures in
-    (p .0, (stage-start _ _ (after-clear .clear .last .0) (after-clear2 .clear2 .last .0) (p .1 .1 .0 .few) (p .1 .1 .1) (omega (arith, a .0, p .1 .1 .0 .bests)) (omega (arith, b .0, p .1 .1 .0 .segs)) (a .1) (λ i h. b .1 i (omega arith)), (p .1 .0 .head-ok _ (p .1 .1 .1), omega arith)))
+    (p .0, (p .1 .0 .chained _ (p .1 .1 .1), (stage-start _ _ (after-clear .clear .last .0) (after-clear2 .clear2 .last .0) (p .1 .1 .0 .few) (p .1 .1 .1) (omega (arith, a .0, p .1 .1 .0 .bests)) (omega (arith, b .0, p .1 .1 .0 .segs)) (a .1) (λ i h. b .1 i (omega arith)), omega arith)))
 
 same-length : tie.Need-same-length
 same-length c =

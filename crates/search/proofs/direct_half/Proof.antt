@@ -13,10 +13,10 @@ shared-slice-read-least-sum c = search needs
 least-sum-requires : tie.Need-least-sum-requires
 least-sum-requires c κs =
     let s : tie.Start = search in
-    (s .pre .0, s .pre .1 .0 .head-ok (s .args .r) (s .pre .1 .1 .1 .r-ok))
+    (s .pre .0, s .pre .1 .0 .chained (s .args .r) (s .pre .1 .1 .r-ok))
 
 returns : tie.Need-returns
-returns c = direct-none _ _ _ _ _ _ _ _
+returns c = direct-none _ _ _ _ _ _
 
 mul-if2 : tie.Need-mul-if2
 mul-if2 c = search needs
@@ -28,10 +28,10 @@ returns-2 : tie.Need-returns-2
 returns-2 c =
     let entry : tie.Start = search in
     let p = entry .pre in
-    direct-of _ _ _ _ _ _ _ _ _ (p .1 .1 .1) (c .before .before .before .least-sum .ensures) (omega arith) (c .if2 .taken)
+    direct-of _ _ _ _ _ _ _ (p .1 .1) (c .before .before .before .least-sum .ensures) (omega arith) (c .if2 .taken)
 
 returns-3 : tie.Need-returns-3
-returns-3 c = direct-none _ _ _ _ _ _ _ _
+returns-3 c = direct-none _ _ _ _ _ _
 
 pub direct-half-spec : {M : Type 1} → statement M
 direct-half-spec =

@@ -1,48 +1,69 @@
-use Prim.Native.Nat.{_-_, _≤_}
+use Prim.Native.Nat.{_<_}
+use mathlib.Core.List.{List}
+use Prim.Native.Nat.{ℕ}
+use Rattle.chains.specs.Chains.{Chain, halves}
+use Rattle.chains.proofs.Halves.{stepsLeft, steps-fall, chain-low, chain-rest}
+use Rattle.search.proofs.Direct.{Least, least-start, least-turn, least-end}
 use borrow.Author.Needs.{needs}
 use native.Mathlib.Omega.{arith}
-use Rattle.search.proofs.Direct.{Least, least-start, least-turn, least-end}
 use Rattle.search.proofs.least_sum.Statement.{statement}
 use Rattle.search.proofs.least_sum.Tie as tie
 
 abbrev Inv-loop : tie.InvT-loop
-Inv-loop next far add n cnt first s₀ i₀ s i = (i ≤ cnt) × Least next add first i s
+Inv-loop next ends n first s₀ h₀ s h = ((hs : List ℕ) × Chain next h hs) × Least next ends first h s
 
 abbrev μ-loop : tie.MeasureT-loop
-μ-loop next far add n cnt first s₀ i₀ s i = i
+μ-loop next ends n first s₀ h₀ s h = stepsLeft next h
 
 loop-holds : tie.Need-loop-holds Inv-loop μ-loop
-loop-holds c = (omega arith, least-start _ _ _)
+loop-holds c =
+    let entry : tie.Start Inv-loop μ-loop = search in
+    ((entry .pre .1 .hs, entry .pre .1 .chain), least-start _ _ _)
 
-sub-j : tie.Need-sub-j Inv-loop μ-loop
-sub-j c = search needs
+mul-e : tie.Need-mul-e Inv-loop μ-loop
+mul-e c =
+    let at-loop : tie.At-loop Inv-loop μ-loop = search in
+    omega (arith, chain-low (at-loop .loop .inv .0 .1))
 
-mul-lesser : tie.Need-mul-lesser Inv-loop μ-loop
-mul-lesser c = search needs
+shared-slice-read-e : tie.Need-shared-slice-read-e Inv-loop μ-loop
+shared-slice-read-e c =
+    let at-loop : tie.At-loop Inv-loop μ-loop = search in
+    let entry : tie.Start Inv-loop μ-loop = search in
+    omega (arith, chain-low (at-loop .loop .inv .0 .1), entry .pre .0 .ends-at)
 
-shared-slice-read-lesser : tie.Need-shared-slice-read-lesser Inv-loop μ-loop
-shared-slice-read-lesser c = omega arith
+sub-lesser : tie.Need-sub-lesser Inv-loop μ-loop
+sub-lesser c = search needs
+
+add-lesser : tie.Need-add-lesser Inv-loop μ-loop
+add-lesser c =
+    let at-loop : tie.At-loop Inv-loop μ-loop = search in
+    let entry : tie.Start Inv-loop μ-loop = search in
+    let lt = chain-low (at-loop .loop .inv .0 .1) in
+    omega (arith, lt, entry .pre .0 .short (at-loop .loop .h) lt)
 
 lesser-requires : tie.Need-lesser-requires Inv-loop μ-loop
 lesser-requires c κs = search needs
 
-mul-i : tie.Need-mul-i Inv-loop μ-loop
-mul-i c = search needs
+mul-h : tie.Need-mul-h Inv-loop μ-loop
+mul-h c =
+    let at-loop : tie.At-loop Inv-loop μ-loop = search in
+    omega (arith, chain-low (at-loop .loop .inv .0 .1))
 
-shared-slice-read-i : tie.Need-shared-slice-read-i Inv-loop μ-loop
-shared-slice-read-i c = omega arith
+shared-slice-read-h : tie.Need-shared-slice-read-h Inv-loop μ-loop
+shared-slice-read-h c =
+    let at-loop : tie.At-loop Inv-loop μ-loop = search in
+    let entry : tie.Start Inv-loop μ-loop = search in
+    omega (arith, chain-low (at-loop .loop .inv .0 .1), entry .pre .1 .nexts)
 
 loop-less : tie.Need-loop-less Inv-loop μ-loop
 loop-less c =
     let at-loop : tie.At-loop Inv-loop μ-loop = search in
-    let entry : tie.Start Inv-loop μ-loop = search in
-    omega (arith, entry .pre .0 .falls (at-loop .loop .i - 1) (omega arith))
+    steps-fall (at-loop .loop .inv .0 .1) (omega arith)
 
 loop-again : tie.Need-loop-again Inv-loop μ-loop
 loop-again c =
     let at-loop : tie.At-loop Inv-loop μ-loop = search in
-    let entry : tie.Start Inv-loop μ-loop = search in
-    (omega (arith, entry .pre .0 .falls (at-loop .loop .i - 1) (omega arith)), least-turn _ _ _ _ _ _ (at-loop .loop .inv .1) (omega arith) (c .before .lesser .ensures))
+    (chain-rest (at-loop .loop .inv .0 .1) (omega arith), least-turn _ _ _ _ _ _ (at-loop .loop .inv .1) (omega arith) (c .before .lesser .ensures))
 
 returns : tie.Need-returns Inv-loop μ-loop
 returns c = least-end _ _ _ _ _ (c .before .loop .inv .1) (omega arith)
@@ -54,12 +75,13 @@ least-sum-spec =
     Inv-loop
     μ-loop
     loop-holds
-    sub-j
-    mul-lesser
-    shared-slice-read-lesser
+    mul-e
+    shared-slice-read-e
+    sub-lesser
+    add-lesser
     lesser-requires
-    mul-i
-    shared-slice-read-i
+    mul-h
+    shared-slice-read-h
     loop-less
     loop-again
     returns)

@@ -1,68 +1,84 @@
-use Prim.Native.Nat.{_-_, _≤_}
+use Prim.Native.Nat.{ℕ}
+use mathlib.Core.Path.{_≡_, refl}
+use mathlib.Core.List.{List}
+use lib.ListN.{length}
+use Rattle.chains.specs.Chains.{Chain}
+use Rattle.chains.proofs.Halves.{stepsLeft, steps-fall, chain-low, chain-rest}
+use Rattle.search.proofs.Laws.{Relaxing, relax-start, relax-turn, relax-end}
 use borrow.Author.Needs.{needs}
 use native.Mathlib.Omega.{arith}
-use mathlib.Core.Path.{_≡_, refl}
-use lib.ListN.{length}
-use Rattle.search.proofs.Laws.{Relaxing, relax-start, relax-turn, relax-end}
 use Rattle.search.proofs.relax.Statement.{statement}
 use Rattle.search.proofs.relax.Tie as tie
 
 abbrev Inv-loop : tie.InvT-loop
-Inv-loop next far add best₀ seg₀ n cnt first base i₀ best seg i = (i ≤ cnt) × Relaxing n next far add best₀ seg₀ best seg first base i × (length best ≡ length best₀) × (length seg ≡ length seg₀)
+Inv-loop next ends best₀ seg₀ n first base h₀ best seg h = ((hs : List ℕ) × Chain next h hs) × Relaxing n next ends best₀ seg₀ best seg first base h × (length best ≡ length best₀) × (length seg ≡ length seg₀)
 
 abbrev μ-loop : tie.MeasureT-loop
-μ-loop next far add best₀ seg₀ n cnt first base i₀ best seg i = i
+μ-loop next ends best₀ seg₀ n first base h₀ best seg h = stepsLeft next h
 
 loop-holds : tie.Need-loop-holds Inv-loop μ-loop
 loop-holds c =
     let entry : tie.Start Inv-loop μ-loop = search in
-    (omega arith, relax-start _ _ _ _ _ _ _ _ (entry .pre .1 .0), refl, refl)
+    ((entry .pre .1 .0 .hs, entry .pre .1 .0 .chain), relax-start _ _ _ _ _ _ _ (entry .pre .1 .1 .0), refl, refl)
 
-sub-j : tie.Need-sub-j Inv-loop μ-loop
-sub-j c = search needs
+mul-e : tie.Need-mul-e Inv-loop μ-loop
+mul-e c =
+    let at-loop : tie.At-loop Inv-loop μ-loop = search in
+    omega (arith, chain-low (at-loop .loop .inv .0 .1))
 
-mul-offer : tie.Need-mul-offer Inv-loop μ-loop
-mul-offer c = search needs
+shared-slice-read-e : tie.Need-shared-slice-read-e Inv-loop μ-loop
+shared-slice-read-e c =
+    let at-loop : tie.At-loop Inv-loop μ-loop = search in
+    let entry : tie.Start Inv-loop μ-loop = search in
+    omega (arith, chain-low (at-loop .loop .inv .0 .1), entry .pre .0 .ends-at)
 
-shared-slice-read-offer : tie.Need-shared-slice-read-offer Inv-loop μ-loop
-shared-slice-read-offer c = omega arith
+sub-sum : tie.Need-sub-sum Inv-loop μ-loop
+sub-sum c = search needs
 
-mul-offer-2 : tie.Need-mul-offer-2 Inv-loop μ-loop
-mul-offer-2 c = search needs
-
-shared-slice-read-offer-2 : tie.Need-shared-slice-read-offer-2 Inv-loop μ-loop
-shared-slice-read-offer-2 c = search needs
+add-sum : tie.Need-add-sum Inv-loop μ-loop
+add-sum c =
+    let at-loop : tie.At-loop Inv-loop μ-loop = search in
+    let entry : tie.Start Inv-loop μ-loop = search in
+    let lt = chain-low (at-loop .loop .inv .0 .1) in
+    omega (arith, lt, entry .pre .0 .short (at-loop .loop .h) lt)
 
 add-offer : tie.Need-add-offer Inv-loop μ-loop
 add-offer c =
     let at-loop : tie.At-loop Inv-loop μ-loop = search in
     let entry : tie.Start Inv-loop μ-loop = search in
-    omega (arith, entry .pre .0 .add-ok (at-loop .loop .i - 1) (omega arith))
+    let lt = chain-low (at-loop .loop .inv .0 .1) in
+    omega (arith, lt, entry .pre .0 .short (at-loop .loop .h) lt)
 
 offer-requires : tie.Need-offer-requires Inv-loop μ-loop
 offer-requires c κs =
     let at-loop : tie.At-loop Inv-loop μ-loop = search in
     let entry : tie.Start Inv-loop μ-loop = search in
-    (at-loop .loop .inv .1 .stage, entry .pre .0 .far-ok (at-loop .loop .i - 1) (omega arith))
+    (at-loop .loop .inv .1 .stage, entry .pre .0 .mark-ok (at-loop .loop .h) (chain-low (at-loop .loop .inv .0 .1)))
 
-mul-i : tie.Need-mul-i Inv-loop μ-loop
-mul-i c = search needs
+mul-h : tie.Need-mul-h Inv-loop μ-loop
+mul-h c =
+    let at-loop : tie.At-loop Inv-loop μ-loop = search in
+    omega (arith, chain-low (at-loop .loop .inv .0 .1))
 
-shared-slice-read-i : tie.Need-shared-slice-read-i Inv-loop μ-loop
-shared-slice-read-i c = search needs
+shared-slice-read-h : tie.Need-shared-slice-read-h Inv-loop μ-loop
+shared-slice-read-h c =
+    let at-loop : tie.At-loop Inv-loop μ-loop = search in
+    let entry : tie.Start Inv-loop μ-loop = search in
+    omega (arith, chain-low (at-loop .loop .inv .0 .1), entry .pre .1 .0 .nexts)
 
 loop-less : tie.Need-loop-less Inv-loop μ-loop
 loop-less c =
     let at-loop : tie.At-loop Inv-loop μ-loop = search in
-    let entry : tie.Start Inv-loop μ-loop = search in
-    omega (arith, c, entry .pre .0 .falls (at-loop .loop .i - 1) (omega (arith, c)))
+    steps-fall (at-loop .loop .inv .0 .1) (omega arith)
 
 loop-again : tie.Need-loop-again Inv-loop μ-loop
 loop-again c =
     let after-offer : tie.After-offer Inv-loop μ-loop = search in
     let at-loop : tie.At-loop Inv-loop μ-loop = search in
     let entry : tie.Start Inv-loop μ-loop = search in
-    (omega (arith, entry .pre .0 .falls (at-loop .loop .i - 1) (omega arith)), relax-turn _ _ _ _ _ _ _ _ _ _ _ _ _ _ (entry .pre .0) (at-loop .loop .inv .1) (omega arith) (omega arith) (after-offer .offer .ensures), omega arith, omega arith)
+    let v = at-loop .loop .inv in
+    let lt = entry .pre .0 .mark-ok (at-loop .loop .h) (chain-low (v .0 .1)) in
+    (chain-rest (v .0 .1) (omega arith), relax-turn _ _ _ _ _ _ _ _ _ _ _ _ (v .1) (omega arith) lt (after-offer .offer .ensures), omega arith, omega arith)
 
 same-length : tie.Need-same-length Inv-loop μ-loop
 same-length c = omega arith
@@ -71,7 +87,7 @@ same-length-2 : tie.Need-same-length-2 Inv-loop μ-loop
 same-length-2 c = omega arith
 
 returns : tie.Need-returns Inv-loop μ-loop
-returns c = relax-end _ _ _ _ _ _ _ _ _ _ _ (c .before .loop .inv .1) (omega arith)
+returns c = relax-end _ _ _ _ _ _ _ _ _ _ (c .before .loop .inv .1) (omega arith)
 
 pub relax-spec : {M : Type 1} → statement M
 relax-spec =
@@ -80,15 +96,14 @@ relax-spec =
     Inv-loop
     μ-loop
     loop-holds
-    sub-j
-    mul-offer
-    shared-slice-read-offer
-    mul-offer-2
-    shared-slice-read-offer-2
+    mul-e
+    shared-slice-read-e
+    sub-sum
+    add-sum
     add-offer
     offer-requires
-    mul-i
-    shared-slice-read-i
+    mul-h
+    shared-slice-read-h
     loop-less
     loop-again
     same-length

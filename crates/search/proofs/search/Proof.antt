@@ -11,15 +11,15 @@ use Rattle.search.proofs.search.Statement.{statement}
 use Rattle.search.proofs.search.Tie as tie
 
 abbrev Inv-loop : tie.InvT-loop
-Inv-loop head next far add tip best₀ seg₀ n cnt r to k₀ best seg k = (0 < k) × (k < n) × Stage n best seg × (length best ≡ length best₀) × (length seg ≡ length seg₀) × ((sub : List Line) (g : Given sub n head next far add tip) → Searching sub n head next far add tip g r to k best seg)
+Inv-loop head next ends best₀ seg₀ n r to k₀ best seg k = (0 < k) × (k < n) × Stage n best seg × (length best ≡ length best₀) × (length seg ≡ length seg₀) × ((sub : List Line) (g : Given sub n head next ends) → Searching sub n head next ends g r to k best seg)
 
 abbrev μ-loop : tie.MeasureT-loop
-μ-loop head next far add tip best₀ seg₀ n cnt r to k₀ best seg k = n - k
+μ-loop head next ends best₀ seg₀ n r to k₀ best seg k = n - k
 
 begin-requires : tie.Need-begin-requires Inv-loop μ-loop
 begin-requires c κs =
     let entry : tie.Start Inv-loop μ-loop = search in
-    let p = entry .pre in (p .0, (p .1 .0, (p .1 .1 .1 .0, p .1 .1 .1 .1 .r-ok)))
+    let p = entry .pre in (p .0, (p .1 .0, (p .1 .1 .0, p .1 .1 .1 .r-ok)))
 
 loop-holds : tie.Need-loop-holds Inv-loop μ-loop
 loop-holds c =
@@ -27,7 +27,7 @@ loop-holds c =
     let entry : tie.Start Inv-loop μ-loop = search in
     let p = entry .pre in
     let b = after-begin .begin .ensures in
-    (omega arith, omega (arith, p .1 .1 .1 .1 .r-ok, p .1 .1 .1 .1 .to-ok, p .1 .1 .1 .1 .apart), b .offered .stage, refl, refl, λ sub g. begun-searching sub _ _ _ _ _ _ g _ _ _ _ (p .1 .1 .1 .1) b)
+    (omega arith, omega (arith, p .1 .1 .1 .r-ok, p .1 .1 .1 .to-ok, p .1 .1 .1 .apart), b .offered .stage, refl, refl, λ sub g. begun-searching sub _ _ _ _ g _ _ _ _ (p .1 .1 .1) b)
 
 add-loop : tie.Need-add-loop Inv-loop μ-loop
 add-loop c = omega arith
@@ -35,7 +35,7 @@ add-loop c = omega arith
 turn-requires : tie.Need-turn-requires Inv-loop μ-loop
 turn-requires c κs =
     let entry : tie.Start Inv-loop μ-loop = search in
-    let p = entry .pre in (p .0, (p .1 .0, (p .1 .1 .0, c .before .before .before .loop .inv .2)))
+    let p = entry .pre in (p .0, (p .1 .0, c .before .before .before .loop .inv .2))
 
 same-length : tie.Need-same-length Inv-loop μ-loop
 same-length c = omega arith
@@ -48,9 +48,8 @@ returns c =
     let after-turn : tie.After-turn Inv-loop μ-loop = search in
     let at-loop : tie.At-loop Inv-loop μ-loop = search in
     let after-begin : tie.After-begin Inv-loop μ-loop = search in
-    let after-shared-slice-known5 : tie.After-shared-slice-known5 Inv-loop μ-loop = search in
     let entry : tie.Start Inv-loop μ-loop = search in
-    λ sub g. turned-none sub _ _ _ _ _ _ g _ _ _ _ _ _ _ _ (at-loop .loop .inv .2) (omega (arith, entry .pre .1 .1 .1 .0 .few)) (at-loop .loop .inv .5 sub g) (after-turn .turn .ensures) (omega arith) (omega arith)
+    λ sub g. turned-none sub _ _ _ _ g _ _ _ _ _ _ _ _ (at-loop .loop .inv .2) (omega (arith, entry .pre .1 .1 .0 .few)) (at-loop .loop .inv .5 sub g) (after-turn .turn .ensures) (omega arith) (omega arith)
 
 same-length-3 : tie.Need-same-length-3 Inv-loop μ-loop
 same-length-3 c = omega arith
@@ -63,9 +62,8 @@ returns-2 c =
     let after-turn : tie.After-turn Inv-loop μ-loop = search in
     let at-loop : tie.At-loop Inv-loop μ-loop = search in
     let after-begin : tie.After-begin Inv-loop μ-loop = search in
-    let after-shared-slice-known5 : tie.After-shared-slice-known5 Inv-loop μ-loop = search in
     let entry : tie.Start Inv-loop μ-loop = search in
-    λ sub g. turned-found sub _ _ _ _ _ _ g _ _ _ _ _ _ _ _ (at-loop .loop .inv .2) (omega (arith, entry .pre .1 .1 .1 .0 .few)) (at-loop .loop .inv .5 sub g) (after-turn .turn .ensures) (λ e. omega arith) (omega arith) (omega arith)
+    λ sub g. turned-found sub _ _ _ _ g _ _ _ _ _ _ _ _ (at-loop .loop .inv .2) (omega (arith, entry .pre .1 .1 .0 .few)) (at-loop .loop .inv .5 sub g) (after-turn .turn .ensures) (λ e. omega arith) (omega arith) (omega arith)
 
 add-k : tie.Need-add-k Inv-loop μ-loop
 add-k c = omega arith
@@ -78,14 +76,13 @@ loop-again c =
     let after-turn : tie.After-turn Inv-loop μ-loop = search in
     let at-loop : tie.At-loop Inv-loop μ-loop = search in
     let after-begin : tie.After-begin Inv-loop μ-loop = search in
-    let after-shared-slice-known5 : tie.After-shared-slice-known5 Inv-loop μ-loop = search in
     let entry : tie.Start Inv-loop μ-loop = search in (
       omega arith,
       omega arith,
-      turned-any _ _ _ _ _ _ _ _ _ _ _ _ (at-loop .loop .inv .2) (after-turn .turn .ensures),
+      turned-any _ _ _ _ _ _ _ _ _ _ (at-loop .loop .inv .2) (after-turn .turn .ensures),
       omega (arith, c),
       omega arith,
-      λ sub g. turned-more sub _ _ _ _ _ _ g _ _ _ _ _ _ _ _ (at-loop .loop .inv .2) (omega (arith, entry .pre .1 .1 .1 .0 .few)) (at-loop .loop .inv .5 sub g) (after-turn .turn .ensures) (λ e. omega arith) (λ e. omega arith),
+      λ sub g. turned-more sub _ _ _ _ g _ _ _ _ _ _ _ _ (at-loop .loop .inv .2) (omega (arith, entry .pre .1 .1 .0 .few)) (at-loop .loop .inv .5 sub g) (after-turn .turn .ensures) (λ e. omega arith) (λ e. omega arith),
     )
 
 same-length-5 : tie.Need-same-length-5 Inv-loop μ-loop
@@ -95,7 +92,7 @@ same-length-6 : tie.Need-same-length-6 Inv-loop μ-loop
 same-length-6 c = omega arith
 
 returns-3 : tie.Need-returns-3 Inv-loop μ-loop
-returns-3 c = λ sub g. search-end sub _ _ _ _ _ _ g _ _ _ _ _ (c .before .loop .inv .5 sub g) (omega arith) refl
+returns-3 c = λ sub g. search-end sub _ _ _ _ g _ _ _ _ _ (c .before .loop .inv .5 sub g) (omega arith) refl
 
 pub search-spec : {M : Type 1} → statement M
 search-spec =

@@ -1,11 +1,11 @@
 use Prim.Native.Nat.{_%_}
-use borrow.Author.Needs.{needs}
-use native.Mathlib.Omega.{arith}
 use mathlib.Core.Path.{refl}
 use lib.ListN.{getD}
 use Rattle.chains.specs.Chains.{halves}
 use Rattle.search.specs.Front.{more, found, nothing}
 use Rattle.search.proofs.Laws.{stage-close}
+use native.Mathlib.Omega.{arith}
+use borrow.Author.Needs.{needs}
 use Rattle.search.proofs.turn.Statement.{statement}
 use Rattle.search.proofs.turn.Tie as tie
 
@@ -27,17 +27,18 @@ returns-2 c = found refl (omega arith) (omega arith) refl refl
 close-requires : tie.Need-close-requires
 close-requires c κs =
     let entry : tie.Start = search in
-    (entry .pre .1 .1 .1 .heap, entry .pre .1 .1 .0 .tip-ok (getD (entry .args .seg .now) 1 0 % halves) (omega arith))
+    let p = entry .pre in
+    (p .1 .1 .heap, p .0 .mark-ok (getD (entry .args .seg .now) 1 0 % halves) (omega arith))
 
 mul-relax : tie.Need-mul-relax
-mul-relax c =
-    let entry : tie.Start = search in
-    omega (arith, entry .pre .1 .1 .0 .tip-ok (getD (entry .args .seg .now) 1 0 % halves) (omega arith), entry .pre .1 .1 .1 .heap .few)
+mul-relax c = search needs
 
 shared-slice-read-relax : tie.Need-shared-slice-read-relax
 shared-slice-read-relax c =
     let entry : tie.Start = search in
-    omega (arith, entry .pre .1 .1 .0 .tip-ok (getD (entry .args .seg .now) 1 0 % halves) (omega arith), entry .pre .1 .0 .heads)
+    let p = entry .pre in
+    let ok = p .0 .mark-ok (getD (entry .args .seg .now) 1 0 % halves) (omega arith) in
+    omega (arith, ok, p .1 .0 .heads)
 
 sub-relax : tie.Need-sub-relax
 sub-relax c = search needs
@@ -47,8 +48,8 @@ relax-requires c κs =
     let after-close : tie.After-close = search in
     let entry : tie.Start = search in
     let p = entry .pre in
-    let ok = p .1 .1 .0 .tip-ok (getD (entry .args .seg .now) 1 0 % halves) (omega arith) in
-    (p .0, (stage-close _ _ _ _ _ (p .1 .1 .1) ok (after-close .close .ensures), (p .1 .0 .head-ok _ ok, omega arith)))
+    let ok = p .0 .mark-ok (getD (entry .args .seg .now) 1 0 % halves) (omega arith) in
+    (p .0, (p .1 .0 .chained _ ok, (stage-close _ _ _ _ _ (p .1 .1) ok (after-close .close .ensures), omega arith)))
 
 same-length : tie.Need-same-length
 same-length c = search needs

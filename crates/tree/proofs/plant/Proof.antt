@@ -13,10 +13,10 @@ use Rattle.tree.proofs.plant.Statement.{statement}
 use Rattle.tree.proofs.plant.Tie as tie
 
 abbrev Inv-loop : tie.InvT-loop
-Inv-loop head next far add tip best₀ seg₀ order₀ n cnt root₀ k₀ best seg order root k = (k < n) × (root ≤ n) × Stage n best seg × (length best ≡ length best₀) × (length seg ≡ length seg₀) × (length order ≡ length order₀) × Below n order × ((lines : List Line) (g : Given lines n head next far add tip) → Planting lines n head next far add tip g k best seg order root)
+Inv-loop head next ends best₀ seg₀ order₀ n root₀ k₀ best seg order root k = (k < n) × (root ≤ n) × Stage n best seg × (length best ≡ length best₀) × (length seg ≡ length seg₀) × (length order ≡ length order₀) × Below n order × ((lines : List Line) (g : Given lines n head next ends) → Planting lines n head next ends g k best seg order root)
 
 abbrev μ-loop : tie.MeasureT-loop
-μ-loop head next far add tip best₀ seg₀ order₀ n cnt root₀ k₀ best seg order root k = n - k
+μ-loop head next ends best₀ seg₀ order₀ n root₀ k₀ best seg order root k = n - k
 
 zero-requires : tie.Need-zero-requires Inv-loop μ-loop
 zero-requires c κs = search needs
@@ -35,7 +35,7 @@ loop-holds c =
     let after-clear : tie.After-clear Inv-loop μ-loop = search in
     let after-zero : tie.After-zero Inv-loop μ-loop = search in
     let entry : tie.Start Inv-loop μ-loop = search in
-    let p = entry .pre .1 .1 .1 in
+    let p = entry .pre .1 .1 in
     let z = after-zero .zero .ensures in
     let a = after-clear .clear .ensures in
     let b = c .before .before .clear2 .ensures in (
@@ -46,7 +46,7 @@ loop-holds c =
       refl,
       refl,
       λ k h. omega (arith, z k h),
-      λ lines g. plant-start lines _ _ _ _ _ _ g (after-clear .clear .last .0) (c .before .before .clear2 .last .0) _ (a .1) (λ i h. b .1 i (omega arith)),
+      λ lines g. plant-start lines _ _ _ _ g (after-clear .clear .last .0) (c .before .before .clear2 .last .0) _ (a .1) (λ i h. b .1 i (omega arith)),
     )
 
 add-loop : tie.Need-add-loop Inv-loop μ-loop
@@ -57,7 +57,7 @@ sprout-requires c κs =
     let at-loop : tie.At-loop Inv-loop μ-loop = search in
     let entry : tie.Start Inv-loop μ-loop = search in
     let p = entry .pre in
-    (p .0, (p .1 .0, (p .1 .1 .0, (at-loop .loop .inv .2, (at-loop .loop .inv .1, omega (arith, c, p .1 .1 .1 .orders, at-loop .loop .inv))))))
+    (p .0, (p .1 .0, (at-loop .loop .inv .2, (at-loop .loop .inv .1, omega (arith, c, p .1 .1 .orders, at-loop .loop .inv)))))
 
 add-k : tie.Need-add-k Inv-loop μ-loop
 add-k c = search needs
@@ -75,13 +75,13 @@ loop-again c =
     let e = after-sprout .sprout .ensures in
     let p = entry .pre in (
       omega arith,
-      sprouted-high _ _ _ _ _ _ _ _ _ _ _ _ _ _ _ (v .1) e,
-      sprouted-stage _ _ _ _ _ _ _ _ _ _ _ _ _ _ _ (v .2) (p .1 .1 .0) e,
+      sprouted-high _ _ _ _ _ _ _ _ _ _ _ _ _ (v .1) e,
+      sprouted-stage _ _ _ _ _ _ _ _ _ _ _ _ _ (v .2) (p .0) e,
       omega (arith, c),
       omega arith,
       omega arith,
-      sprouted-below _ _ _ _ _ _ _ _ _ _ _ _ _ _ _ (v .2) (p .1 .1 .0) (v .6) e,
-      λ lines g. sprouted-next lines _ _ _ _ _ _ g _ _ _ _ _ (v .2) (v .7 lines g) (omega (arith, p .1 .1 .1 .room .few)) (omega arith) (omega (arith, v, p .1 .1 .1 .orders)) _ _ _ _ e,
+      sprouted-below _ _ _ _ _ _ _ _ _ _ _ _ _ (v .2) (p .0) (v .6) e,
+      λ lines g. sprouted-next lines _ _ _ _ g _ _ _ _ _ (v .2) (v .7 lines g) (omega (arith, p .1 .1 .room .few)) (omega arith) (omega (arith, v, p .1 .1 .orders)) _ _ _ _ e,
     )
 
 same-length : tie.Need-same-length Inv-loop μ-loop
@@ -94,7 +94,7 @@ same-length-3 : tie.Need-same-length-3 Inv-loop μ-loop
 same-length-3 c = omega arith
 
 returns : tie.Need-returns Inv-loop μ-loop
-returns c = (λ lines g. plant-end lines _ _ _ _ _ _ g _ _ _ _ _ (c .before .loop .inv .7 lines g) (omega arith), c .before .loop .inv .6)
+returns c = (λ lines g. plant-end lines _ _ _ _ g _ _ _ _ _ (c .before .loop .inv .7 lines g) (omega arith), c .before .loop .inv .6)
 
 pub plant-spec : {M : Type 1} → statement M
 plant-spec =

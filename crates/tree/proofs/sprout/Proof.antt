@@ -53,25 +53,25 @@ relax-requires c κs =
     let after-turn : tie.After-turn = search in
     let entry : tie.Start = search in
     let p = entry .pre in
-    let st = turned-any _ _ _ _ _ _ _ _ _ _ _ _ (p .1 .1 .1 .0) (after-turn .turn .ensures) in
+    let st = turned-any _ _ _ _ _ _ _ _ _ _ (p .1 .1 .0) (after-turn .turn .ensures) in
     let lt : after-first-far .first-far .result < entry .args .n = omega arith in
-    (p .0, (stage-set _ _ _ _ st lt, (p .1 .0 .head-ok _ lt, omega arith)))
+    (p .0, (p .1 .0 .chained _ lt, (stage-set _ _ _ _ st lt, omega arith)))
 
 mul-order-2 : tie.Need-mul-order-2
 mul-order-2 c =
     let entry : tie.Start = search in
-    omega (arith, entry .pre .1 .1 .1 .1, entry .good)
+    omega (arith, entry .pre .1 .1 .1, entry .good)
 
 slice-write-order-2 : tie.Need-slice-write-order-2
 slice-write-order-2 c =
     let entry : tie.Start = search in
-    entry .pre .1 .1 .1 .1 .1
+    entry .pre .1 .1 .1 .1
 
 same-length-4 : tie.Need-same-length-4
 same-length-4 c =
     let after-first-far : tie.After-first-far = search in
     let after-turn : tie.After-turn = search in
-    omega (arith, length-set (after-turn .turn .last .1 .1 .1 .1 .1 .0) (after-first-far .first-far .result) 0)
+    omega (arith, length-set (after-turn .turn .last .1 .1 .1 .0) (after-first-far .first-far .result) 0)
 
 same-length-5 : tie.Need-same-length-5
 same-length-5 c = search needs
@@ -84,7 +84,7 @@ returns-2 c =
     let after-relax : tie.After-relax = search in
     let after-first-far : tie.After-first-far = search in
     let after-turn : tie.After-turn = search in
-    by-root (after-turn .turn .result) (after-turn .turn .last .1 .1 .1 .1 .1 .0) (after-turn .turn .last .1 .1 .1 .1 .1 .1 .0) (after-turn .turn .ensures) (omega arith) (after-first-far .first-far .ensures) (omega arith) (after-relax .relax .ensures) refl
+    by-root (after-turn .turn .result) (after-turn .turn .last .1 .1 .1 .0) (after-turn .turn .last .1 .1 .1 .1 .0) (after-turn .turn .ensures) (omega arith) (after-first-far .first-far .ensures) (omega arith) (after-relax .relax .ensures) refl
 
 same-length-7 : tie.Need-same-length-7
 same-length-7 c = search needs
