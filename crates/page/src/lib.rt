@@ -2,8 +2,8 @@
 ghost use Rattle.text.specs.Put.{Put};
 ghost use Rattle.page.specs.Page.{pageOf};
 
+mod loops;
 mod sheet;
-mod turns;
 
 use book::Book;
 use book::line::Line;

@@ -16,15 +16,15 @@ use Rattle.loops.specs.Loops.{Loop, added, loopsFrom, loops}
 use Rattle.loops.specs.Table.{runsOf, Table}
 use Rattle.loops.proofs.Table.{codes-length, runs-append, runs-more}
 use Rattle.chains.specs.Chains.{numberLimit}
-use Rattle.search.specs.Front.{Rooms}
+use Rattle.search.specs.Front.{RoomPath}
 use Rattle.subgraph.specs.Turn.{Taking, Takes, Took, Taken, Going}
 use Rattle.subgraph.proofs.Turns.{Next, going-turn, going-next, going-more, going-none, going-all}
 use Rattle.table.specs.Filled.{Ready, Fills, FilledTo}
 use Rattle.table.proofs.Runs.{run-on}
 
 -- no loop is in the table yet
-pub fill-start : {lines : List Line} {n nodes count : ℕ} {tip long close head next fars add : List ℕ} (starts runs : List ℕ)
-    → Ready lines n nodes count tip long close head next fars add → FilledTo lines n 0 nodes 0 tip close head next fars add starts runs
+pub fill-start : {lines : List Line} {n count : ℕ} {ends close head next : List ℕ} (starts runs : List ℕ)
+    → Ready lines n count ends close head next → FilledTo lines n 0 0 close head next starts runs
 unfolding runsOf
 fill-start starts runs r =
     let e = going-none (r .going) refl in record {
@@ -34,10 +34,10 @@ fill-start starts runs r =
       held = ap (λ (l : List Loop). runsOf l ++ runs) (sym e);
     }
 
-module _ {lines : List Line} {n i cnt at : ℕ} {tip close head next fars add starts runs : List ℕ}
-    (f : FilledTo lines n i cnt at tip close head next fars add starts runs) (left : i < length (loops (n - 1) lines)) where
-  abbrev pub turn : Next n lines tip close i cnt head next fars add (f .going)
-  turn = going-turn n lines tip close i cnt head next fars add (f .going) left
+module _ {lines : List Line} {n i at : ℕ} {close head next starts runs : List ℕ}
+    (f : FilledTo lines n i at close head next starts runs) (left : i < length (loops (n - 1) lines)) where
+  abbrev pub turn : Next n lines close i head next (f .going)
+  turn = going-turn n lines close i head next (f .going) left
 
   abbrev pub path : List Pass
   path = shortest (n - 1) (only (f .going .sub) lines) (turn .c .to) (turn .c .from)
@@ -73,19 +73,19 @@ module _ {lines : List Line} {n i cnt at : ℕ} {tip close head next fars add st
     unfolding codes
     run-is = let two : number * 2 ≡ 2 * turn .c .number = omega (arith, number-is, turn .number) in ap (λ (x : ℕ). x ∷ codes path) two
 
-    module _ {count nodes : ℕ} {head′ next′ fars′ add′ : List ℕ} (out′ : List ℕ)
-        (t : Took lines (f .going .sub) (turn .c) n cnt tip lent head′ next′ fars′ add′ out′ count nodes) where
+    module _ {count : ℕ} {head′ next′ : List ℕ} (out′ : List ℕ)
+        (t : Took lines (f .going .sub) (turn .c) n lent head′ next′ out′ count) where
       abbrev done : List Loop
       done = f .going .done
 
-      more : going-next n lines tip close i cnt head next fars add (f .going) turn t .done ≡ done ++ (lp ∷ [])
-      more = going-more n lines tip close i cnt head next fars add (f .going) turn t
+      more : going-next n lines close i head next (f .going) turn t .done ≡ done ++ (lp ∷ [])
+      more = going-more n lines close i head next (f .going) turn t
 
       -- the loop has taken its turn, and its run is in the table
-      pub fill-next : FilledTo lines n (i + 1) nodes (at + 1 + count) tip close head′ next′ fars′ add′ (set starts i at)
+      pub fill-next : FilledTo lines n (i + 1) (at + 1 + count) close head′ next′ (set starts i at)
           (putMid (at + 1) (length with-one - (at + 1)) with-one out′)
       fill-next = record {
-        going = going-next n lines tip close i cnt head next fars add (f .going) turn t;
+        going = going-next n lines close i head next (f .going) turn t;
         at-is = omega (
           arith,
           f .at-is,
@@ -113,7 +113,7 @@ module _ {lines : List Line} {n i cnt at : ℕ} {tip close head next fars add st
           go k h (no e) = rw (getD-set-other starts i k at 0 e) (f .begins k (omega arith))
 
 -- all loops are in the table
-pub fill-end : {lines : List Line} {n i cnt at : ℕ} {tip close head next fars add starts runs : List ℕ} → FilledTo lines n i cnt at tip close head next fars add starts runs
+pub fill-end : {lines : List Line} {n i at : ℕ} {close head next starts runs : List ℕ} → FilledTo lines n i at close head next starts runs
     → (count : ℕ) → count ≡ length (loops (n - 1) lines) → i ≡ count → count < length starts → Table (loops (n - 1) lines) (set starts count at) runs count
 fill-end {lines = lines} {n = n} {i = i} {at = at} {starts = starts} {runs = runs} f count e z fit = record {
   counted = e;
@@ -136,38 +136,35 @@ fill-end {lines = lines} {n = n} {i = i} {at = at} {starts = starts} {runs = run
 -- ---- whatever lines the tables are of
 
 -- a loop is left
-pub left-of : {lines : List Line} {n nodes count i : ℕ} {tip long close head next fars add : List ℕ} → i < count
-    → Ready lines n nodes count tip long close head next fars add → i < length (loops (n - 1) lines)
+pub left-of : {lines : List Line} {n count i : ℕ} {ends close head next : List ℕ} → i < count → Ready lines n count ends close head next → i < length (loops (n - 1) lines)
 left-of lt r = omega (arith, r .count-is)
 
 -- the first i loops are in the table, of all lines that were ready at the start
-pub record AllFilledTo (n nodes count i cnt at : ℕ) (tip long close head₀ next₀ fars₀ add₀ head next fars add starts runs : List ℕ) : Type 0 where
-  pub of : (lines : List Line) → Ready lines n nodes count tip long close head₀ next₀ fars₀ add₀
-      → FilledTo lines n i cnt at tip close head next fars add starts runs
+pub record AllFilledTo (n count i at : ℕ) (ends close head₀ next₀ head next starts runs : List ℕ) : Type 0 where
+  pub of : (lines : List Line) → Ready lines n count ends close head₀ next₀ → FilledTo lines n i at close head next starts runs
 
-module _ {n nodes count : ℕ} {tip long close head₀ next₀ fars₀ add₀ : List ℕ} where
-  pub all-start : {starts runs : List ℕ} → AllFilledTo n nodes count 0 nodes 0 tip long close head₀ next₀ fars₀ add₀ head₀ next₀ fars₀ add₀ starts runs
+module _ {n count : ℕ} {ends close head₀ next₀ : List ℕ} where
+  pub all-start : {starts runs : List ℕ} → AllFilledTo n count 0 0 ends close head₀ next₀ head₀ next₀ starts runs
   all-start {starts = starts} {runs = runs} = record { of = λ lines r. fill-start starts runs r }
 
-  module _ {i cnt at : ℕ} {head next fars add starts runs : List ℕ}
-      (w : AllFilledTo n nodes count i cnt at tip long close head₀ next₀ fars₀ add₀ head next fars add starts runs) (lt : i < count) where
+  module _ {i at : ℕ} {head next starts runs : List ℕ} (w : AllFilledTo n count i at ends close head₀ next₀ head next starts runs) (lt : i < count) where
     -- the closing line of the next turn, of lines that were ready
-    module _ {lines : List Line} (r : Ready lines n nodes count tip long close head₀ next₀ fars₀ add₀) (number : ℕ) (number-is : number ≡ getD close i 0) where
-      abbrev its-turn : Next n lines tip close i cnt head next fars add (w .of lines r .going)
+    module _ {lines : List Line} (r : Ready lines n count ends close head₀ next₀) (number : ℕ) (number-is : number ≡ getD close i 0) where
+      abbrev its-turn : Next n lines close i head next (w .of lines r .going)
       its-turn = turn (w .of lines r) (left-of lt r)
 
-      pub taking : Taking lines (w .of lines r .going .sub) (its-turn .c) n (r .q) cnt number tip long head next fars add
+      pub taking : Taking lines (w .of lines r .going .sub) (its-turn .c) n (r .q) number ends head next
       taking = record {
         listed = r .listed;
         drawn = w .of lines r .going .drawn;
         isLine = its-turn .isLine;
+        notYet = its-turn .notYet;
         its = sym (number-is ∙ its-turn .number);
       }
 
-    pub all-next : (number : ℕ) (number-is : number ≡ getD close i 0) → i < length starts → at + 1 + n ≤ length runs
-        → {c nodes′ : ℕ} {head′ next′ fars′ add′ : List ℕ} (out′ : List ℕ)
-        → Taken n cnt number tip long head next fars add (midOf (at + 1) (length (set runs at (number * 2)) - (at + 1)) (set runs at (number * 2))) head′ next′ fars′ add′ out′ c nodes′
-        → AllFilledTo n nodes count (i + 1) nodes′ (at + 1 + c) tip long close head₀ next₀ fars₀ add₀ head′ next′ fars′ add′ (set starts i at)
+    pub all-next : (number : ℕ) (number-is : number ≡ getD close i 0) → i < length starts → at + 1 + n ≤ length runs → {c : ℕ} {head′ next′ : List ℕ} (out′ : List ℕ)
+        → Taken n number ends head next (midOf (at + 1) (length (set runs at (number * 2)) - (at + 1)) (set runs at (number * 2))) head′ next′ out′ c
+        → AllFilledTo n count (i + 1) (at + 1 + c) ends close head₀ next₀ head′ next′ (set starts i at)
             (putMid (at + 1) (length (set runs at (number * 2)) - (at + 1)) (set runs at (number * 2)) out′)
     all-next number number-is sf fits out′ t = record {
       of = λ lines r. fill-next (w .of lines r) (left-of lt r) number number-is sf fits out′
@@ -176,11 +173,9 @@ module _ {n nodes count : ℕ} {tip long close head₀ next₀ fars₀ add₀ : 
 
 -- ---- what a turn asks for
 
-module _ {n nodes count : ℕ} {tip long close head₀ next₀ fars₀ add₀ best₀ seg₀ starts₀ runs₀ : List ℕ}
-    (f : Fills n nodes count tip long close head₀ next₀ fars₀ add₀ best₀ seg₀ starts₀ runs₀)
-    {i cnt at : ℕ} {head next fars add starts runs : List ℕ}
-    (w : AllFilledTo n nodes count i cnt at tip long close head₀ next₀ fars₀ add₀ head next fars add starts runs) (lt : i < count) where
-  abbrev now : FilledTo (f .lines) n i cnt at tip close head next fars add starts runs
+module _ {n count : ℕ} {ends close head₀ next₀ best₀ seg₀ starts₀ runs₀ : List ℕ} (f : Fills n count ends close head₀ next₀ best₀ seg₀ starts₀ runs₀)
+    {i at : ℕ} {head next starts runs : List ℕ} (w : AllFilledTo n count i at ends close head₀ next₀ head next starts runs) (lt : i < count) where
+  abbrev now : FilledTo (f .lines) n i at close head next starts runs
   now = w .of (f .lines) (f .ready)
 
   abbrev left : i < length (loops (n - 1) (f .lines))
@@ -191,27 +186,19 @@ module _ {n nodes count : ℕ} {tip long close head₀ next₀ fars₀ add₀ be
   run-room e = omega (arith, f .runs-fit, runs-so-far now left)
 
   -- the path is shorter than there are marks
-  pub path-few : (number : ℕ) → number ≡ getD close i 0 → {out head′ next′ fars′ add′ out′ : List ℕ} {c nodes′ : ℕ}
-      → Taken n cnt number tip long head next fars add out head′ next′ fars′ add′ out′ c nodes′ → c < n
+  pub path-few : (number : ℕ) → number ≡ getD close i 0 → {out head′ next′ out′ : List ℕ} {c : ℕ} → Taken n number ends head next out head′ next′ out′ c → c < n
   path-few number e t = t (f .ready .q) (f .lines) (now .going .sub) (turn now left .c) (taking w lt (f .ready) number e) .written .few
 
   pub small-number : (number : ℕ) → number ≡ getD close i 0 → number < numberLimit
   small-number number e = let x = taking w lt (f .ready) number e in omega (arith, x .its, x .listed .sound (turn now left .c) (x .isLine) .number)
 
-  pub takes-of : (number : ℕ) → number ≡ getD close i 0 → {best seg out : List ℕ} → Rooms n best seg out
-      → length next ≡ length next₀ → length fars ≡ length fars₀ → length add ≡ length add₀ → Takes n cnt number tip long head next fars add best seg out
-  takes-of number e ro ln lf la =
-      let left-lines = ap length (turn now left .is) in
-      record {
-        tips = f .tips;
-        longs = f .longs;
-        rooms = ro;
-        nexts = omega (arith, now .going .room, left-lines, f .nexts);
-        ends = omega (arith, now .going .room, left-lines, f .ends);
-        adds = omega (arith, now .going .room, left-lines, f .adds);
-        q = f .ready .q;
-        lines = f .lines;
-        sub = now .going .sub;
-        c = turn now left .c;
-        taking = taking w lt (f .ready) number e;
-      }
+  pub takes-of : (number : ℕ) → number ≡ getD close i 0 → {best seg out : List ℕ} → RoomPath n best seg out → Takes n number ends head next best seg out
+  takes-of number e ro = record {
+    bounded = f .bounded;
+    room = ro;
+    q = f .ready .q;
+    lines = f .lines;
+    sub = now .going .sub;
+    c = turn now left .c;
+    taking = taking w lt (f .ready) number e;
+  }

@@ -7,17 +7,17 @@ use Rattle.table.proofs.fill.Statement.{statement}
 use Rattle.table.proofs.fill.Tie as tie
 
 abbrev Inv-loop : tie.InvT-loop
-Inv-loop tip long close head₀ next₀ far₀ add₀ best₀ seg₀ starts₀ runs₀ n nodes count cnt₀ at₀ i₀ head next far add best seg starts runs cnt at i =
+Inv-loop ends close head₀ next₀ best₀ seg₀ starts₀ runs₀ n count at₀ i₀ head next best seg starts runs at i =
     (i ≤ count)
-    × ((length head ≡ length head₀) × (length next ≡ length next₀) × (length far ≡ length far₀) × (length add ≡ length add₀))
-    × ((length best ≡ length best₀) × (length seg ≡ length seg₀) × (length starts ≡ length starts₀) × (length runs ≡ length runs₀))
-    × AllFilledTo n nodes count i cnt at tip long close head₀ next₀ far₀ add₀ head next far add starts runs
+    × ((length head ≡ length head₀) × (length next ≡ length next₀) × (length best ≡ length best₀) × (length seg ≡ length seg₀)
+    × (length starts ≡ length starts₀) × (length runs ≡ length runs₀))
+    × AllFilledTo n count i at ends close head₀ next₀ head next starts runs
 
 abbrev μ-loop : tie.MeasureT-loop
-μ-loop tip long close head₀ next₀ far₀ add₀ best₀ seg₀ starts₀ runs₀ n nodes count cnt₀ at₀ i₀ head next far add best seg starts runs cnt at i = count - i
+μ-loop ends close head₀ next₀ best₀ seg₀ starts₀ runs₀ n count at₀ i₀ head next best seg starts runs at i = count - i
 
 loop-holds : tie.Need-loop-holds Inv-loop μ-loop
-loop-holds c = (omega arith, (refl, refl, refl, refl), (refl, refl, refl, refl), all-start)
+loop-holds c = (omega arith, (refl, refl, refl, refl, refl, refl), all-start)
 
 mul-number : tie.Need-mul-number Inv-loop μ-loop
 mul-number c =
@@ -36,164 +36,166 @@ mul-starts c =
 
 slice-write-starts : tie.Need-slice-write-starts Inv-loop μ-loop
 slice-write-starts c =
+    let in-loop : tie.In-loop Inv-loop μ-loop = search in
     let at-loop : tie.At-loop Inv-loop μ-loop = search in
     let entry : tie.Start Inv-loop μ-loop = search in
-    let in-loop : tie.In-loop Inv-loop μ-loop = search in
     let f = entry .pre in
     let v = at-loop .loop .inv in
     let lt = in-loop .loop-test .taken in
-    omega (arith, f .starts-fit, v .2)
+    omega (arith, f .starts-fit, v .1)
 
 mul-runs : tie.Need-mul-runs Inv-loop μ-loop
 mul-runs c =
+    let in-loop : tie.In-loop Inv-loop μ-loop = search in
     let at-loop : tie.At-loop Inv-loop μ-loop = search in
     let entry : tie.Start Inv-loop μ-loop = search in
-    let in-loop : tie.In-loop Inv-loop μ-loop = search in
     let f = entry .pre in
     let v = at-loop .loop .inv in
     let lt = in-loop .loop-test .taken in
-    omega (arith, small-number f (v .3) lt _ refl)
+    omega (arith, small-number f (v .2) lt _ refl)
 
 cast-runs : tie.Need-cast-runs Inv-loop μ-loop
 cast-runs c =
+    let in-loop : tie.In-loop Inv-loop μ-loop = search in
     let at-loop : tie.At-loop Inv-loop μ-loop = search in
     let entry : tie.Start Inv-loop μ-loop = search in
-    let in-loop : tie.In-loop Inv-loop μ-loop = search in
     let f = entry .pre in
     let v = at-loop .loop .inv in
     let lt = in-loop .loop-test .taken in
-    omega (arith, small-number f (v .3) lt _ refl)
+    omega (arith, small-number f (v .2) lt _ refl)
 
 mul-runs-2 : tie.Need-mul-runs-2 Inv-loop μ-loop
 mul-runs-2 c =
+    let in-loop : tie.In-loop Inv-loop μ-loop = search in
     let at-loop : tie.At-loop Inv-loop μ-loop = search in
     let entry : tie.Start Inv-loop μ-loop = search in
-    let in-loop : tie.In-loop Inv-loop μ-loop = search in
     let f = entry .pre in
     let v = at-loop .loop .inv in
     let lt = in-loop .loop-test .taken in
-    omega (arith, run-room f (v .3) lt (v .2 .3), v .2, entry .good)
+    omega (arith, run-room f (v .2) lt (v .1 .5), v .1, entry .good)
 
 slice-write-runs : tie.Need-slice-write-runs Inv-loop μ-loop
 slice-write-runs c =
+    let in-loop : tie.In-loop Inv-loop μ-loop = search in
     let at-loop : tie.At-loop Inv-loop μ-loop = search in
     let entry : tie.Start Inv-loop μ-loop = search in
-    let in-loop : tie.In-loop Inv-loop μ-loop = search in
     let f = entry .pre in
     let v = at-loop .loop .inv in
     let lt = in-loop .loop-test .taken in
-    omega (arith, run-room f (v .3) lt (v .2 .3))
+    omega (arith, run-room f (v .2) lt (v .1 .5))
+
+add-at : tie.Need-add-at Inv-loop μ-loop
+add-at c =
+    let in-loop : tie.In-loop Inv-loop μ-loop = search in
+    let at-loop : tie.At-loop Inv-loop μ-loop = search in
+    let entry : tie.Start Inv-loop μ-loop = search in
+    let f = entry .pre in
+    let v = at-loop .loop .inv in
+    let lt = in-loop .loop-test .taken in
+    omega (arith, run-room f (v .2) lt (v .1 .5), v .1, entry .good)
 
 add-take-loop : tie.Need-add-take-loop Inv-loop μ-loop
 add-take-loop c =
+    let in-loop : tie.In-loop Inv-loop μ-loop = search in
     let at-loop : tie.At-loop Inv-loop μ-loop = search in
     let entry : tie.Start Inv-loop μ-loop = search in
-    let in-loop : tie.In-loop Inv-loop μ-loop = search in
     let f = entry .pre in
     let v = at-loop .loop .inv in
     let lt = in-loop .loop-test .taken in
-    omega (arith, run-room f (v .3) lt (v .2 .3), v .2, entry .good)
+    omega (arith, run-room f (v .2) lt (v .1 .5), v .1, entry .good)
 
 mul-take-loop : tie.Need-mul-take-loop Inv-loop μ-loop
 mul-take-loop c =
+    let in-loop : tie.In-loop Inv-loop μ-loop = search in
     let at-loop : tie.At-loop Inv-loop μ-loop = search in
     let entry : tie.Start Inv-loop μ-loop = search in
-    let in-loop : tie.In-loop Inv-loop μ-loop = search in
     let f = entry .pre in
     let v = at-loop .loop .inv in
     let lt = in-loop .loop-test .taken in
-    omega (arith, run-room f (v .3) lt (v .2 .3), v .2, entry .good)
+    omega (arith, run-room f (v .2) lt (v .1 .5), v .1, entry .good)
 
 sub-take-loop : tie.Need-sub-take-loop Inv-loop μ-loop
 sub-take-loop c =
+    let in-loop : tie.In-loop Inv-loop μ-loop = search in
     let at-loop : tie.At-loop Inv-loop μ-loop = search in
     let entry : tie.Start Inv-loop μ-loop = search in
-    let in-loop : tie.In-loop Inv-loop μ-loop = search in
     let f = entry .pre in
     let v = at-loop .loop .inv in
     let lt = in-loop .loop-test .taken in
-    simp length-set (omega (arith, run-room f (v .3) lt (v .2 .3)))
+    simp length-set (omega (arith, run-room f (v .2) lt (v .1 .5)))
 
 part-take-loop-start : tie.Need-part-take-loop-start Inv-loop μ-loop
 part-take-loop-start c =
+    let in-loop : tie.In-loop Inv-loop μ-loop = search in
     let at-loop : tie.At-loop Inv-loop μ-loop = search in
     let entry : tie.Start Inv-loop μ-loop = search in
-    let in-loop : tie.In-loop Inv-loop μ-loop = search in
     let f = entry .pre in
     let v = at-loop .loop .inv in
     let lt = in-loop .loop-test .taken in
-    simp length-set (omega (arith, run-room f (v .3) lt (v .2 .3)))
+    simp length-set (omega (arith, run-room f (v .2) lt (v .1 .5)))
 
 part-take-loop-end : tie.Need-part-take-loop-end Inv-loop μ-loop
 part-take-loop-end c = omega arith
 
 take-loop-requires : tie.Need-take-loop-requires Inv-loop μ-loop
 take-loop-requires c κs =
-    let at-loop : tie.At-loop Inv-loop μ-loop = search in
-    let entry : tie.Start Inv-loop μ-loop = search in
     let in-loop : tie.In-loop Inv-loop μ-loop = search in
-    let f = entry .pre in
-    let v = at-loop .loop .inv in
-    let lt = in-loop .loop-test .taken in
-    let room = run-room f (v .3) lt (v .2 .3) in
-    takes-of f (v .3) lt _ refl
-    (record {
-      room = record { few = f .room .few; bests = omega (arith, v .2, f .room .bests); segs = omega (arith, v .2, f .room .segs) };
-      outs = simp (length-take, length-drop, length-set) (omega (arith, room));
-    })
-    (v .1 .1) (v .1 .2) (v .1 .3)
-
-add-at : tie.Need-add-at Inv-loop μ-loop
-add-at c =
-    let after-take-loop : tie.After-take-loop Inv-loop μ-loop = search in
     let at-loop : tie.At-loop Inv-loop μ-loop = search in
     let entry : tie.Start Inv-loop μ-loop = search in
-    let in-loop : tie.In-loop Inv-loop μ-loop = after-take-loop .before .before .before .before .before .before .before .before .before in
     let f = entry .pre in
     let v = at-loop .loop .inv in
     let lt = in-loop .loop-test .taken in
-    omega (arith, run-room f (v .3) lt (v .2 .3), v .2, entry .good)
+    takes-of f (v .2) lt _ refl
+    (record {
+      room = record { few = f .room .few; bests = omega (arith, v .1, f .room .bests); segs = omega (arith, v .1, f .room .segs) };
+      outs = simp (length-take, length-drop, length-set) (omega (arith, run-room f (v .2) lt (v .1 .5)));
+    })
 
 add-at-2 : tie.Need-add-at-2 Inv-loop μ-loop
 add-at-2 c =
     let after-take-loop : tie.After-take-loop Inv-loop μ-loop = search in
+    let in-loop : tie.In-loop Inv-loop μ-loop = search in
     let at-loop : tie.At-loop Inv-loop μ-loop = search in
     let entry : tie.Start Inv-loop μ-loop = search in
-    let in-loop : tie.In-loop Inv-loop μ-loop = after-take-loop .before .before .before .before .before .before .before .before .before in
     let f = entry .pre in
     let v = at-loop .loop .inv in
     let lt = in-loop .loop-test .taken in
-    omega (arith, run-room f (v .3) lt (v .2 .3), path-few f (v .3) lt _ refl (after-take-loop .take-loop .ensures), v .2, entry .good)
+    omega (arith, run-room f (v .2) lt (v .1 .5), path-few f (v .2) lt _ refl (after-take-loop .take-loop .ensures), v .1, entry .good)
 
 add-i : tie.Need-add-i Inv-loop μ-loop
 add-i c =
-    let after-take-loop : tie.After-take-loop Inv-loop μ-loop = search in
+    let in-loop : tie.In-loop Inv-loop μ-loop = search in
     let at-loop : tie.At-loop Inv-loop μ-loop = search in
     let entry : tie.Start Inv-loop μ-loop = search in
-    let in-loop : tie.In-loop Inv-loop μ-loop = after-take-loop .before .before .before .before .before .before .before .before .before in
     let f = entry .pre in
     let v = at-loop .loop .inv in
     let lt = in-loop .loop-test .taken in
-    omega (arith, v .0, entry .fits .count)
+    omega (arith, lt, entry .fits .count)
 
 loop-less : tie.Need-loop-less Inv-loop μ-loop
 loop-less c = omega arith
 
 loop-again : tie.Need-loop-again Inv-loop μ-loop
 loop-again c =
+    let after-runs : tie.After-runs Inv-loop μ-loop = search in
     let after-take-loop : tie.After-take-loop Inv-loop μ-loop = search in
+    let in-loop : tie.In-loop Inv-loop μ-loop = search in
     let at-loop : tie.At-loop Inv-loop μ-loop = search in
     let entry : tie.Start Inv-loop μ-loop = search in
-    let in-loop : tie.In-loop Inv-loop μ-loop = after-take-loop .before .before .before .before .before .before .before .before .before in
     let f = entry .pre in
     let v = at-loop .loop .inv in
     let lt = in-loop .loop-test .taken in
-    let after-runs : tie.After-runs Inv-loop μ-loop = search in
     let k = after-take-loop .take-loop .kept in (
       omega (arith, lt),
-      (omega (arith, v .1, k), omega (arith, v .1, k), omega (arith, v .1, k), omega (arith, v .1, k)),
-      (omega (arith, v .2, k), omega (arith, v .2, k), simp length-set (v .2 .2), after-runs .runs .given .1 ∙ simp length-set (v .2 .3)),
-      all-next (v .3) lt _ refl (omega (arith, f .starts-fit, v .2)) (run-room f (v .3) lt (v .2 .3)) _ (after-take-loop .take-loop .ensures),
+      (
+        omega (arith, v .1, k),
+        omega (arith, v .1, k),
+        omega (arith, v .1, k),
+        omega (arith, v .1, k),
+        simp length-set (v .1 .4),
+        after-runs .runs .given .1 ∙ simp length-set (v .1 .5),
+      ),
+      all-next (v .2) lt _ refl (omega (arith, f .starts-fit, v .1)) (run-room f (v .2) lt (v .1 .5)) _ (after-take-loop .take-loop .ensures),
     )
 
 mul-starts-2 : tie.Need-mul-starts-2 Inv-loop μ-loop
@@ -207,7 +209,7 @@ slice-write-starts-2 c =
     let entry : tie.Start Inv-loop μ-loop = search in
     let f = entry .pre in
     let v = at-loop .loop .inv in
-    omega (arith, f .starts-fit, v .2)
+    omega (arith, f .starts-fit, v .1)
 
 same-length : tie.Need-same-length Inv-loop μ-loop
 same-length c = omega arith
@@ -222,21 +224,15 @@ same-length-4 : tie.Need-same-length-4 Inv-loop μ-loop
 same-length-4 c = omega arith
 
 same-length-5 : tie.Need-same-length-5 Inv-loop μ-loop
-same-length-5 c = omega arith
-
-same-length-6 : tie.Need-same-length-6 Inv-loop μ-loop
-same-length-6 c = omega arith
-
-same-length-7 : tie.Need-same-length-7 Inv-loop μ-loop
-same-length-7 c =
+same-length-5 c =
     let at-loop : tie.At-loop Inv-loop μ-loop = search in
     let entry : tie.Start Inv-loop μ-loop = search in
     let f = entry .pre in
     let v = at-loop .loop .inv in
-    simp length-set (v .2 .2)
+    simp length-set (v .1 .4)
 
-same-length-8 : tie.Need-same-length-8 Inv-loop μ-loop
-same-length-8 c = omega arith
+same-length-6 : tie.Need-same-length-6 Inv-loop μ-loop
+same-length-6 c = omega arith
 
 returns : tie.Need-returns Inv-loop μ-loop
 returns c =
@@ -244,7 +240,7 @@ returns c =
     let entry : tie.Start Inv-loop μ-loop = search in
     let f = entry .pre in
     let v = at-loop .loop .inv in
-    λ lines r. fill-end (v .3 .of lines r) _ (r .count-is) (omega (arith, v .0)) (omega (arith, f .starts-fit, v .2))
+    λ lines r. fill-end (v .2 .of lines r) _ (r .count-is) (omega (arith, v .0)) (omega (arith, f .starts-fit, v .1))
 
 pub fill-spec : {M : Type 1} → statement M
 fill-spec =
@@ -261,13 +257,13 @@ fill-spec =
     cast-runs
     mul-runs-2
     slice-write-runs
+    add-at
     add-take-loop
     mul-take-loop
     sub-take-loop
     part-take-loop-start
     part-take-loop-end
     take-loop-requires
-    add-at
     add-at-2
     add-i
     loop-less
@@ -280,6 +276,4 @@ fill-spec =
     same-length-4
     same-length-5
     same-length-6
-    same-length-7
-    same-length-8
     returns)
