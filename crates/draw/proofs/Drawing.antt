@@ -17,11 +17,11 @@ use Rattle.network.proofs.Standing.{rising-standing, standing-clause}
 use Rattle.laws.specs.Tests.{eqZ}
 use Rattle.laws.specs.Range.{Between}
 use Rattle.book.specs.Good.{GoodLine}
-use Rattle.chains.specs.Chains.{Half, fore, aft, Nodes, Heads, Tips, Chains, Sound, AllSound, halves, numberLimit}
-use Rattle.chains.specs.Link.{Fits, Wider, Added}
-use Rattle.chains.specs.Listed.{Longs}
-use Rattle.chains.proofs.Halves.{on-zero, half-no}
-use Rattle.draw.specs.Book.{Entry, Drew, withdrawn, drawn, Sheet, BookDrawn}
+use Rattle.chains.specs.Chains.{Half, fore, aft, markOf, metresOf, Bounded, Told, Drawn, Sound, AllSound, halves, numberLimit}
+use Rattle.chains.specs.Link.{RoomChains, Fits, Joined, Wider}
+use Rattle.chains.proofs.Halves.{half-no, half-ok, told-mark, told-metres}
+use Rattle.chains.proofs.Laws.{join-draws, draws-none}
+use Rattle.draw.specs.Book.{Entry, endOf, Drew, withdrawn, drawn, Sheet, BookDrawn}
 
 -- ---- a line of the book
 
@@ -85,36 +85,23 @@ unfolding standing
 standing-is ls j z = ap (λ (x : ℕ). standingFrom (suc x) (drop (5 * x) ls)) (sym z)
 
 module _ (n : ℕ) (ls : List ℤ) where
-  pub record DrawingAt (j cnt : ℕ) (tip long head next fars add : List ℕ) : Type 0 where
-    pub tips : Tips n tip
-    pub longs : Longs numberLimit long
-    pub nodes : Nodes n cnt next fars add
-    pub heads : Heads n cnt head
-    pub few : cnt + 2 * j ≤ 2 * (length ls / 5)
+  pub record DrawingAt (j : ℕ) (ends head next : List ℕ) : Type 0 where
+    pub bounded : Bounded n ends
     pub sound : AllSound n (standingFrom (suc j) (drop (5 * j) ls))
-    pub chains : Chains (standingFrom (suc j) (drop (5 * j) ls)) n head next fars add tip
+    pub drawn : Drawn (standingFrom (suc j) (drop (5 * j) ls)) n head next
+    pub told : Told (standingFrom (suc j) (drop (5 * j) ls)) ends
     pub numbered : (l : Line) → List·Memᴰ l (standingFrom (suc j) (drop (5 * j) ls)) → (j < l .number) × (l .number ≤ length ls / 5)
-    pub longOf : (l : Line) → List·Memᴰ l (standingFrom (suc j) (drop (5 * j) ls)) → getD long (l .number) 0 ≡ l .length
-    pub lineOf : (i : ℕ) → i < numberLimit → 0 < getD long i 0 → (l : Line) × List·Memᴰ l (standingFrom (suc j) (drop (5 * j) ls)) × (l .number ≡ i)
+    pub lineOf : (i : ℕ) → i < numberLimit → 0 < getD ends (i * 2) 0 → (l : Line) × List·Memᴰ l (standingFrom (suc j) (drop (5 * j) ls)) × (l .number ≡ i)
 
-  pub draw-start : (tip long head next fars add : List ℕ) → 0 < n → halves ≤ length tip → numberLimit ≤ length long → n ≤ length head
-      → ((i : ℕ) → i < halves → getD tip i 0 ≡ 0) → ((i : ℕ) → i < numberLimit → getD long i 0 ≡ 0) → ((i : ℕ) → i < n → getD head i 0 ≡ 0)
-      → DrawingAt (length ls / 5) 0 tip long head next fars add
-  draw-start tip long head next fars add some lt ll lh zt zl zh = record {
-    tips = record { tips = lt; tip-ok = λ h l. omega (arith, zt h l) };
-    longs = record { longs = ll; long-ok = λ j h. omega (arith, zl j h) };
-    nodes = record { nexts = omega arith; fars = omega arith; adds = omega arith; falls = λ j h. absurd (omega arith); far-ok = λ j h. absurd (omega arith); add-ok = λ j h. absurd (omega arith) };
-    heads = record { heads = lh; head-ok = λ x h. omega (arith, zh x h) };
-    few = omega arith;
+  pub draw-start : (ends head next : List ℕ) → 0 < n → halves ≤ length ends → RoomChains n head next
+      → ((i : ℕ) → i < halves → getD ends i 0 ≡ 0) → ((i : ℕ) → i < n → getD head i 0 ≡ 0) → DrawingAt (length ls / 5) ends head next
+  draw-start ends head next some le room ze zh = record {
+    bounded = record { ends-at = le; mark-ok = λ h l. omega (arith, ze h l); short = λ h l. omega (arith, ze h l) };
     sound = λ l i. nothing l i;
-    chains = record {
-      of = λ x j l w. on-zero (zh x l) w;
-      has = λ l u v h i j. nothing l i;
-      tipOf = λ l u v h i j. nothing l i;
-    };
+    drawn = rw none-there (draws-none room zh);
+    told = λ l u v h i. nothing l i;
     numbered = λ l i. nothing l i;
-    longOf = λ l i. nothing l i;
-    lineOf = λ i l h. absurd (omega (arith, zl i l));
+    lineOf = λ i l h. absurd (omega (arith, ze (i * 2) (omega arith)));
   }
     where
       none-there : standingFrom (suc (length ls / 5)) (drop (5 * (length ls / 5)) ls) ≡ []
@@ -125,8 +112,8 @@ module _ (n : ℕ) (ls : List ℤ) where
 
   -- ---- one line more
 
-  module _ (j cnt r : ℕ) (tip long head next fars add tip′ long′ head′ next′ fars′ add′ : List ℕ) (lt : suc j ≤ length ls / 5) (room : length ls / 5 + 1 < numberLimit)
-      (pos-n : 0 < n) (good : GoodLine (n - 1) ls j) (d : DrawingAt (suc j) cnt tip long head next fars add) where
+  module _ (j : ℕ) (ends head next ends′ head′ next′ : List ℕ) (lt : suc j ≤ length ls / 5) (few : length ls / 5 + 1 < numberLimit) (few-marks : n ≤ halves)
+      (pos-n : 0 < n) (room : RoomChains n head next) (good : GoodLine (n - 1) ls j) (d : DrawingAt (suc j) ends head next) where
     abbrev e : List ℤ
     e = take 5 (drop (j * 5) ls)
 
@@ -142,17 +129,13 @@ module _ (n : ℕ) (ls : List ℤ) where
         ∙ ap (λ (x : ℤ). keep x (lineAt ls j) (standingFrom (suc (suc j)) (drop (5 * suc j) ls))) (sym (at-word 4 (lit< tt) (suc (suc (suc (suc (5 * j))))) (omega arith)))
 
     -- a withdrawn line
-    skipped : eqZ (getD (take 5 (drop (j * 5) ls)) 4 (pos 0)) (pos 0) ≡ true → DrawingAt j cnt tip long head next fars add
+    skipped : eqZ (getD (take 5 (drop (j * 5) ls)) 4 (pos 0)) (pos 0) ≡ true → DrawingAt j ends head next
     skipped w = record {
-      tips = d .tips;
-      longs = d .longs;
-      nodes = d .nodes;
-      heads = d .heads;
-      few = omega (arith, d .few);
+      bounded = d .bounded;
       sound = rw same-lines (d .sound);
-      chains = rw same-lines (d .chains);
+      drawn = rw same-lines (d .drawn);
+      told = rw same-lines (d .told);
       numbered = rw same-lines (λ l i. (omega (arith, d .numbered l i .0), d .numbered l i .1));
-      longOf = rw same-lines (d .longOf);
       lineOf = rw same-lines (d .lineOf);
     }
       where
@@ -188,42 +171,44 @@ module _ (n : ℕ) (ls : List ℤ) where
       number = omega arith;
     }
 
-    module _ (st : eqZ (getD (take 5 (drop (j * 5) ls)) 4 (pos 0)) (pos 0) ≡ false) (ri : r ≡ cnt + 2)
-        (ti : tip′ ≡ set (set tip (suc j * 2) (natAbs (getD (take 5 (drop (j * 5) ls)) 1 (pos 0)))) (suc j * 2 + 1) (natAbs (getD (take 5 (drop (j * 5) ls)) 0 (pos 0))))
-        (lo : long′ ≡ set long (suc j) (natAbs (getD (take 5 (drop (j * 5) ls)) 3 (pos 0))))
-        (ad : Added n cnt head next fars add head′ next′ fars′ add′ (natAbs (getD (take 5 (drop (j * 5) ls)) 0 (pos 0))) (natAbs (getD (take 5 (drop (j * 5) ls)) 1 (pos 0))) (suc j) (natAbs (getD (take 5 (drop (j * 5) ls)) 3 (pos 0)))) where
+    module _ (st : eqZ (getD (take 5 (drop (j * 5) ls)) 4 (pos 0)) (pos 0) ≡ false)
+        (en : ends′ ≡ set (set ends (suc j * 2) (endOf (take 5 (drop (j * 5) ls)) 1)) (suc j * 2 + 1) (endOf (take 5 (drop (j * 5) ls)) 0))
+        (jn : Joined ends′ head next head′ next′ (suc j)) where
       abbrev rest : List Line
       rest = standingFrom (suc (suc j)) (drop (5 * suc j) ls)
+
+      abbrev new-to : ℕ
+      new-to = endOf (take 5 (drop (j * 5) ls)) 1
+
+      abbrev new-from : ℕ
+      new-from = endOf (take 5 (drop (j * 5) ls)) 0
 
       more-lines : standingFrom (suc j) (drop (5 * j) ls) ≡ lineAt ls j ∷ standingFrom (suc (suc j)) (drop (5 * suc j) ls)
       more-lines = clause ∙ keep-in (getD (take 5 (drop (j * 5) ls)) 4 (pos 0)) (lineAt ls j) (standingFrom (suc (suc j)) (drop (5 * suc j) ls)) (g .standing) st
 
-      tip-other : (h : ℕ) → (h ≡ suc j * 2 → ⊥) → (h ≡ suc j * 2 + 1 → ⊥) → getD tip′ h 0 ≡ getD tip h 0
-      tip-other h a b = rw ti (getD-set-other (set tip (suc j * 2) (natAbs (getD (take 5 (drop (j * 5) ls)) 1 (pos 0)))) (suc j * 2 + 1) h (natAbs (getD (take 5 (drop (j * 5) ls)) 0 (pos 0))) 0 b
-          ∙ getD-set-other tip (suc j * 2) h (natAbs (getD (take 5 (drop (j * 5) ls)) 1 (pos 0))) 0 a)
+      ends-other : (h : ℕ) → (h ≡ suc j * 2 → ⊥) → (h ≡ suc j * 2 + 1 → ⊥) → getD ends′ h 0 ≡ getD ends h 0
+      ends-other h a b = rw en (getD-set-other (set ends (suc j * 2) new-to) (suc j * 2 + 1) h new-from 0 b ∙ getD-set-other ends (suc j * 2) h new-to 0 a)
 
-      tip-to : getD tip′ (suc j * 2) 0 ≡ lineAt ls j .to
-      tip-to = rw ti (getD-set-other (set tip (suc j * 2) (natAbs (getD (take 5 (drop (j * 5) ls)) 1 (pos 0)))) (suc j * 2 + 1) (suc j * 2) (natAbs (getD (take 5 (drop (j * 5) ls)) 0 (pos 0))) 0 (λ q. omega arith)
-          ∙ getD-set-same tip (suc j * 2) (natAbs (getD (take 5 (drop (j * 5) ls)) 1 (pos 0))) 0 (omega (arith, d .tips .tips)) ∙ to-is)
+      ends-to : getD ends′ (suc j * 2) 0 ≡ lineAt ls j .length * halves + lineAt ls j .to
+      ends-to = rw en (getD-set-other (set ends (suc j * 2) new-to) (suc j * 2 + 1) (suc j * 2) new-from 0 (λ q. omega arith)
+          ∙ getD-set-same ends (suc j * 2) new-to 0 (omega (arith, d .bounded .ends-at)) ∙ omega (arith, length-is, to-is))
 
-      tip-from : getD tip′ (suc j * 2 + 1) 0 ≡ lineAt ls j .from
-      tip-from = rw ti (getD-set-same (set tip (suc j * 2) (natAbs (getD (take 5 (drop (j * 5) ls)) 1 (pos 0)))) (suc j * 2 + 1) (natAbs (getD (take 5 (drop (j * 5) ls)) 0 (pos 0))) 0 (simp length-set (omega (arith, d .tips .tips))) ∙ from-is)
+      ends-from : getD ends′ (suc j * 2 + 1) 0 ≡ lineAt ls j .length * halves + lineAt ls j .from
+      ends-from = rw en (getD-set-same (set ends (suc j * 2) new-to) (suc j * 2 + 1) new-from 0 (simp length-set (omega (arith, d .bounded .ends-at)))
+          ∙ omega (arith, length-is, from-is))
 
-      tip-new : (u v h : ℕ) → Half (lineAt ls j) u v h → getD tip′ h 0 ≡ v
-      tip-new u v h (fore p q z) = let w : h ≡ suc j * 2 = omega arith in ap (λ (x : ℕ). getD tip′ x 0) w ∙ tip-to ∙ q
-      tip-new u v h (aft p q z) = let w : h ≡ suc j * 2 + 1 = omega arith in ap (λ (x : ℕ). getD tip′ x 0) w ∙ tip-from ∙ q
+      told-new : (u v h : ℕ) → Half (lineAt ls j) u v h → getD ends′ h 0 ≡ lineAt ls j .length * halves + v
+      told-new u v h (fore p q z) = let w : h ≡ suc j * 2 = omega arith in ap (λ (x : ℕ). getD ends′ x 0) w ∙ ends-to ∙ ap (λ (x : ℕ). lineAt ls j .length * halves + x) q
+      told-new u v h (aft p q z) = let w : h ≡ suc j * 2 + 1 = omega arith in ap (λ (x : ℕ). getD ends′ x 0) w ∙ ends-from ∙ ap (λ (x : ℕ). lineAt ls j .length * halves + x) q
 
-      tip-old : (l : Line) (u v h : ℕ) → List·Memᴰ l rest → Half l u v h → getD tip′ h 0 ≡ getD tip h 0
-      tip-old l u v h i hf = let num = d .numbered l i in let halves-of = half-no hf in tip-other h (λ q. omega (arith, num .0, halves-of .0)) (λ q. omega (arith, num .0, halves-of .0))
+      ends-old : (l : Line) (u v h : ℕ) → List·Memᴰ l rest → Half l u v h → getD ends′ h 0 ≡ getD ends h 0
+      ends-old l u v h i hf = let num = d .numbered l i in let no = half-no hf in ends-other h (λ q. omega (arith, num .0, no .0)) (λ q. omega (arith, num .0, no .0))
 
-      long-new : getD long′ (suc j) 0 ≡ lineAt ls j .length
-      long-new = rw lo (getD-set-same long (suc j) (natAbs (getD (take 5 (drop (j * 5) ls)) 3 (pos 0))) 0 (omega (arith, d .longs .longs)) ∙ length-is)
+      along-it : Half (lineAt ls j) (lineAt ls j .from) (lineAt ls j .to) (suc j * 2)
+      along-it = fore refl refl (omega arith)
 
-      long-old : (i : ℕ) → (i ≡ suc j → ⊥) → getD long′ i 0 ≡ getD long i 0
-      long-old i q = rw lo (getD-set-other long (suc j) i (natAbs (getD (take 5 (drop (j * 5) ls)) 3 (pos 0))) 0 q)
-
-      old-chains : Chains rest n head next fars add tip′
-      old-chains = record { of = d .chains .of; has = d .chains .has; tipOf = λ l u v h i hf. tip-old l u v h i hf ∙ d .chains .tipOf l u v h i hf }
+      against-it : Half (lineAt ls j) (lineAt ls j .to) (lineAt ls j .from) (suc j * 2 + 1)
+      against-it = aft refl refl (omega arith)
 
       wider : Wider rest (lineAt ls j ∷ rest) (lineAt ls j)
       wider = record { mine = List·Memᴰ·head refl; keeps = λ k i. List·Memᴰ·tail i; only = λ k i. go k i }
@@ -232,68 +217,71 @@ module _ (n : ℕ) (ls : List ℤ) where
           go k (List·Memᴰ·head q) = inl q
           go k (List·Memᴰ·tail i) = inr i
 
-      stands : DrawingAt j r tip′ long′ head′ next′ fars′ add′
+      stands : DrawingAt j ends′ head′ next′
       stands = record {
-        tips = record { tips = rw ti (simp length-set (d .tips .tips)); tip-ok = λ h l. tip-ok h l (ℕ-discrete h (suc j * 2)) (ℕ-discrete h (suc j * 2 + 1)) };
-        longs = record { longs = rw lo (simp length-set (d .longs .longs)); long-ok = λ i l. long-ok i l (ℕ-discrete i (suc j)) };
-        nodes = rw ri (ad .nodes);
-        heads = rw ri (ad .heads);
-        few = omega (arith, d .few, ri);
+        bounded = record {
+          ends-at = rw en (simp length-set (d .bounded .ends-at));
+          mark-ok = λ h l. mark-ok h l (ℕ-discrete h (suc j * 2)) (ℕ-discrete h (suc j * 2 + 1));
+          short = λ h l. short h l (ℕ-discrete h (suc j * 2)) (ℕ-discrete h (suc j * 2 + 1));
+        };
         sound = rw more-lines (λ l i. sounds l i);
-        chains = rw more-lines (ad .chains rest (lineAt ls j ∷ rest) tip′ (lineAt ls j) (d .sound)
-            (record { f-is = sym from-is; t-is = sym to-is; number-is = refl; length-is = sym length-is }) wider tip-new old-chains);
+        drawn = rw more-lines (join-draws rest (lineAt ls j ∷ rest) (lineAt ls j) (d .sound) fresh wider
+            (λ k i q. omega (arith, d .numbered k i .0)) (told-mark ends′ fresh few-marks against-it ends-from) (told-mark ends′ fresh few-marks along-it ends-to)
+            room jn (d .drawn .heads) (d .drawn .chains));
+        told = rw more-lines (λ l u v h i hf. told l u v h i hf);
         numbered = rw more-lines (λ l i. numbered l i);
-        longOf = rw more-lines (λ l i. longOf l i);
         lineOf = rw more-lines (λ i l h. lineOf i l h (ℕ-discrete i (suc j)));
       }
         where
-          tip-ok : (h : ℕ) → h < halves → Dec (h ≡ suc j * 2) → Dec (h ≡ suc j * 2 + 1) → getD tip′ h 0 < n
-          tip-ok h l (yes q) x = omega (arith, ap (λ (z : ℕ). getD tip′ z 0) q, tip-to, fresh .to-high)
-          tip-ok h l (no q) (yes x) = omega (arith, ap (λ (z : ℕ). getD tip′ z 0) x, tip-from, fresh .from-high)
-          tip-ok h l (no q) (no x) = omega (arith, tip-other h q x, d .tips .tip-ok h l)
+          mark-ok : (h : ℕ) → h < halves → Dec (h ≡ suc j * 2) → Dec (h ≡ suc j * 2 + 1) → markOf ends′ h < n
+          mark-ok h l (yes q) x = omega (arith, ap (λ (z : ℕ). getD ends′ z 0) q, ends-to, fresh .to-high)
+          mark-ok h l (no q) (yes x) = omega (arith, ap (λ (z : ℕ). getD ends′ z 0) x, ends-from, fresh .from-high)
+          mark-ok h l (no q) (no x) = omega (arith, ends-other h q x, d .bounded .mark-ok h l)
 
-          long-ok : (i : ℕ) → i < numberLimit → Dec (i ≡ suc j) → getD long′ i 0 ≤ mostLength
-          long-ok i l (yes q) = omega (arith, ap (λ (z : ℕ). getD long′ z 0) q, long-new, fresh .short)
-          long-ok i l (no q) = omega (arith, long-old i q, d .longs .long-ok i l)
+          short : (h : ℕ) → h < halves → Dec (h ≡ suc j * 2) → Dec (h ≡ suc j * 2 + 1) → metresOf ends′ h ≤ mostLength
+          short h l (yes q) x = omega (arith, ap (λ (z : ℕ). getD ends′ z 0) q, ends-to, fresh .to-high, fresh .short)
+          short h l (no q) (yes x) = omega (arith, ap (λ (z : ℕ). getD ends′ z 0) x, ends-from, fresh .from-high, fresh .short)
+          short h l (no q) (no x) = omega (arith, ends-other h q x, d .bounded .short h l)
 
           sounds : (l : Line) → List·Memᴰ l (lineAt ls j ∷ rest) → Sound n l
           sounds l (List·Memᴰ·head q) = subst (Sound n) (sym q) fresh
           sounds l (List·Memᴰ·tail i) = d .sound l i
 
+          told : (l : Line) (u v h : ℕ) → List·Memᴰ l (lineAt ls j ∷ rest) → Half l u v h → getD ends′ h 0 ≡ l .length * halves + v
+          told l u v h (List·Memᴰ·head q) hf = told-new u v h (subst (λ (z : Line). Half z u v h) q hf) ∙ ap (λ (z : Line). z .length * halves + v) (sym q)
+          told l u v h (List·Memᴰ·tail i) hf = ends-old l u v h i hf ∙ d .told l u v h i hf
+
           numbered : (l : Line) → List·Memᴰ l (lineAt ls j ∷ rest) → (j < l .number) × (l .number ≤ length ls / 5)
           numbered l (List·Memᴰ·head q) = (omega (arith, ap (λ (z : Line). z .number) q), omega (arith, ap (λ (z : Line). z .number) q))
           numbered l (List·Memᴰ·tail i) = (omega (arith, d .numbered l i .0), d .numbered l i .1)
 
-          longOf : (l : Line) → List·Memᴰ l (lineAt ls j ∷ rest) → getD long′ (l .number) 0 ≡ l .length
-          longOf l (List·Memᴰ·head q) = ap (λ (z : Line). getD long′ (z .number) 0) q ∙ long-new ∙ ap (λ (z : Line). z .length) (sym q)
-          longOf l (List·Memᴰ·tail i) = long-old (l .number) (λ q. omega (arith, d .numbered l i .0)) ∙ d .longOf l i
-
-          lineOf : (i : ℕ) → i < numberLimit → 0 < getD long′ i 0 → Dec (i ≡ suc j) → (l : Line) × List·Memᴰ l (lineAt ls j ∷ rest) × (l .number ≡ i)
+          lineOf : (i : ℕ) → i < numberLimit → 0 < getD ends′ (i * 2) 0 → Dec (i ≡ suc j) → (l : Line) × List·Memᴰ l (lineAt ls j ∷ rest) × (l .number ≡ i)
           lineOf i l h (yes q) = (lineAt ls j, List·Memᴰ·head refl, sym q)
-          lineOf i l h (no q) = let w = d .lineOf i l (omega (arith, h, long-old i q)) in (w .0, List·Memᴰ·tail (w .1), w .2)
+          lineOf i l h (no q) =
+              let w = d .lineOf i l (omega (arith, h, ends-other (i * 2) (λ z. omega arith) (λ z. omega arith))) in (w .0, List·Memᴰ·tail (w .1), w .2)
 
-    pub draw-next : Drew n cnt (suc j) (take 5 (drop (j * 5) ls)) tip long head next fars add tip′ long′ head′ next′ fars′ add′ r → DrawingAt j r tip′ long′ head′ next′ fars′ add′
-    draw-next (withdrawn w ri ti lo eh ex ef ea) = rw (ri, ti, lo, eh, ex, ef, ea) (skipped w)
-    draw-next (drawn w ri ti lo ad) = stands w ri ti lo ad
+    pub draw-next : Drew (suc j) (take 5 (drop (j * 5) ls)) ends head next ends′ head′ next′ → DrawingAt j ends′ head′ next′
+    draw-next (withdrawn w ei eh ex) = rw (ei, eh, ex) (skipped w)
+    draw-next (drawn w ei jn) = stands w ei jn
 
-  pub draw-end : (j cnt : ℕ) (tip long head next fars add : List ℕ) → length ls / 5 + 1 < numberLimit → j ≡ 0 → DrawingAt j cnt tip long head next fars add → BookDrawn n ls tip long head next fars add cnt
-  draw-end j cnt tip long head next fars add room z d = record {
-    tips = d .tips;
-    longs = d .longs;
-    nodes = d .nodes;
-    heads = d .heads;
+  pub draw-end : (j : ℕ) (ends head next : List ℕ) → length ls / 5 + 1 < numberLimit → n ≤ halves → j ≡ 0 → DrawingAt j ends head next → BookDrawn n ls ends head next
+  draw-end j ends head next room few-marks z d = record {
+    bounded = d .bounded;
+    heads = d .drawn .heads;
     listed = record {
       rising = rising-standing ls;
       sound = λ l i. d .sound l (there l i);
+      few = few-marks;
       numbered = λ l i. omega (arith, d .numbered l (there l i) .1);
-      tipOf = λ l u v h i hf. d .chains .tipOf l u v h (there l i) hf;
-      longOf = λ l i. d .longOf l (there l i);
+      told = λ l u v h i. d .told l u v h (there l i);
       lineOf = λ i l h. let w = d .lineOf i (omega arith) h in (w .0, here (w .0) (w .1), w .2);
     };
     given = record {
       rising = rising-standing ls;
       sound = λ l i. d .sound l (there l i);
-      chains = subst (λ (x : List Line). Chains x n head next fars add tip) (sym all) (d .chains);
+      few = few-marks;
+      told = λ l u v h i. d .told l u v h (there l i);
+      chains = rw all (d .drawn .chains);
     };
   }
     where
@@ -311,50 +299,60 @@ module _ (n : ℕ) (ls : List ℤ) where
 entry-is : (x : ℕ) (xs : List ℤ) → take (x + 5 - x) xs ≡ take 5 xs
 entry-is x xs = let z : x + 5 - x ≡ 5 = omega arith in ap (λ (k : ℕ). take k xs) z
 
-module _ (n : ℕ) (ls : List ℤ) (j cnt : ℕ) (tip long head next fars add tip₀ long₀ head₀ next₀ fars₀ add₀ : List ℕ) (low : 0 < j) (high : j ≤ length ls / 5)
-    (sh : Sheet n ls tip₀ long₀ head₀ next₀ fars₀ add₀) (d : DrawingAt n ls j cnt tip long head next fars add) where
+module _ (n : ℕ) (ls : List ℤ) (j : ℕ) (ends head next ends₀ head₀ next₀ : List ℕ) (low : 0 < j) (high : j ≤ length ls / 5)
+    (sh : Sheet n ls ends₀ head₀ next₀) (room : RoomChains n head next) (d : DrawingAt n ls j ends head next) where
   back-one : j ≡ suc (j - 1)
   back-one = omega arith
 
   good-at : GoodLine (n - 1) ls (j - 1)
   good-at = sh .good (j - 1) (omega arith)
 
-  pub entry-asked : length next ≡ length next₀ → length fars ≡ length fars₀ → length add ≡ length add₀
-      → Entry n cnt j (take ((j - 1) * 5 + 5 - (j - 1) * 5) (drop ((j - 1) * 5) ls)) tip long head next fars add
-  entry-asked ln lf la = record {
+  pub entry-asked : Entry n j (take ((j - 1) * 5 + 5 - (j - 1) * 5) (drop ((j - 1) * 5) ls)) ends head next
+  entry-asked = record {
     whole = simp (length-take, length-drop) (omega arith);
     some-mark = sh .some-mark;
+    few-marks = sh .few-marks;
     good = rw entry-is (good-entry (n - 1) ls (j - 1) good-at);
     number-ok = omega (arith, sh .few);
-    tips = d .tips .tips;
-    longs = d .longs .longs;
-    places = record {
-      heads = d .heads;
-      nodes = d .nodes;
-      nexts = omega (arith, d .few, sh .nexts);
-      ends = omega (arith, d .few, sh .ends);
-      adds = omega (arith, d .few, sh .adds);
-    };
+    ends-at = d .bounded .ends-at;
+    chains = room;
   }
 
-  pub draw-turn : (r : ℕ) (tip′ long′ head′ next′ fars′ add′ : List ℕ)
-      → Drew n cnt j (take ((j - 1) * 5 + 5 - (j - 1) * 5) (drop ((j - 1) * 5) ls)) tip long head next fars add tip′ long′ head′ next′ fars′ add′ r
-      → DrawingAt n ls (j - 1) r tip′ long′ head′ next′ fars′ add′
-  draw-turn r tip′ long′ head′ next′ fars′ add′ dr =
-      draw-next n ls (j - 1) cnt r tip long head next fars add tip′ long′ head′ next′ fars′ add′ (omega arith) (sh .few) (sh .some-mark) good-at
-      (subst (λ (k : ℕ). DrawingAt n ls k cnt tip long head next fars add) back-one d)
-      (subst (λ (k : ℕ). Drew n cnt k (take 5 (drop ((j - 1) * 5) ls)) tip long head next fars add tip′ long′ head′ next′ fars′ add′ r) back-one
-      (rw entry-is at dr))
+  pub draw-turn : (ends′ head′ next′ : List ℕ) → Drew j (take ((j - 1) * 5 + 5 - (j - 1) * 5) (drop ((j - 1) * 5) ls)) ends head next ends′ head′ next′
+      → DrawingAt n ls (j - 1) ends′ head′ next′
+  draw-turn ends′ head′ next′ dr =
+      draw-next n ls (j - 1) ends head next ends′ head′ next′ (omega arith) (sh .few) (sh .few-marks) (sh .some-mark) room good-at
+      (subst (λ (k : ℕ). DrawingAt n ls k ends head next) back-one d)
+      (subst (λ (k : ℕ). Drew k (take 5 (drop ((j - 1) * 5) ls)) ends head next ends′ head′ next′) back-one (rw entry-is at dr))
 
 -- ---- one line, by the numbers that were read
 
-pub entry-fits : {n cnt number : ℕ} {e : List ℤ} {tip long head next fars add : List ℕ} (en : Entry n cnt number e tip long head next fars add) (f t l : ℕ)
-    → f ≡ natAbs (getD e 0 (pos 0)) → t ≡ natAbs (getD e 1 (pos 0)) → l ≡ natAbs (getD e 3 (pos 0)) → Fits n f t number l
-entry-fits en f t l p q r = let g = en .good in
-    record { f-ok = omega (arith, g .from .high, en .some-mark); t-ok = omega (arith, g .to .high, en .some-mark); number = en .number-ok; short = omega (arith, g .long .high) }
+module _ {n number : ℕ} {e : List ℤ} {ends head next : List ℕ} (en : Entry n number e ends head next) (f t l : ℕ)
+    (p : f ≡ natAbs (getD e 0 (pos 0))) (q : t ≡ natAbs (getD e 1 (pos 0))) (r : l ≡ natAbs (getD e 3 (pos 0))) where
+  pub entry-short : (f < n) × (t < n) × (l ≤ mostLength)
+  entry-short = let g = en .good in
+      (omega (arith, g .from .high, en .some-mark), omega (arith, g .to .high, en .some-mark), omega (arith, g .long .high))
 
-pub drew-is : {n cnt number : ℕ} {e : List ℤ} {tip long head next fars add head′ next′ fars′ add′ : List ℕ} (f t l : ℕ)
-    → f ≡ natAbs (getD e 0 (pos 0)) → t ≡ natAbs (getD e 1 (pos 0)) → l ≡ natAbs (getD e 3 (pos 0)) → eqZ (getD e 4 (pos 0)) (pos 0) ≡ false
-    → Added n cnt head next fars add head′ next′ fars′ add′ f t number l
-    → Drew n cnt number e tip long head next fars add (set (set tip (number * 2) t) (number * 2 + 1) f) (set long number l) head′ next′ fars′ add′ (cnt + 2)
-drew-is f t l p q r st ad = drawn st refl (rw (p, q)) (rw r) (rw (← p, ← q, ← r) ad)
+  pub entry-fits : Fits n (set (set ends (number * 2) (l * halves + t)) (number * 2 + 1) (l * halves + f)) number
+  entry-fits = record {
+    number-ok = en .number-ok;
+    ends-at = simp length-set (en .ends-at);
+    from-ok = omega (
+      arith,
+      entry-short,
+      getD-set-same (set ends (number * 2) (l * halves + t)) (number * 2 + 1) (l * halves + f) 0 (simp length-set (omega (arith, en .ends-at, en .number-ok))),
+      en .few-marks,
+    );
+    to-ok = omega (
+      arith,
+      entry-short,
+      getD-set-other (set ends (number * 2) (l * halves + t)) (number * 2 + 1) (number * 2) (l * halves + f) 0 (λ z. omega arith)
+          ∙ getD-set-same ends (number * 2) (l * halves + t) 0 (omega (arith, en .ends-at, en .number-ok)),
+      en .few-marks,
+    );
+  }
+
+  pub drew-is : {head′ next′ : List ℕ} → eqZ (getD e 4 (pos 0)) (pos 0) ≡ false
+      → Joined (set (set ends (number * 2) (l * halves + t)) (number * 2 + 1) (l * halves + f)) head next head′ next′ number
+      → Drew number e ends head next (set (set ends (number * 2) (l * halves + t)) (number * 2 + 1) (l * halves + f)) head′ next′
+  drew-is st jn = drawn st (rw (p, q, r)) jn

@@ -1,4 +1,4 @@
--- The lent book is drawn: tables of its standing lines by number, and their chains. Assumes nothing.
+-- The lent book is drawn: of each half of its standing lines what ends has, and their chains. Assumes nothing.
 use Prim.Native.Nat.{ℕ, _+_, _*_, _-_, _/_, _≤_, _<_}
 use mathlib.Core.Path.{_≡_}
 use mathlib.Core.Bool.{true, false}
@@ -8,46 +8,42 @@ use lib.ListN.{length, getD, set}
 use Rattle.network.specs.Standing.{standing}
 use Rattle.laws.specs.Tests.{eqZ}
 use Rattle.book.specs.Good.{GoodLine}
-use Rattle.chains.specs.Chains.{Nodes, Heads, Tips, Given, halves, numberLimit}
-use Rattle.chains.specs.Link.{Places, Added}
-use Rattle.chains.specs.Listed.{Longs, Listed}
+use Rattle.chains.specs.Chains.{Bounded, Heads, Given, halves, numberLimit}
+use Rattle.chains.specs.Link.{RoomChains, Joined}
+use Rattle.chains.specs.Listed.{Listed}
 
 -- one entry e, the line of this number
-pub record Entry (n cnt number : ℕ) (e : List ℤ) (tip long head next fars add : List ℕ) : Type 0 where
+pub record Entry (n number : ℕ) (e : List ℤ) (ends head next : List ℕ) : Type 0 where
   pub whole : length e ≡ 5
   pub some-mark : 0 < n
+  pub few-marks : n ≤ halves
   pub good : GoodLine (n - 1) e 0
   pub number-ok : number < numberLimit
-  pub tips : halves ≤ length tip
-  pub longs : numberLimit ≤ length long
-  pub places : Places n cnt head next fars add
+  pub ends-at : halves ≤ length ends
+  pub chains : RoomChains n head next
 
-pub data Drew (n cnt number : ℕ) (e : List ℤ) (tip long head next fars add tip′ long′ head′ next′ fars′ add′ : List ℕ) (r : ℕ) : Type 0 where
-  withdrawn : eqZ (getD e 4 (pos 0)) (pos 0) ≡ true → r ≡ cnt → tip′ ≡ tip → long′ ≡ long → head′ ≡ head → next′ ≡ next → fars′ ≡ fars → add′ ≡ add
-      → Drew n cnt number e tip long head next fars add tip′ long′ head′ next′ fars′ add′ r
-  drawn : eqZ (getD e 4 (pos 0)) (pos 0) ≡ false → r ≡ cnt + 2
-      → tip′ ≡ set (set tip (number * 2) (natAbs (getD e 1 (pos 0)))) (number * 2 + 1) (natAbs (getD e 0 (pos 0)))
-      → long′ ≡ set long number (natAbs (getD e 3 (pos 0)))
-      → Added n cnt head next fars add head′ next′ fars′ add′ (natAbs (getD e 0 (pos 0))) (natAbs (getD e 1 (pos 0))) number (natAbs (getD e 3 (pos 0)))
-      → Drew n cnt number e tip long head next fars add tip′ long′ head′ next′ fars′ add′ r
+-- what an entry says of its half to the end at this place of the entry: length and mark
+abbrev pub endOf : List ℤ → ℕ → ℕ
+endOf e place = natAbs (getD e 3 (pos 0)) * halves + natAbs (getD e place (pos 0))
+
+pub data Drew (number : ℕ) (e : List ℤ) (ends head next ends′ head′ next′ : List ℕ) : Type 0 where
+  withdrawn : eqZ (getD e 4 (pos 0)) (pos 0) ≡ true → ends′ ≡ ends → head′ ≡ head → next′ ≡ next
+      → Drew number e ends head next ends′ head′ next′
+  drawn : eqZ (getD e 4 (pos 0)) (pos 0) ≡ false → ends′ ≡ set (set ends (number * 2) (endOf e 1)) (number * 2 + 1) (endOf e 0)
+      → Joined ends′ head next head′ next′ number → Drew number e ends head next ends′ head′ next′
 
 -- lines of a book of n - 1 marks, each good, and room to draw them
-pub record Sheet (n : ℕ) (ls : List ℤ) (tip long head next fars add : List ℕ) : Type 0 where
+pub record Sheet (n : ℕ) (ls : List ℤ) (ends head next : List ℕ) : Type 0 where
   pub some-mark : 0 < n
+  pub few-marks : n ≤ halves
   pub few : length ls / 5 + 1 < numberLimit
   pub good : (i : ℕ) → i < length ls / 5 → GoodLine (n - 1) ls i
-  pub tips : halves ≤ length tip
-  pub longs : numberLimit ≤ length long
-  pub heads : n ≤ length head
-  pub nexts : 2 * (length ls / 5) ≤ length next
-  pub ends : 2 * (length ls / 5) ≤ length fars
-  pub adds : 2 * (length ls / 5) ≤ length add
+  pub ends-at : halves ≤ length ends
+  pub chains : RoomChains n head next
 
--- the standing lines are in the tables and in the chains
-pub record BookDrawn (n : ℕ) (ls : List ℤ) (tip long head next fars add : List ℕ) (cnt : ℕ) : Type 0 where
-  pub tips : Tips n tip
-  pub longs : Longs numberLimit long
-  pub nodes : Nodes n cnt next fars add
-  pub heads : Heads n cnt head
-  pub listed : Listed (standing ls) n (length ls / 5 + 1) tip long
-  pub given : Given (standing ls) n head next fars add tip
+-- ends and the chains are those of the standing lines
+pub record BookDrawn (n : ℕ) (ls : List ℤ) (ends head next : List ℕ) : Type 0 where
+  pub bounded : Bounded n ends
+  pub heads : Heads n head next
+  pub listed : Listed (standing ls) n (length ls / 5 + 1) ends
+  pub given : Given (standing ls) n head next ends

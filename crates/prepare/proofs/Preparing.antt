@@ -13,25 +13,23 @@ use Rattle.network.specs.Sound.{Rising, then, Placed}
 use Rattle.network.proofs.Count.{tree-and-roots, closing-count}
 use Rattle.network.proofs.Marks.{size}
 use Rattle.loops.proofs.Count.{loops-count}
+use Rattle.chains.specs.Link.{RoomChains}
 use Rattle.chains.specs.Listed.{Listed}
 use Rattle.closing.specs.Order.{Ready, Put}
 use Rattle.closing.proofs.Members.{length-numbers}
-use Rattle.subgraph.specs.Drawn.{Plot, TreeDrawn}
+use Rattle.subgraph.specs.Drawn.{RoomLay, TreeDrawn}
 use Rattle.subgraph.proofs.Turns.{going-start, queue-start}
 use Rattle.draw.specs.Book.{Sheet}
-use Rattle.prepare.specs.Prepared.{Good, Chained, Seats, BookPlanted, Orders, Started}
+use Rattle.prepare.specs.Prepared.{Good, RoomNet, RoomLoops, BookPlanted, Orders, Started}
 
-pub sheet-of : {n : ℕ} {ls : List ℤ} {tip long head next fars add : List ℕ} → Good n ls → Chained n ls tip long head next fars add → Sheet n ls tip long head next fars add
-sheet-of g c = record {
+pub sheet-of : {n : ℕ} {ls : List ℤ} {ends head next : List ℕ} → Good n ls → RoomNet n ends head next → Sheet n ls ends head next
+sheet-of g r = record {
   some-mark = g .some-mark;
+  few-marks = omega (arith, g .few-marks);
   few = omega (arith, g .few-lines);
   good = g .good;
-  tips = c .tips;
-  longs = c .longs;
-  heads = c .heads;
-  nexts = c .nexts;
-  ends = c .ends;
-  adds = c .adds;
+  ends-at = r .ends-at;
+  chains = r .chains;
 }
 
 -- lines by rising number, above k and below q
@@ -41,7 +39,7 @@ rising-few q k (l ∷ ls) h (then above r) f =
     let w = f l (List·Memᴰ·head refl) in
     omega (arith, w .0, rising-few q (l .number) ls (w .1) r (λ j i. (above j i, f j (List·Memᴰ·tail i) .1)))
 
-module _ (n q : ℕ) (tip long : List ℕ) (low : 0 < n) (some-line : 0 < q) (lines : List Line) (li : Listed lines n q tip long) where
+module _ (n q : ℕ) (ends : List ℕ) (some-line : 0 < q) (lines : List Line) (li : Listed lines n q ends) where
   placed : (l : Line) → List·Memᴰ l lines → Placed (n - 1) l
   placed l i = let x = li .sound l i in
       record { from-low = x .from-low; from-high = omega (arith, x .from-high); to-low = x .to-low; to-high = omega (arith, x .to-high) }
@@ -60,28 +58,27 @@ module _ (n q : ℕ) (tip long : List ℕ) (low : 0 < n) (some-line : 0 < q) (li
   pub few-closing : length (closing lines (tree (n - 1) lines)) < q
   few-closing = omega (arith, few-lines, roots, closing-count (n - 1) lines placed (li .rising) apart)
 
-  module _ (head next fars add close close′ : List ℕ) (count nodes : ℕ) (room : q ≤ length close + 1)
-      (put : Put (numbers (closing lines (tree (n - 1) lines))) close close′ count) (td : TreeDrawn lines n head next fars add tip nodes) where
-    pub half-nodes : nodes / 2 ≤ n - 1
-    half-nodes = omega (arith, td .count, roots)
+  module _ (head next close close′ : List ℕ) (count r : ℕ) (room : q ≤ length close + 1)
+      (put : Put (numbers (closing lines (tree (n - 1) lines))) close close′ count) (td : TreeDrawn lines n head next r) where
+    pub few-laid : r ≤ n - 1
+    few-laid = omega (arith, td .count, roots)
 
-    pub started : Started n lines tip head next fars add close′ count nodes (n - 1 - nodes / 2)
+    pub started : Started n lines head next close′ count (n - 1 - r)
     started = record {
-      going = going-start n lines tip close′ q nodes long head next fars add low li td
+      going = going-start n lines close′ q r ends head next li td
           (queue-start close close′ (closing lines (tree (n - 1) lines)) (omega (arith, few-closing)) (put .places));
       count-is = omega (arith, put .count, length-numbers (closing lines (tree (n - 1) lines)), loops-count (n - 1) lines placed (li .rising) apart, closing-count (n - 1) lines placed (li .rising) apart);
       parts-are = omega (arith, td .count, roots);
     }
 
-module _ {n q : ℕ} {tip long head next fars add best order rank sort close : List ℕ} (o : Orders n q tip long head next fars add best order rank sort close) where
-  pub ready-of : Ready n q tip best order long rank sort close
+module _ {n q : ℕ} {ends head next best order rank sort close : List ℕ} (o : Orders n q ends head next best order rank sort close) where
+  pub ready-of : Ready n q ends best order rank sort close
   ready-of = record {
     few-marks = o .few-marks;
     few = o .few-lines;
-    tips = o .tips;
+    bounded = o .bounded;
     bests = o .bests;
     ranks-at = o .ranks;
-    longs = record { longs = omega (arith, o .longs .longs, o .few-lines); long-ok = λ j h. o .longs .long-ok j (omega (arith, o .few-lines)) };
     some-mark = o .some-mark;
     orders = o .orders;
     order-ok = o .below;
@@ -90,42 +87,28 @@ module _ {n q : ℕ} {tip long head next fars add best order rank sort close : L
     lines = o .lines;
     listed = o .listed;
     holding = o .holding;
-    room = omega (arith, few-closing n q tip long (o .some-mark) (o .some-line) (o .lines) (o .listed), o .closes);
+    room = omega (arith, few-closing n q ends (o .some-line) (o .lines) (o .listed), o .closes);
   }
 
-  pub plot-of : Plot n best order head next fars add
-  plot-of = record {
-    some-mark = o .some-mark;
-    bests = o .bests;
-    orders = o .orders;
-    below = o .below;
-    heads = o .heads;
-    nexts = o .nexts;
-    ends = o .ends;
-    adds = o .adds;
-  }
+  pub room-of : RoomLay n best order head next
+  room-of = record { some-mark = o .some-mark; bests = o .bests; orders = o .orders; below = o .below; chains = o .chains }
 
 -- what the order of the loops asks for, of a planted book
-pub orders-of : {n : ℕ} {ls : List ℤ} {tip long head next fars add best order rank sort close : List ℕ} → Good n ls → BookPlanted n ls tip long best order
-    → n ≤ length head → n ≤ length best → n ≤ length order → Seats n ls next fars add rank sort close
-    → Orders n (length ls / 5 + 1) tip long head next fars add best order rank sort close
-orders-of {ls = ls} g p heads bests orders s = record {
+pub orders-of : {n : ℕ} {ls : List ℤ} {ends head next best order rank sort close : List ℕ} → Good n ls → BookPlanted n ls ends best order → RoomChains n head next
+    → n ≤ length best → n ≤ length order → RoomLoops n ls rank sort close → Orders n (length ls / 5 + 1) ends head next best order rank sort close
+orders-of {ls = ls} g p chains bests orders r = record {
   some-mark = g .some-mark;
   few-marks = g .few-marks;
   some-line = omega arith;
   few-lines = g .few-lines;
-  tips = p .tips;
-  longs = p .longs;
+  bounded = p .bounded;
   below = p .below;
-  heads = heads;
-  nexts = s .nexts;
-  ends = s .ends;
-  adds = s .adds;
+  chains = chains;
   bests = bests;
   orders = orders;
-  ranks = s .ranks;
-  sorts = s .sorts;
-  closes = omega (arith, s .closes);
+  ranks = r .ranks;
+  sorts = r .sorts;
+  closes = omega (arith, r .closes);
   lines = standing ls;
   listed = p .listed;
   holding = p .holding;

@@ -10,8 +10,9 @@ use Rattle.network.specs.Tree.{tree, pieces}
 use Rattle.loops.specs.Loops.{loops}
 use Rattle.nearest.specs.Heap.{leafLimit}
 use Rattle.book.specs.Good.{GoodLine}
-use Rattle.chains.specs.Chains.{Tips, halves, numberLimit}
-use Rattle.chains.specs.Listed.{Longs, Listed}
+use Rattle.chains.specs.Chains.{Bounded, halves}
+use Rattle.chains.specs.Link.{RoomChains}
+use Rattle.chains.specs.Listed.{Listed}
 use Rattle.tree.specs.Plant.{Holding, Below}
 use Rattle.subgraph.specs.Turn.{Going}
 
@@ -23,70 +24,58 @@ pub record Good (n : ℕ) (ls : List ℤ) : Type 0 where
   pub good : (i : ℕ) → i < length ls / 5 → GoodLine (n - 1) ls i
 
 -- room for the network
-pub record Chained (n : ℕ) (ls : List ℤ) (tip long head next fars add : List ℕ) : Type 0 where
-  pub tips : halves ≤ length tip
-  pub longs : numberLimit ≤ length long
-  pub heads : n ≤ length head
-  pub nexts : 2 * (length ls / 5) ≤ length next
-  pub ends : 2 * (length ls / 5) ≤ length fars
-  pub adds : 2 * (length ls / 5) ≤ length add
+pub record RoomNet (n : ℕ) (ends head next : List ℕ) : Type 0 where
+  pub ends-at : halves ≤ length ends
+  pub chains : RoomChains n head next
 
 -- room for the tree
-pub record Soil (n : ℕ) (best seg order : List ℕ) : Type 0 where
+pub record RoomPlant (n : ℕ) (best seg order : List ℕ) : Type 0 where
   pub bests : n ≤ length best
   pub segs : 2 * n ≤ length seg
   pub orders : n ≤ length order
 
--- room for the order of the loops and for the subgraph as it begins
-pub record Seats (n : ℕ) (ls : List ℤ) (next fars add rank sort close : List ℕ) : Type 0 where
-  pub nexts : 2 * n ≤ length next
-  pub ends : 2 * n ≤ length fars
-  pub adds : 2 * n ≤ length add
+-- room for the order of the loops
+pub record RoomLoops (n : ℕ) (ls : List ℤ) (rank sort close : List ℕ) : Type 0 where
   pub ranks : n ≤ length rank
   pub sorts : 2 * (length ls / 5 + 1) ≤ length sort
   pub closes : length ls / 5 ≤ length close
 
--- the tables and the tree of the standing lines
-pub record BookPlanted (n : ℕ) (ls : List ℤ) (tip long best order : List ℕ) : Type 0 where
-  pub tips : Tips n tip
-  pub longs : Longs numberLimit long
-  pub listed : Listed (standing ls) n (length ls / 5 + 1) tip long
-  pub holding : Holding (tree (n - 1) (standing ls)) best order tip
+-- ends and the tree of the standing lines
+pub record BookPlanted (n : ℕ) (ls : List ℤ) (ends best order : List ℕ) : Type 0 where
+  pub bounded : Bounded n ends
+  pub listed : Listed (standing ls) n (length ls / 5 + 1) ends
+  pub holding : Holding (tree (n - 1) (standing ls)) best order ends
   pub below : Below n order
 
--- what the order of the loops asks for: the tables and the tree of some lines, in numbers below q, and room
-pub record Orders (n q : ℕ) (tip long head next fars add best order rank sort close : List ℕ) : Type 0 where
+-- what the order of the loops asks for: ends and the tree of some lines, in numbers below q, and room
+pub record Orders (n q : ℕ) (ends head next best order rank sort close : List ℕ) : Type 0 where
   pub some-mark : 0 < n
   pub few-marks : n ≤ leafLimit
   pub some-line : 0 < q
   pub few-lines : q ≤ leafLimit
-  pub tips : Tips n tip
-  pub longs : Longs numberLimit long
+  pub bounded : Bounded n ends
   pub below : Below n order
-  pub heads : n ≤ length head
-  pub nexts : 2 * n ≤ length next
-  pub ends : 2 * n ≤ length fars
-  pub adds : 2 * n ≤ length add
+  pub chains : RoomChains n head next
   pub bests : n ≤ length best
   pub orders : n ≤ length order
   pub ranks : n ≤ length rank
   pub sorts : 2 * q ≤ length sort
   pub closes : q ≤ length close + 1
   pub lines : List Line
-  pub listed : Listed lines n q tip long
-  pub holding : Holding (tree (n - 1) lines) best order tip
+  pub listed : Listed lines n q ends
+  pub holding : Holding (tree (n - 1) lines) best order ends
 
--- before the first turn: so many loops, so many nodes, so many pieces
-pub record Started (n : ℕ) (lines : List Line) (tip head next fars add close : List ℕ) (count nodes parts : ℕ) : Type 0 where
-  pub going : Going n 0 nodes lines tip close head next fars add
+-- before the first turn: so many loops, so many pieces
+pub record Started (n : ℕ) (lines : List Line) (head next close : List ℕ) (count parts : ℕ) : Type 0 where
+  pub going : Going n 0 lines close head next
   pub count-is : count ≡ length (loops (n - 1) lines)
   pub parts-are : parts ≡ pieces (tree (n - 1) lines)
 
-abbrev pub Ordered : ℕ → ℕ → List ℕ → List ℕ → List ℕ → List ℕ → List ℕ → List ℕ → List ℕ → List ℕ → List ℕ → ℕ → ℕ → ℕ → Type 0
-Ordered n q tip long best order head next fars add close count nodes parts =
-    (lines : List Line) → Listed lines n q tip long → Holding (tree (n - 1) lines) best order tip → Started n lines tip head next fars add close count nodes parts
+abbrev pub Ordered : ℕ → ℕ → List ℕ → List ℕ → List ℕ → List ℕ → List ℕ → List ℕ → ℕ → ℕ → Type 0
+Ordered n q ends best order head next close count parts =
+    (lines : List Line) → Listed lines n q ends → Holding (tree (n - 1) lines) best order ends → Started n lines head next close count parts
 
 -- a lent book before its first turn
-pub record BookStarted (n : ℕ) (ls : List ℤ) (tip long head next fars add best order close : List ℕ) (count nodes parts : ℕ) : Type 0 where
-  pub planted : BookPlanted n ls tip long best order
-  pub started : Started n (standing ls) tip head next fars add close count nodes parts
+pub record BookStarted (n : ℕ) (ls : List ℤ) (ends head next best order close : List ℕ) (count parts : ℕ) : Type 0 where
+  pub planted : BookPlanted n ls ends best order
+  pub started : Started n (standing ls) head next close count parts

@@ -1,43 +1,36 @@
 // All that comes before the first loop's turn.
-ghost use Rattle.prepare.specs.Prepared.{Good, Chained, Soil, Seats, BookPlanted, Orders, Ordered, BookStarted};
+ghost use Rattle.prepare.specs.Prepared.{Good, RoomNet, RoomPlant, RoomLoops, BookPlanted, Orders, Ordered, BookStarted};
 use book::line::Line;
 
-// The count of loops, the count of the subgraph's nodes, and the count of pieces.
+// The count of loops and the count of pieces.
 pub struct Start {
     pub count: usize,
-    pub nodes: usize,
     pub pieces: usize,
 }
 
 // The book is drawn and its tree planted. Marks are below n.
 pub fn plant_book(
     lines: &[i64],
-    tip: &mut [u64],
-    long: &mut [u64],
+    ends: &mut [u64],
     head: &mut [u64],
     next: &mut [u64],
-    far: &mut [u64],
-    add: &mut [u64],
     best: &mut [u64],
     seg: &mut [u64],
     order: &mut [u64],
     n: usize,
 )
-    requires { ⌜ Good n (now lines) ⌝ ∗ ⌜ Chained n (now lines) (now tip) (now long) (now head) (now next) (now far) (now add) ⌝ ∗ ⌜ Soil n (now best) (now seg) (now order) ⌝ }
-    ensures { λ _. ⌜ BookPlanted n (now (lines .entry)) (now (tip .exit)) (now (long .exit)) (now (best .exit)) (now (order .exit)) ⌝ }
+    requires { ⌜ Good n (now lines) ⌝ ∗ ⌜ RoomNet n (now ends) (now head) (now next) ⌝ ∗ ⌜ RoomPlant n (now best) (now seg) (now order) ⌝ }
+    ensures { λ _. ⌜ BookPlanted n (now (lines .entry)) (now (ends .exit)) (now (best .exit)) (now (order .exit)) ⌝ }
 {
-    let cnt = draw::draw_book(lines, tip, long, head, next, far, add, n);
-    tree::plant(head, next, far, add, tip, best, seg, order, n, cnt);
+    draw::draw_book(lines, ends, head, next, n);
+    tree::plant(head, next, ends, best, seg, order, n);
 }
 
 // The closing lines are put in order, and the subgraph begins as the tree. Line numbers are below q.
 fn order_loops(
-    tip: &[u64],
-    long: &[u64],
+    ends: &[u64],
     head: &mut [u64],
     next: &mut [u64],
-    far: &mut [u64],
-    add: &mut [u64],
     best: &[u64],
     order: &[u64],
     rank: &mut [u64],
@@ -46,27 +39,24 @@ fn order_loops(
     n: usize,
     q: usize,
 ) -> Start
-    requires { ⌜ Orders n q (now tip) (now long) (now head) (now next) (now far) (now add) (now best) (now order) (now rank) (now sort) (now close) ⌝ }
-    ensures { λ r. ⌜ Ordered n q (now (tip .entry)) (now (long .entry)) (now (best .entry)) (now (order .entry)) (now (head .exit)) (now (next .exit)) (now (far .exit)) (now (add .exit)) (now (close .exit)) (r .count) (r .nodes) (r .pieces) ⌝ }
+    requires { ⌜ Orders n q (now ends) (now head) (now next) (now best) (now order) (now rank) (now sort) (now close) ⌝ }
+    ensures { λ r. ⌜ Ordered n q (now (ends .entry)) (now (best .entry)) (now (order .entry)) (now (head .exit)) (now (next .exit))
+        (now (close .exit)) (r .count) (r .pieces) ⌝ }
 {
-    let count = closing::closing_lines(tip, best, order, long, rank, sort, close, n, q);
-    let nodes = subgraph::lay_tree(tip, long, best, order, head, next, far, add, n);
+    let count = closing::closing_lines(ends, best, order, rank, sort, close, n, q);
+    let tree_lines = subgraph::lay_tree(ends, best, order, head, next, n);
     Start {
         count,
-        nodes,
-        pieces: n - 1 - nodes / 2,
+        pieces: n - 1 - tree_lines,
     }
 }
 
 // A lent book up to its first loop's turn: tree, closing lines in their order, subgraph. Marks are below n.
 pub fn start_book(
     lines: &[i64],
-    tip: &mut [u64],
-    long: &mut [u64],
+    ends: &mut [u64],
     head: &mut [u64],
     next: &mut [u64],
-    far: &mut [u64],
-    add: &mut [u64],
     best: &mut [u64],
     seg: &mut [u64],
     order: &mut [u64],
@@ -75,24 +65,12 @@ pub fn start_book(
     close: &mut [u64],
     n: usize,
 ) -> Start
-    requires { ⌜ Good n (now lines) ⌝ ∗ ⌜ Chained n (now lines) (now tip) (now long) (now head) (now next) (now far) (now add) ⌝ ∗ ⌜ Soil n (now best) (now seg) (now order) ⌝ ∗ ⌜ Seats n (now lines) (now next) (now far) (now add) (now rank) (now sort) (now close) ⌝ }
-    ensures { λ r. ⌜ BookStarted n (now (lines .entry)) (now (tip .exit)) (now (long .exit)) (now (head .exit)) (now (next .exit)) (now (far .exit)) (now (add .exit)) (now (best .exit)) (now (order .exit)) (now (close .exit)) (r .count) (r .nodes) (r .pieces) ⌝ }
+    requires { ⌜ Good n (now lines) ⌝ ∗ ⌜ RoomNet n (now ends) (now head) (now next) ⌝ ∗ ⌜ RoomPlant n (now best) (now seg) (now order) ⌝
+        ∗ ⌜ RoomLoops n (now lines) (now rank) (now sort) (now close) ⌝ }
+    ensures { λ r. ⌜ BookStarted n (now (lines .entry)) (now (ends .exit)) (now (head .exit)) (now (next .exit)) (now (best .exit))
+        (now (order .exit)) (now (close .exit)) (r .count) (r .pieces) ⌝ }
 {
-    plant_book(lines, tip, long, head, next, far, add, best, seg, order, n);
+    plant_book(lines, ends, head, next, best, seg, order, n);
     let q = lines.len() / Line::WORDS + 1;
-    order_loops(
-        tip,
-        long,
-        head,
-        next,
-        far,
-        add,
-        best,
-        order,
-        rank,
-        sort,
-        close,
-        n,
-        q,
-    )
+    order_loops(ends, head, next, best, order, rank, sort, close, n, q)
 }

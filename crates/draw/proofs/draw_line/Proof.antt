@@ -1,10 +1,10 @@
-use Rattle.draw.proofs.Drawing.{entry-fits, drew-is}
-use native.Mathlib.Omega.{arith}
 use mathlib.Core.Path.{refl, sym, _∙_}
 use lib.ListN.{length-set}
 use Rattle.laws.proofs.Signed.{back}
 use Rattle.laws.proofs.Size.{not-negative}
 use Rattle.draw.specs.Book.{withdrawn}
+use Rattle.draw.proofs.Drawing.{entry-short, entry-fits, drew-is}
+use native.Mathlib.Omega.{arith}
 use borrow.Author.Needs.{needs}
 use Rattle.draw.proofs.draw_line.Statement.{statement}
 use Rattle.draw.proofs.draw_line.Tie as tie
@@ -16,7 +16,7 @@ same-requires : tie.Need-same-requires
 same-requires c κs = search needs
 
 returns : tie.Need-returns
-returns c = withdrawn (sym (c .before .same .ensures ∙ search needs) ∙ c .if1 .taken) refl refl refl refl refl refl refl
+returns c = withdrawn (sym (c .before .same .ensures ∙ search needs) ∙ c .if1 .taken) refl refl refl
 
 shared-slice-copy-out-index : tie.Need-shared-slice-copy-out-index
 shared-slice-copy-out-index c = search needs
@@ -42,34 +42,60 @@ index-requires-3 c κs =
     let entry : tie.Start = search in
     rw (back _ (c .index-arg3 .given)) (not-negative (entry .pre .good .long))
 
-mul-tip : tie.Need-mul-tip
-mul-tip c = search needs
-
-mul-tip-2 : tie.Need-mul-tip-2
-mul-tip-2 c = search needs
-
-slice-write-tip : tie.Need-slice-write-tip
-slice-write-tip c = search needs
-
-mul-tip-3 : tie.Need-mul-tip-3
-mul-tip-3 c = search needs
-
-add-tip : tie.Need-add-tip
-add-tip c = search needs
-
-mul-tip-4 : tie.Need-mul-tip-4
-mul-tip-4 c = search needs
-
-slice-write-tip-2 : tie.Need-slice-write-tip-2
-slice-write-tip-2 c =
+mul-ends : tie.Need-mul-ends
+mul-ends c =
+    let after-index3 : tie.After-index3 = search in
+    let after-index2 : tie.After-index2 = search in
+    let after-index : tie.After-index = search in
     let entry : tie.Start = search in
-    simp length-set (omega (arith, entry .pre .tips, entry .pre .number-ok))
+    omega (arith, entry-short (entry .pre) (after-index .index .result) (after-index2 .index2 .result) (after-index3 .index3 .result) (after-index .index .ensures ∙ search needs) (after-index2 .index2 .ensures ∙ search needs) (after-index3 .index3 .ensures ∙ search needs), entry .pre .few-marks)
 
-mul-long : tie.Need-mul-long
-mul-long c = search needs
+add-ends : tie.Need-add-ends
+add-ends c =
+    let after-index3 : tie.After-index3 = search in
+    let after-index2 : tie.After-index2 = search in
+    let after-index : tie.After-index = search in
+    let entry : tie.Start = search in
+    omega (arith, entry-short (entry .pre) (after-index .index .result) (after-index2 .index2 .result) (after-index3 .index3 .result) (after-index .index .ensures ∙ search needs) (after-index2 .index2 .ensures ∙ search needs) (after-index3 .index3 .ensures ∙ search needs), entry .pre .few-marks)
 
-slice-write-long : tie.Need-slice-write-long
-slice-write-long c = search needs
+mul-ends-2 : tie.Need-mul-ends-2
+mul-ends-2 c = search needs
+
+mul-ends-3 : tie.Need-mul-ends-3
+mul-ends-3 c = search needs
+
+slice-write-ends : tie.Need-slice-write-ends
+slice-write-ends c = search needs
+
+mul-ends-4 : tie.Need-mul-ends-4
+mul-ends-4 c =
+    let after-index3 : tie.After-index3 = search in
+    let after-index2 : tie.After-index2 = search in
+    let after-index : tie.After-index = search in
+    let entry : tie.Start = search in
+    omega (arith, entry-short (entry .pre) (after-index .index .result) (after-index2 .index2 .result) (after-index3 .index3 .result) (after-index .index .ensures ∙ search needs) (after-index2 .index2 .ensures ∙ search needs) (after-index3 .index3 .ensures ∙ search needs), entry .pre .few-marks)
+
+add-ends-2 : tie.Need-add-ends-2
+add-ends-2 c =
+    let after-index3 : tie.After-index3 = search in
+    let after-index2 : tie.After-index2 = search in
+    let after-index : tie.After-index = search in
+    let entry : tie.Start = search in
+    omega (arith, entry-short (entry .pre) (after-index .index .result) (after-index2 .index2 .result) (after-index3 .index3 .result) (after-index .index .ensures ∙ search needs) (after-index2 .index2 .ensures ∙ search needs) (after-index3 .index3 .ensures ∙ search needs), entry .pre .few-marks)
+
+mul-ends-5 : tie.Need-mul-ends-5
+mul-ends-5 c = search needs
+
+add-ends-3 : tie.Need-add-ends-3
+add-ends-3 c = search needs
+
+mul-ends-6 : tie.Need-mul-ends-6
+mul-ends-6 c = search needs
+
+slice-write-ends-2 : tie.Need-slice-write-ends-2
+slice-write-ends-2 c =
+    let entry : tie.Start = search in
+    simp length-set (omega (arith, entry .pre .ends-at, entry .pre .number-ok))
 
 join-requires : tie.Need-join-requires
 join-requires c κs =
@@ -77,13 +103,7 @@ join-requires c κs =
     let after-index2 : tie.After-index2 = search in
     let after-index : tie.After-index = search in
     let entry : tie.Start = search in
-    let p = entry .pre in
-    (p .places, entry-fits p (after-index .index .result) (after-index2 .index2 .result) (after-index3 .index3 .result) (after-index .index .ensures ∙ search needs) (after-index2 .index2 .ensures ∙ search needs) (after-index3 .index3 .ensures ∙ search needs))
-
-add-result : tie.Need-add-result
-add-result c =
-    let entry : tie.Start = search in
-    omega (arith, entry .pre .places .nexts, entry .good)
+    (entry-fits (entry .pre) (after-index .index .result) (after-index2 .index2 .result) (after-index3 .index3 .result) (after-index .index .ensures ∙ search needs) (after-index2 .index2 .ensures ∙ search needs) (after-index3 .index3 .ensures ∙ search needs), entry .pre .chains)
 
 same-length : tie.Need-same-length
 same-length c = search needs
@@ -94,15 +114,6 @@ same-length-2 c = search needs
 same-length-3 : tie.Need-same-length-3
 same-length-3 c = search needs
 
-same-length-4 : tie.Need-same-length-4
-same-length-4 c = search needs
-
-same-length-5 : tie.Need-same-length-5
-same-length-5 c = search needs
-
-same-length-6 : tie.Need-same-length-6
-same-length-6 c = search needs
-
 returns-2 : tie.Need-returns-2
 returns-2 c =
     let after-join : tie.After-join = search in
@@ -111,7 +122,8 @@ returns-2 c =
     let after-index : tie.After-index = search in
     let else1 : tie.Else1 = search in
     let after-same : tie.After-same = search in
-    drew-is (after-index .index .result) (after-index2 .index2 .result) (after-index3 .index3 .result) (after-index .index .ensures ∙ search needs) (after-index2 .index2 .ensures ∙ search needs) (after-index3 .index3 .ensures ∙ search needs) (sym (after-same .same .ensures ∙ search needs) ∙ else1 .if1 .left) (after-join .join .ensures)
+    let entry : tie.Start = search in
+    drew-is (entry .pre) (after-index .index .result) (after-index2 .index2 .result) (after-index3 .index3 .result) (after-index .index .ensures ∙ search needs) (after-index2 .index2 .ensures ∙ search needs) (after-index3 .index3 .ensures ∙ search needs) (sym (after-same .same .ensures ∙ search needs) ∙ else1 .if1 .left) (after-join .join .ensures)
 
 pub draw-line-spec : {M : Type 1} → statement M
 draw-line-spec =
@@ -126,21 +138,19 @@ draw-line-spec =
     index-requires-2
     shared-slice-copy-out-index-3
     index-requires-3
-    mul-tip
-    mul-tip-2
-    slice-write-tip
-    mul-tip-3
-    add-tip
-    mul-tip-4
-    slice-write-tip-2
-    mul-long
-    slice-write-long
+    mul-ends
+    add-ends
+    mul-ends-2
+    mul-ends-3
+    slice-write-ends
+    mul-ends-4
+    add-ends-2
+    mul-ends-5
+    add-ends-3
+    mul-ends-6
+    slice-write-ends-2
     join-requires
-    add-result
     same-length
     same-length-2
     same-length-3
-    same-length-4
-    same-length-5
-    same-length-6
     returns-2)

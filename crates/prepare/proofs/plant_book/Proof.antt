@@ -4,9 +4,7 @@ use Rattle.prepare.proofs.plant_book.Statement.{statement}
 use Rattle.prepare.proofs.plant_book.Tie as tie
 
 draw-book-requires : tie.Need-draw-book-requires
-draw-book-requires c κs =
-    let entry : tie.Start = search in
-    sheet-of (entry .pre .0) (entry .pre .1 .0)
+draw-book-requires c κs = search needs
 
 plant-requires : tie.Need-plant-requires
 plant-requires c κs =
@@ -14,7 +12,7 @@ plant-requires c κs =
     let entry : tie.Start = search in
     let p = entry .pre in
     let d = after-draw-book .draw-book .ensures in
-    (d .nodes, (d .heads, (d .tips, record { room = record { few = p .0 .few-marks; bests = p .1 .1 .bests; segs = p .1 .1 .segs }; some-mark = p .0 .some-mark; orders = p .1 .1 .orders })))
+    (d .bounded, (d .heads, record { room = record { few = p .0 .few-marks; bests = p .1 .1 .bests; segs = p .1 .1 .segs }; some-mark = p .0 .some-mark; orders = p .1 .1 .orders }))
 
 same-length : tie.Need-same-length
 same-length c = search needs
@@ -34,23 +32,13 @@ same-length-5 c = search needs
 same-length-6 : tie.Need-same-length-6
 same-length-6 c = search needs
 
-same-length-7 : tie.Need-same-length-7
-same-length-7 c = search needs
-
-same-length-8 : tie.Need-same-length-8
-same-length-8 c = search needs
-
-same-length-9 : tie.Need-same-length-9
-same-length-9 c = search needs
-
 returns : tie.Need-returns
 returns c =
     let after-plant : tie.After-plant = search in
-    let after-add : tie.After-add = search in
     let after-draw-book : tie.After-draw-book = search in
     let d = after-draw-book .draw-book .ensures in
     let t = after-plant .plant .ensures in
-    record { tips = d .tips; longs = d .longs; listed = d .listed; holding = t .0 _ (d .given); below = t .1 }
+    record { bounded = d .bounded; listed = d .listed; holding = t .0 _ (d .given); below = t .1 }
 
 pub plant-book-spec : {M : Type 1} → statement M
 plant-book-spec =
@@ -64,7 +52,4 @@ plant-book-spec =
     same-length-4
     same-length-5
     same-length-6
-    same-length-7
-    same-length-8
-    same-length-9
     returns)
