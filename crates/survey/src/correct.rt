@@ -7,7 +7,7 @@ ghost use Rattle.book.specs.Limits.{mostDifference};
 ghost use Rattle.book.specs.Good.{GoodLines};
 ghost use Rattle.loops.specs.Report.{loopsOf};
 ghost use Rattle.loops.specs.Table.{Table};
-ghost use Rattle.table.specs.Filled.{TableRoom};
+ghost use Rattle.table.specs.Filled.{RoomTable};
 ghost use Rattle.survey.specs.Kept.{keptOf, Refresh, Refreshed};
 ghost use Rattle.survey.specs.Correction.{noLine, rerunLines, withdrawLines, corrected, correctGood};
 use crate::Answer;
@@ -36,7 +36,7 @@ fn no_line(lines: &[i64], number: i64) -> bool
 
 // The loops are found, and the lent report is compared with their rows.
 fn kept_report(book: Book, lines: &[i64], report: &[i64], starts: &mut [u64], runs: &mut [u16]) -> Kept
-    requires { ⌜ GoodLines book (now lines) ⌝ ∗ ⌜ TableRoom (now starts) (now runs) ⌝ }
+    requires { ⌜ GoodLines book (now lines) ⌝ ∗ ⌜ RoomTable (now starts) (now runs) ⌝ }
     ensures { λ r. ⌜ r ≡ keptOf book (now (lines .entry)) (now (report .entry)) ⌝
         ∗ ⌜ Table (loopsOf (book .marks) (now (lines .entry))) (now (starts .exit)) (now (runs .exit)) (length (loopsOf (book .marks) (now (lines .entry)))) ⌝ }
 {

@@ -1,2 +1,4 @@
+pub mod Ordering
 pub mod Runs
 pub mod Filling
+pub mod Finding

@@ -1,23 +1,32 @@
 -- The table is filled, one loop's turn after the other. Assumes nothing.
-use Prim.Native.Nat.{ℕ, _+_, _-_, _≤_, _<_}
+use Prim.Native.Nat.{ℕ, suc, _+_, _*_, _-_, _≤_, _<_}
 use mathlib.Core.Path.{_≡_}
 use mathlib.Core.List.{List, _++_}
 use lib.IntN.{ℤ}
 use lib.ListN.{length, getD, take, drop}
+use Rattle.book.specs.Limits.{mostMarks, mostLines}
 use Rattle.network.specs.Standing.{Line}
 use Rattle.loops.specs.Loops.{loops}
 use Rattle.loops.specs.Report.{loopsOf, piecesOf}
+use Rattle.loops.specs.LinesInAll.{mostLinesInAll}
 use Rattle.loops.specs.Table.{runsOf, Table}
-use Rattle.chains.specs.Chains.{Bounded}
+use Rattle.chains.specs.Chains.{Bounded, halves}
 use Rattle.chains.specs.Listed.{Listed}
 use Rattle.search.specs.Front.{RoomSearch}
 use Rattle.subgraph.specs.Turn.{Going}
 use Rattle.table.specs.declared.Found.{Found}
 
 -- room for the table of any book's loops: "at most 65,792 entries in all", and one path more
-pub record TableRoom (starts runs : List ℕ) : Type 0 where
-  pub starts-fit : 513 ≤ length starts
-  pub runs-fit : 66049 ≤ length runs
+pub record RoomTable (starts runs : List ℕ) : Type 0 where
+  pub starts-fit : suc mostLines ≤ length starts
+  pub runs-fit : mostLinesInAll + suc mostMarks ≤ length runs
+
+-- room for the work on any book
+pub record RoomWork (ends head next best seg order close : List ℕ) : Type 0 where
+  pub by-half : (halves ≤ length ends) × (halves ≤ length next)
+  pub by-mark : (suc mostMarks ≤ length head) × (suc mostMarks ≤ length best) × (suc mostMarks ≤ length order)
+  pub tournament : 2 * suc mostMarks ≤ length seg
+  pub by-loop : mostLines ≤ length close
 
 -- what is found in a book of b marks: its loops and its pieces, by their counts
 abbrev pub foundIn : ℕ → List ℤ → Found

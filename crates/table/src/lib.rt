@@ -3,7 +3,9 @@ ghost use mathlib.Core.Path.{_≡_};
 ghost use Rattle.book.specs.Good.{GoodLines};
 ghost use Rattle.loops.specs.Report.{loopsOf};
 ghost use Rattle.loops.specs.Table.{Table};
-ghost use Rattle.table.specs.Filled.{TableRoom, foundIn, Fills, Filled};
+ghost use Rattle.table.specs.Filled.{RoomTable, RoomWork, foundIn, Fills, Filled};
+mod order;
+
 use book::Book;
 
 // How many loops the table holds, and how many pieces the book has.
@@ -43,4 +45,64 @@ fn fill(
         i += 1;
     }
     starts[count] = at as u64;
+}
+
+// The loops are found, in work tables that are lent.
+fn find_in(
+    book: Book,
+    lines: &[i64],
+    ends: &mut [u64],
+    head: &mut [u64],
+    next: &mut [u64],
+    best: &mut [u64],
+    seg: &mut [u64],
+    order: &mut [u64],
+    close: &mut [u64],
+    starts: &mut [u64],
+    runs: &mut [u16],
+) -> Found
+    requires { ⌜ GoodLines book (now lines) ⌝ ∗ ⌜ RoomTable (now starts) (now runs) ⌝
+        ∗ ⌜ RoomWork (now ends) (now head) (now next) (now best) (now seg) (now order) (now close) ⌝ }
+    ensures { λ r. ⌜ r ≡ foundIn (book .marks) (now (lines .entry)) ⌝
+        ∗ ⌜ Table (loopsOf (book .marks) (now (lines .entry))) (now (starts .exit)) (now (runs .exit)) (r .count) ⌝ }
+{
+    let n = book.marks + 1;
+    prepare::plant_book(lines, ends, head, next, best, seg, order, n);
+    let found = order::order_loops(ends, head, next, best, order, close, n, book.lines + 1);
+    let count = found.count;
+    fill(ends, close, head, next, best, seg, starts, runs, n, count);
+    found
+}
+
+// The places of the work tables, for any book: by half, and by mark with 0.
+const HALVES: usize = chains::HALVES as usize;
+
+const MARKS: usize = Book::MAX_MARKS as usize + 1;
+
+// The loops of a tested book are found, in work tables on the stack.
+pub fn find_loops(book: Book, lines: &[i64], starts: &mut [u64], runs: &mut [u16]) -> Found
+    requires { ⌜ GoodLines book (now lines) ⌝ ∗ ⌜ RoomTable (now starts) (now runs) ⌝ }
+    ensures { λ r. ⌜ r ≡ foundIn (book .marks) (now (lines .entry)) ⌝
+        ∗ ⌜ Table (loopsOf (book .marks) (now (lines .entry))) (now (starts .exit)) (now (runs .exit)) (r .count) ⌝ }
+{
+    let mut ends = [0u64; HALVES];
+    let mut head = [0u64; MARKS];
+    let mut next = [0u64; HALVES];
+    let mut best = [0u64; MARKS];
+    let mut seg = [0u64; MARKS * 2];
+    let mut order = [0u64; MARKS];
+    let mut close = [0u64; Book::MAX_LINES];
+    find_in(
+        book,
+        lines,
+        &mut ends[..],
+        &mut head[..],
+        &mut next[..],
+        &mut best[..],
+        &mut seg[..],
+        &mut order[..],
+        &mut close[..],
+        starts,
+        runs,
+    )
 }

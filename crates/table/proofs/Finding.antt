@@ -1,0 +1,127 @@
+-- A good book and room for the work give what each step asks for, and the steps give the table of its loops. Assumes nothing.
+use Prim.Native.Nat.{ℕ, suc, _+_, _*_, _-_, _/_, _≤_, _<_}
+use native.Mathlib.Omega.{arith}
+use mathlib.Core.Path.{_≡_, refl, sym, _∙_, ap, ap₂, subst}
+use mathlib.Core.List.{List, [], _∷_, _++_}
+use lib.IntN.{ℤ}
+use lib.ListN.{length, length-append}
+use Rattle.book.specs.Good.{GoodLine, GoodLines}
+use Rattle.book.specs.declared.Book.{Book}
+use Rattle.network.specs.Standing.{standing}
+use Rattle.network.specs.Tree.{tree, pieces}
+use Rattle.loops.specs.Loops.{Loop, loops}
+use Rattle.loops.specs.LinesInAll.{linesInAll, mostLinesInAll}
+use Rattle.loops.specs.Report.{loopsOf, piecesOf}
+use Rattle.loops.specs.Table.{runsOf, Table}
+use Rattle.loops.proofs.LinesInAll.{lines-in-all-at-most}
+use Rattle.loops.proofs.Sounding.{lines-sound, few-standing, few-loops}
+use Rattle.loops.proofs.Table.{codes-length}
+use Rattle.network.specs.Codes.{codes}
+use Rattle.chains.specs.Listed.{Listed}
+use Rattle.prepare.specs.Prepared.{Good, RoomNet, RoomPlant, BookPlanted}
+use Rattle.table.specs.Ordered.{Orders, Started}
+use Rattle.table.specs.Filled.{RoomTable, RoomWork, foundIn, Ready, Fills, Filled}
+use Rattle.table.specs.declared.Found.{Found}
+
+-- as many entries as the loops have lines in all
+runs-length : (ls : List Loop) → length (runsOf ls) ≡ linesInAll ls
+unfolding runsOf linesInAll
+runs-length [] = refl
+runs-length (lp ∷ ls) = length-append (codes lp) (runsOf ls) ∙ ap₂ (λ (a b : ℕ). a + b) (codes-length lp) (runs-length ls)
+
+module _ (k : Book) (ls : List ℤ) (g : GoodLines k ls) where
+  -- the count of lines, by the slice and by the book
+  lines-are : length ls / 5 ≡ k .lines
+  lines-are = omega (arith, g .whole)
+
+  marks-are : k .marks + 1 - 1 ≡ k .marks
+  marks-are = omega arith
+
+  pub good-of : Good (k .marks + 1) ls
+  good-of = record {
+    some-mark = omega arith;
+    few-marks = omega (arith, g .few-marks);
+    few-lines = omega (arith, g .few, lines-are);
+    good = λ i h. subst (λ (b : ℕ). GoodLine b ls i) (sym marks-are) (g .each i (omega (arith, lines-are)));
+  }
+
+  -- the numbers of the lines are below the count of lines and one more
+  pub listed-of : {ends best order : List ℕ} → BookPlanted (k .marks + 1) ls ends best order → Listed (standing ls) (k .marks + 1) (k .lines + 1) ends
+  listed-of {ends = ends} p = subst (λ (q : ℕ). Listed (standing ls) (k .marks + 1) (q + 1) ends) lines-are (p .listed)
+
+  module _ {ends head next best seg order close : List ℕ} (w : RoomWork ends head next best seg order close) where
+    pub net-of : RoomNet (k .marks + 1) ends head next
+    net-of = record {
+      ends-at = w .by-half .0;
+      chains = record { heads = omega (arith, w .by-mark .0, g .few-marks); nexts = w .by-half .1 };
+    }
+
+    pub plant-of : RoomPlant (k .marks + 1) best seg order
+    plant-of = record {
+      bests = omega (arith, w .by-mark, g .few-marks);
+      segs = omega (arith, w .tournament, g .few-marks);
+      orders = omega (arith, w .by-mark, g .few-marks);
+    }
+
+    -- after the book is planted, in tables that kept their lengths
+    pub orders-of : {ends′ head′ next′ best′ order′ : List ℕ} → BookPlanted (k .marks + 1) ls ends′ best′ order′
+        → length head′ ≡ length head → length next′ ≡ length next → length best′ ≡ length best → length order′ ≡ length order
+        → Orders (k .marks + 1) (k .lines + 1) ends′ head′ next′ best′ order′ close
+    orders-of p lh ln lb lo = record {
+      some-mark = omega arith;
+      few-marks = omega (arith, g .few-marks);
+      some-line = omega arith;
+      few-lines = omega (arith, g .few);
+      bounded = p .bounded;
+      below = p .below;
+      chains = record { heads = omega (arith, w .by-mark .0, g .few-marks); nexts = omega (arith, w .by-half .1) };
+      bests = omega (arith, w .by-mark, g .few-marks);
+      orders = omega (arith, w .by-mark, g .few-marks);
+      closes = omega (arith, w .by-loop, g .few);
+      lines = standing ls;
+      listed = listed-of p;
+      holding = p .holding;
+    }
+
+    -- and after the closing lines are in their order
+    module _ {ends′ head′ next′ best′ order′ close′ : List ℕ} {found : Found} (p : BookPlanted (k .marks + 1) ls ends′ best′ order′)
+        (s : Started (k .marks + 1) (standing ls) head′ next′ close′ found) where
+      ready : Ready (standing ls) (k .marks + 1) (found .count) ends′ close′ head′ next′
+      ready = record { q = k .lines + 1; listed = listed-of p; going = s .going; count-is = s .count-is }
+
+      loops-are : loops (k .marks + 1 - 1) (standing ls) ≡ loopsOf (k .marks) ls
+      unfolding loopsOf
+      loops-are = ap (λ (b : ℕ). loops b (standing ls)) marks-are
+
+      pub count-is : found .count ≡ length (loopsOf (k .marks) ls)
+      count-is = s .count-is ∙ ap length loops-are
+
+      runs-few : length (runsOf (loops (k .marks + 1 - 1) (standing ls))) ≤ mostLinesInAll
+      runs-few =
+          let few = lines-in-all-at-most (k .marks) (standing ls) (lines-sound k ls g) (omega (arith, few-standing ls, g .whole, g .few)) in
+          omega (arith, runs-length (loops (k .marks + 1 - 1) (standing ls)), ap (λ (b : ℕ). linesInAll (loops b (standing ls))) marks-are, few)
+
+      pub fills-of : {seg′ starts runs : List ℕ} → RoomTable starts runs → length close′ ≡ length close → length best′ ≡ length best → length seg′ ≡ length seg
+          → Fills (k .marks + 1) (found .count) ends′ close′ head′ next′ best′ seg′ starts runs
+      fills-of r lc lb lg = record {
+        bounded = p .bounded;
+        room = record {
+          few = omega (arith, g .few-marks);
+          bests = omega (arith, w .by-mark, g .few-marks);
+          segs = omega (arith, w .tournament, g .few-marks);
+        };
+        closes = omega (arith, count-is, few-loops k ls g, g .few, w .by-loop);
+        starts-fit = omega (arith, count-is, few-loops k ls g, g .few, r .starts-fit);
+        lines = standing ls;
+        ready = ready;
+        runs-fit = omega (arith, runs-few, r .runs-fit, g .few-marks);
+      }
+
+      pub found-is : found ≡ foundIn (k .marks) ls
+      unfolding piecesOf
+      found-is =
+          ap₂ (λ (c n : ℕ). record { count = c; pieces = n }) count-is (s .pieces-are ∙ ap (λ (b : ℕ). pieces (tree b (standing ls))) marks-are)
+
+      pub table-is : {starts′ runs′ : List ℕ} → Filled (k .marks + 1) (found .count) ends′ close′ head′ next′ starts′ runs′
+          → Table (loopsOf (k .marks) ls) starts′ runs′ (found .count)
+      table-is {starts′ = starts′} {runs′ = runs′} f = subst (λ (l : List Loop). Table l starts′ runs′ (found .count)) loops-are (f (standing ls) ready)

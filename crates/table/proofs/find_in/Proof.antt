@@ -1,0 +1,129 @@
+use native.Mathlib.Omega.{arith}
+use mathlib.Core.Path.{_∙_}
+use Rattle.table.proofs.Finding.{good-of, listed-of, net-of, plant-of, orders-of, fills-of, found-is, table-is}
+use borrow.Author.Needs.{needs}
+use Rattle.table.proofs.find_in.Statement.{statement}
+use Rattle.table.proofs.find_in.Tie as tie
+
+-- the earlier steps, which are further back than one search goes
+abbrev planted-before : tie.After-order-loops → tie.After-plant-book
+planted-before c = search
+
+abbrev entry-before : tie.After-plant-book → tie.Start
+entry-before c = search
+
+add-n : tie.Need-add-n
+add-n c = search needs
+
+plant-book-requires : tie.Need-plant-book-requires
+plant-book-requires c κs =
+    let entry : tie.Start = search in
+    let p = entry .pre in
+    (good-of _ _ (p .0), (net-of _ _ (p .0) (p .1 .1), plant-of _ _ (p .0) (p .1 .1)))
+
+add-order-loops : tie.Need-add-order-loops
+add-order-loops c =
+    let entry : tie.Start = search in
+    omega (arith, entry .pre .0 .few)
+
+order-loops-requires : tie.Need-order-loops-requires
+order-loops-requires c κs =
+    let after-plant-book : tie.After-plant-book = search in
+    let entry : tie.Start = search in
+    let p = entry .pre in
+    let k = after-plant-book .plant-book .kept in
+    orders-of _ _ (p .0) (p .1 .1) (after-plant-book .plant-book .ensures) (omega (arith, k)) (omega (arith, k)) (omega (arith, k)) (omega (arith, k))
+
+fill-requires : tie.Need-fill-requires
+fill-requires c κs =
+    let after-order-loops : tie.After-order-loops = search in
+    let after-plant-book = planted-before after-order-loops in
+    let entry = entry-before after-plant-book in
+    let p = entry .pre in
+    let k = after-plant-book .plant-book .kept in
+    let o = after-order-loops .order-loops .kept in
+    let planted = after-plant-book .plant-book .ensures in
+    fills-of _ _ (p .0) (p .1 .1) planted (after-order-loops .order-loops .ensures _ (listed-of _ _ (p .0) planted) (planted .holding)) (p .1 .0) (omega (arith, o)) (omega (arith, k)) (omega (arith, k))
+
+same-length : tie.Need-same-length
+same-length c =
+    let after-fill : tie.After-fill = search in
+    let after-order-loops : tie.After-order-loops = search in
+    let after-plant-book = planted-before after-order-loops in
+    omega (arith, after-plant-book .plant-book .kept, after-order-loops .order-loops .kept, after-fill .fill .kept)
+
+same-length-2 : tie.Need-same-length-2
+same-length-2 c =
+    let after-fill : tie.After-fill = search in
+    let after-order-loops : tie.After-order-loops = search in
+    let after-plant-book = planted-before after-order-loops in
+    omega (arith, after-plant-book .plant-book .kept, after-order-loops .order-loops .kept, after-fill .fill .kept)
+
+same-length-3 : tie.Need-same-length-3
+same-length-3 c =
+    let after-fill : tie.After-fill = search in
+    let after-order-loops : tie.After-order-loops = search in
+    let after-plant-book = planted-before after-order-loops in
+    omega (arith, after-plant-book .plant-book .kept, after-order-loops .order-loops .kept, after-fill .fill .kept)
+
+same-length-4 : tie.Need-same-length-4
+same-length-4 c =
+    let after-fill : tie.After-fill = search in
+    let after-order-loops : tie.After-order-loops = search in
+    let after-plant-book = planted-before after-order-loops in
+    omega (arith, after-plant-book .plant-book .kept, after-order-loops .order-loops .kept, after-fill .fill .kept)
+
+same-length-5 : tie.Need-same-length-5
+same-length-5 c =
+    let after-fill : tie.After-fill = search in
+    let after-order-loops : tie.After-order-loops = search in
+    let after-plant-book = planted-before after-order-loops in
+    omega (arith, after-plant-book .plant-book .kept, after-order-loops .order-loops .kept, after-fill .fill .kept)
+
+same-length-6 : tie.Need-same-length-6
+same-length-6 c =
+    let after-fill : tie.After-fill = search in
+    let after-order-loops : tie.After-order-loops = search in
+    let after-plant-book = planted-before after-order-loops in
+    omega (arith, after-plant-book .plant-book .kept, after-order-loops .order-loops .kept, after-fill .fill .kept)
+
+same-length-7 : tie.Need-same-length-7
+same-length-7 c = search needs
+
+same-length-8 : tie.Need-same-length-8
+same-length-8 c = search needs
+
+same-length-9 : tie.Need-same-length-9
+same-length-9 c = search needs
+
+returns : tie.Need-returns
+returns c =
+    let after-fill : tie.After-fill = search in
+    let after-order-loops : tie.After-order-loops = search in
+    let after-plant-book = planted-before after-order-loops in
+    let entry = entry-before after-plant-book in
+    let p = entry .pre in
+    let k = after-plant-book .plant-book .kept in
+    let planted = after-plant-book .plant-book .ensures in
+    let started = after-order-loops .order-loops .ensures _ (listed-of _ _ (p .0) planted) (planted .holding) in
+    (found-is _ _ (p .0) (p .1 .1) planted started, table-is _ _ (p .0) (p .1 .1) planted started (after-fill .fill .ensures))
+
+pub find-in-spec : {M : Type 1} → statement M
+find-in-spec =
+    tie.close
+    (tie.spec
+    add-n
+    plant-book-requires
+    add-order-loops
+    order-loops-requires
+    fill-requires
+    same-length
+    same-length-2
+    same-length-3
+    same-length-4
+    same-length-5
+    same-length-6
+    same-length-7
+    same-length-8
+    same-length-9
+    returns)
