@@ -17,7 +17,7 @@ use Rattle.search.specs.Front.{Key, By}
 use Rattle.search.specs.Front as f
 use Rattle.tree.specs.Plant.{Holding, Below}
 use Rattle.tree.proofs.Entries.{Enters, enters-line, enters-at, placed, sized, EntryOf, later, in-at, order-of, came-of}
-use Rattle.prepare.specs.Prepared.{Good, Chained, Soil, BookPlanted}
+use Rattle.prepare.specs.Prepared.{Good, RoomNet, RoomPlant, BookPlanted}
 use Rattle.fields.specs.Places.{Lines}
 use Rattle.start.specs.Along.{Entered, none-yet, by-root, by-line, Growth}
 use Rattle.start.proofs.Beginning.{fill-next}
@@ -57,17 +57,14 @@ good-of lines b n g few =
 
 -- and the tables are room for it
 module _ (lines : List ℤ) (b n : ℕ) (g : Lines lines b n) (few : b ≤ mostMarks) where
-  pub chained-of : (tip long head next far add : List ℕ) → 2048 ≤ length tip → 1024 ≤ length long → 257 ≤ length head → 1024 ≤ length next → 1024 ≤ length far → 1024 ≤ length add
-      → Chained (b + 1) lines tip long head next far add
-  chained-of tip long head next far add ht hl hh hn hf ha =
-      let e : length lines / 5 ≡ n = omega (arith, g .whole) in
-      record { tips = ht; longs = hl; heads = omega arith; nexts = omega (arith, g .few); ends = omega (arith, g .few); adds = omega (arith, g .few) }
+  pub room-net : (ends head next : List ℕ) → 2048 ≤ length ends → 257 ≤ length head → 2048 ≤ length next → RoomNet (b + 1) ends head next
+  room-net ends head next he hh hn = record { ends-at = he; chains = record { heads = omega arith; nexts = hn } }
 
-  pub soil-of : (best seg order : List ℕ) → 257 ≤ length best → 514 ≤ length seg → 257 ≤ length order → Soil (b + 1) best seg order
-  soil-of best seg order hb hs ho = record { bests = omega arith; segs = omega arith; orders = omega arith }
+  pub room-plant : (best seg order : List ℕ) → 257 ≤ length best → 514 ≤ length seg → 257 ≤ length order → RoomPlant (b + 1) best seg order
+  room-plant best seg order hb hs ho = record { bests = omega arith; segs = omega arith; orders = omega arith }
 
 -- the planted tables can be read
-pub readable-of : (b : ℕ) (best seg order ms cs best′ order′ : List ℕ) → Soil (b + 1) best seg order → length best′ ≡ length best → length order′ ≡ length order → b ≤ length ms → b ≤ length cs → Below (b + 1) order′ → Readable best′ order′ ms cs b
+pub readable-of : (b : ℕ) (best seg order ms cs best′ order′ : List ℕ) → RoomPlant (b + 1) best seg order → length best′ ≡ length best → length order′ ≡ length order → b ≤ length ms → b ≤ length cs → Below (b + 1) order′ → Readable best′ order′ ms cs b
 readable-of b best seg order ms cs best′ order′ s eb eo lm lc low = record {
   orders = omega (arith, s .orders);
   marked = lm;
@@ -75,7 +72,7 @@ readable-of b best seg order ms cs best′ order′ s eb eo lm lc low = record {
   keys = λ k l. omega (arith, s .bests, low k (omega arith));
 }
 
-module _ (n q : ℕ) (lines : List Line) (tip long best order ms cs : List ℕ) (li : ch.Listed lines n q tip long) (ho : Holding (tree (n - 1) lines) best order tip)
+module _ (n q : ℕ) (lines : List Line) (ends best order ms cs : List ℕ) (li : ch.Listed lines n q ends) (ho : Holding (tree (n - 1) lines) best order ends)
     (lo : Listed best order ms cs (n - 1)) where
   abbrev at : ℕ → Tree
   at k = grow lines (marks (n - 1)) k
@@ -91,7 +88,7 @@ module _ (n q : ℕ) (lines : List Line) (tip long best order ms cs : List ℕ) 
     mark : EntryOf n lines (li .sound) (getD order k 0)
     mark = record { k = k; few = few; its = en; isMark = sym order-is }
 
-    key : Key (at (n - 1)) best tip (getD order k 0) (en .e .dist)
+    key : Key (at (n - 1)) best ends (getD order k 0) (en .e .dist)
     unfolding tree mark
     key = ho .keyed (getD order k 0) (en .e .dist) (later n lines (li .sound) (suc k) (n - 1) (getD order k 0) (en .e .dist) (omega arith) (in-at n lines (li .sound) (getD order k 0) mark))
 
@@ -110,7 +107,7 @@ module _ (n q : ℕ) (lines : List Line) (tip long best order ms cs : List ℕ) 
     unfolding mark
     entered-more r = subst (Entered ms cs) (sym (en .next)) (go (key .by))
       where
-        go : By (at (n - 1)) tip (getD order k 0) (en .e .dist) (key .h) → Entered ms cs (en .e ∷ at k)
+        go : By (at (n - 1)) ends (getD order k 0) (en .e .dist) (key .h) → Entered ms cs (en .e ∷ at k)
         go (f.root c a b) =
             let z : lineIn best (getD order k 0) ≡ 0 = omega (arith, key .key) in
             by-root listed (sym (came-of n lines (li .sound) (getD order k 0) mark) ∙ c) (its-line ∙ z) r
@@ -121,7 +118,7 @@ module _ (n q : ℕ) (lines : List Line) (tip long best order ms cs : List ℕ) 
     unfolding mark
     line-low pos = rw (lo .line k (omega arith)) (go (key .by))
       where
-        go : By (at (n - 1)) tip (getD order k 0) (en .e .dist) (key .h) → lineIn best (getD order k 0) < q
+        go : By (at (n - 1)) ends (getD order k 0) (en .e .dist) (key .h) → lineIn best (getD order k 0) < q
         go (f.root c a b) = let z : lineIn best (getD order k 0) ≡ 0 = omega (arith, key .key) in rw z pos
         go (f.line l u du c hf low t i s) = rw (number-of hf) (li .numbered l (enters-line en l (sym (came-of n lines (li .sound) (getD order k 0) mark) ∙ c)))
 
@@ -162,17 +159,17 @@ module _ (n q : ℕ) (lines : List Line) (tip long best order ms cs : List ℕ) 
   }
 
 -- the same, of a planted book
-module _ (lines : List ℤ) (b n : ℕ) (tip long best order ms cs : List ℕ) (good : Lines lines b n) (p : BookPlanted (b + 1) lines tip long best order) (lo : Listed best order ms cs b) where
+module _ (lines : List ℤ) (b n : ℕ) (ends best order ms cs : List ℕ) (good : Lines lines b n) (p : BookPlanted (b + 1) lines ends best order) (lo : Listed best order ms cs b) where
   marks-are : b + 1 - 1 ≡ b
   marks-are = omega arith
 
   pub book-entered : Entered ms cs (tree b (standing lines))
   book-entered =
       subst (λ (x : ℕ). Entered ms cs (tree x (standing lines))) marks-are
-      (tree-entered (b + 1) (length lines / 5 + 1) (standing lines) tip long best order ms cs (p .listed) (p .holding) (subst (Listed best order ms cs) (sym marks-are) lo) (omega arith))
+      (tree-entered (b + 1) (length lines / 5 + 1) (standing lines) ends best order ms cs (p .listed) (p .holding) (subst (Listed best order ms cs) (sym marks-are) lo) (omega arith))
 
   pub book-growth : b ≤ length ms → b ≤ length cs → Growth ms cs b n
   book-growth lm lc =
       let e : length lines / 5 + 1 - 1 ≡ n = omega (arith, good .whole) in
       subst (λ (x : ℕ). Growth ms cs x n) marks-are (subst (Growth ms cs (b + 1 - 1)) e
-      (tree-growth (b + 1) (length lines / 5 + 1) (standing lines) tip long best order ms cs (p .listed) (p .holding) (subst (Listed best order ms cs) (sym marks-are) lo) (omega arith) (omega arith) (omega arith)))
+      (tree-growth (b + 1) (length lines / 5 + 1) (standing lines) ends best order ms cs (p .listed) (p .holding) (subst (Listed best order ms cs) (sym marks-are) lo) (omega arith) (omega arith) (omega arith)))

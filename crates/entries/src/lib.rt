@@ -4,7 +4,7 @@ ghost use lib.ListN.{length};
 ghost use Rattle.book.specs.Limits.{mostMarks};
 ghost use Rattle.network.specs.Standing.{standing};
 ghost use Rattle.network.specs.Tree.{tree};
-ghost use Rattle.prepare.specs.Prepared.{Chained, Soil};
+ghost use Rattle.prepare.specs.Prepared.{RoomNet, RoomPlant};
 ghost use Rattle.fields.specs.Places.{Lines};
 ghost use Rattle.start.specs.Along.{Entered, Growth};
 ghost use Rattle.entries.specs.Entries.{Readable, Listed};
@@ -27,12 +27,9 @@ fn list_entries(best: &[u64], order: &[u64], marks: &mut [usize], came: &mut [us
 // The tree is planted in tables that are lent, and its entries are listed.
 fn plant_in(
     lines: &[i64],
-    tip: &mut [u64],
-    long: &mut [u64],
+    ends: &mut [u64],
     head: &mut [u64],
     next: &mut [u64],
-    far: &mut [u64],
-    add: &mut [u64],
     best: &mut [u64],
     seg: &mut [u64],
     order: &mut [u64],
@@ -41,47 +38,32 @@ fn plant_in(
     b: usize,
     n: usize,
 )
-    requires { ⌜ Lines (now lines) b n ⌝ ∗ ⌜ b ≤ mostMarks ⌝ ∗ ⌜ Chained (b + 1) (now lines) (now tip) (now long) (now head) (now next) (now far) (now add) ⌝ ∗ ⌜ Soil (b + 1) (now best) (now seg) (now order) ⌝ ∗ ⌜ (b ≤ length (now marks)) × (b ≤ length (now came)) ⌝ }
-    ensures { λ _. ⌜ Entered (now (marks .exit)) (now (came .exit)) (tree b (standing (now (lines .entry)))) ⌝ ∗ ⌜ Growth (now (marks .exit)) (now (came .exit)) b n ⌝ }
+    requires { ⌜ Lines (now lines) b n ⌝ ∗ ⌜ b ≤ mostMarks ⌝ ∗ ⌜ RoomNet (b + 1) (now ends) (now head) (now next) ⌝
+        ∗ ⌜ RoomPlant (b + 1) (now best) (now seg) (now order) ⌝ ∗ ⌜ (b ≤ length (now marks)) × (b ≤ length (now came)) ⌝ }
+    ensures { λ _. ⌜ Entered (now (marks .exit)) (now (came .exit)) (tree b (standing (now (lines .entry)))) ⌝
+        ∗ ⌜ Growth (now (marks .exit)) (now (came .exit)) b n ⌝ }
 {
-    prepare::plant_book(
-        lines,
-        tip,
-        long,
-        head,
-        next,
-        far,
-        add,
-        best,
-        seg,
-        order,
-        b + 1,
-    );
+    prepare::plant_book(lines, ends, head, next, best, seg, order, b + 1);
     list_entries(best, order, marks, came, b);
 }
 
 // The tree of n lines on b marks.
 pub fn plant(lines: &[i64], marks: &mut [usize], came: &mut [usize], b: usize, n: usize)
     requires { ⌜ Lines (now lines) b n ⌝ ∗ ⌜ b ≤ mostMarks ⌝ ∗ ⌜ (b ≤ length (now marks)) × (b ≤ length (now came)) ⌝ }
-    ensures { λ _. ⌜ Entered (now (marks .exit)) (now (came .exit)) (tree b (standing (now (lines .entry)))) ⌝ ∗ ⌜ Growth (now (marks .exit)) (now (came .exit)) b n ⌝ }
+    ensures { λ _. ⌜ Entered (now (marks .exit)) (now (came .exit)) (tree b (standing (now (lines .entry)))) ⌝
+        ∗ ⌜ Growth (now (marks .exit)) (now (came .exit)) b n ⌝ }
 {
-    let mut tip = [0u64; 2048];
-    let mut long = [0u64; 1024];
+    let mut ends = [0u64; 2048];
     let mut head = [0u64; 257];
-    let mut next = [0u64; 1024];
-    let mut far = [0u64; 1024];
-    let mut add = [0u64; 1024];
+    let mut next = [0u64; 2048];
     let mut best = [0u64; 257];
     let mut seg = [0u64; 514];
     let mut order = [0u64; 257];
     plant_in(
         lines,
-        &mut tip[..],
-        &mut long[..],
+        &mut ends[..],
         &mut head[..],
         &mut next[..],
-        &mut far[..],
-        &mut add[..],
         &mut best[..],
         &mut seg[..],
         &mut order[..],

@@ -21,9 +21,9 @@ use Rattle.network.proofs.ClosingLines.{tree-line-or-closing-line, never-tree-l
 use Rattle.network.proofs.Subgraph.{in-treeLines, of-treeLines, or-true, or-right}
 use Rattle.loops.specs.Crossed.{crosses, crossed}
 use Rattle.loops.proofs.Crossed.{checks-one, one-checks, crossed-by, in-crossed}
-use Rattle.chains.specs.Chains.{Half, fore, aft, numberLimit}
+use Rattle.chains.specs.Chains.{Half, fore, aft, markOf, numberLimit}
 use Rattle.chains.specs.Listed.{Listed}
-use Rattle.chains.proofs.Halves.{half-no}
+use Rattle.chains.proofs.Halves.{half-no, line-metres}
 use Rattle.search.specs.Front.{came, By, Key}
 use Rattle.search.specs.Front as f
 use Rattle.search.proofs.Enter.{came-new, came-old}
@@ -62,37 +62,37 @@ tests false true c h = absurd (false≢true h)
 tests false false true h = absurd (false≢true h)
 tests false false false h = (refl, refl, refl)
 
-module _ {n q : ℕ} {lines : List Line} {tip long best order : List ℕ} (li : Listed lines n q tip long) (ho : Holding (tree (n - 1) lines) best order tip) where
+module _ {n q : ℕ} {lines : List Line} {ends best order : List ℕ} (li : Listed lines n q ends) (ho : Holding (tree (n - 1) lines) best order ends) where
   abbrev es : Tree
   es = tree (n - 1) lines
 
-  held : TreeHeld n lines tip best
+  held : TreeHeld n lines ends best
   held = tree-held li ho
 
   -- a mark that came in by a line of this number came in by a tree line
   came-by : (m k : ℕ) → IsMark n m → 0 < k → lineIn best m ≡ k → (l : Line) × List·Memᴰ l (treeLines es) × (l .number ≡ k)
-  came-by m k is low e = go (key-at n lines tip best held m is)
+  came-by m k is low e = go (key-at n lines ends best held m is)
     where
-      go : (d : ℕ) × (distance es m ≡ some d) × Key es best tip m d → (l : Line) × List·Memᴰ l (treeLines es) × (l .number ≡ k)
+      go : (d : ℕ) × (distance es m ≡ some d) × Key es best ends m d → (l : Line) × List·Memᴰ l (treeLines es) × (l .number ≡ k)
       go (d, at, ky) = by (ky .by) (entry-came es m d at)
         where
-          by : By es tip m d (ky .h) → (x : Entry) × List·Memᴰ x es × (x .mark ≡ m) × (x .by ≡ came es m) → (l : Line) × List·Memᴰ l (treeLines es) × (l .number ≡ k)
+          by : By es ends m d (ky .h) → (x : Entry) × List·Memᴰ x es × (x .mark ≡ m) × (x .by ≡ came es m) → (l : Line) × List·Memᴰ l (treeLines es) × (l .number ≡ k)
           by (f.root c a b) x = absurd (omega (arith, ky .key, b))
           by (f.line l u du c hf lo tp i s) (x, x-in, x-mark, x-by) = (l, in-treeLines es l (x, x-in, x-by ∙ c), omega (arith, ky .key, ky .low, half-no hf))
 
   -- so a closing line stands, and no end of it came in by it
-  pub closing-closes : (c : Line) → List·Memᴰ c (closing lines es) → closesAt tip long best (c .number) ≡ true
+  pub closing-closes : (c : Line) → List·Memᴰ c (closing lines es) → closesAt ends best (c .number) ≡ true
   closing-closes c m =
-      let stands = closing-line-stands (n - 1) lines (book-sound n lines tip best held) c m in
+      let stands = closing-line-stands (n - 1) lines (book-sound n lines ends best held) c m in
       let so = li .sound c stands in
       let other : (u : ℕ) → IsMark n u → (v : ℕ) → v ≡ u → lineIn best v ≡ c .number → ⊥
       = (λ u is v same e.
       let w = came-by u (c .number) is (so .numbered) (ap (lineIn best) (sym same) ∙ e) in
-      never-tree-line-and-closing-line (n - 1) lines (book-sound n lines tip best held) (w .0) c (w .1) m (sym (w .2))) in
+      never-tree-line-and-closing-line (n - 1) lines (book-sound n lines ends best held) (w .0) c (w .1) m (sym (w .2))) in
       rw (
-        ne-eqb (getD long (c .number) 0) 0 (λ z. omega (arith, li .longOf c stands, so .long)),
-        ne-eqb (lineIn best (getD tip (c .number * 2) 0)) (c .number) (other (c .to) (so .to-low, so .to-high) _ (to-at held c stands refl)),
-        ne-eqb (lineIn best (getD tip (c .number * 2 + 1) 0)) (c .number) (other (c .from) (so .from-low, so .from-high) _ (from-at held c stands refl)),
+        ne-eqb (getD ends (c .number * 2) 0) 0 (λ z. omega (arith, line-metres li c stands, so .long)),
+        ne-eqb (lineIn best (markOf ends (c .number * 2))) (c .number) (other (c .to) (so .to-low, so .to-high) _ (to-at held c stands refl)),
+        ne-eqb (lineIn best (markOf ends (c .number * 2 + 1))) (c .number) (other (c .from) (so .from-low, so .from-high) _ (from-at held c stands refl)),
       )
 
   -- and a tree line is the one by which one of its ends came in
@@ -103,12 +103,12 @@ module _ {n q : ℕ} {lines : List Line} {tip long best order : List ℕ} (li : 
       go (x, x-in, its) = by (ky .by)
         where
           k : Came es x
-          k = came-in lines (grown-tree n lines tip best held) x x-in
+          k = came-in lines (grown-tree n lines ends best held) x x-in
 
-          ky : Key es best tip (x .mark) (k .1 .0)
+          ky : Key es best ends (x .mark) (k .1 .0)
           ky = ho .keyed (x .mark) (k .1 .0) (k .1 .1)
 
-          by : By es tip (x .mark) (k .1 .0) (ky .h) → (lineIn best (l .to) ≡ l .number) ⊎ (lineIn best (l .from) ≡ l .number)
+          by : By es ends (x .mark) (k .1 .0) (ky .h) → (lineIn best (l .to) ≡ l .number) ⊎ (lineIn best (l .from) ≡ l .number)
           by (f.root c a b) = absurd (Option·none-ne-some l (sym c ∙ k .0 ∙ its))
           by (f.line m u du c hf lo tp i s) = half (subst (λ (z : Line). Half z u (x .mark) (ky .h)) (Option·some-injective _ _ (sym c ∙ k .0 ∙ its)) hf)
             where
@@ -117,13 +117,13 @@ module _ {n q : ℕ} {lines : List Line} {tip long best order : List ℕ} (li : 
               half (aft p z e) = inr (ap (lineIn best) z ∙ omega (arith, ky .key, ky .low))
 
   -- so that a line that closes is a closing line
-  pub closes-closing : (k : ℕ) → k < q → closesAt tip long best k ≡ true → (c : Line) × List·Memᴰ c (closing lines es) × (c .number ≡ k)
+  pub closes-closing : (k : ℕ) → k < q → closesAt ends best k ≡ true → (c : Line) × List·Memᴰ c (closing lines es) × (c .number ≡ k)
   closes-closing k lt h =
-      let t = tests (eqb (getD long k 0) 0) (eqb (lineIn best (getD tip (k * 2) 0)) k) (eqb (lineIn best (getD tip (k * 2 + 1) 0)) k) h in
-      let w = li .lineOf k lt (omega (arith, eqb-false (getD long k 0) 0 (t .0))) in
-      go (w .0) (w .1) (w .2) (eqb-false _ _ (t .1)) (eqb-false _ _ (t .2)) (tree-line-or-closing-line (n - 1) lines (book-sound n lines tip best held) (w .0) (w .1))
+      let t = tests (eqb (getD ends (k * 2) 0) 0) (eqb (lineIn best (markOf ends (k * 2))) k) (eqb (lineIn best (markOf ends (k * 2 + 1))) k) h in
+      let w = li .lineOf k lt (omega (arith, eqb-false (getD ends (k * 2) 0) 0 (t .0))) in
+      go (w .0) (w .1) (w .2) (eqb-false _ _ (t .1)) (eqb-false _ _ (t .2)) (tree-line-or-closing-line (n - 1) lines (book-sound n lines ends best held) (w .0) (w .1))
     where
-      go : (l : Line) → List·Memᴰ l lines → l .number ≡ k → (lineIn best (getD tip (k * 2) 0) ≡ k → ⊥) → (lineIn best (getD tip (k * 2 + 1) 0) ≡ k → ⊥)
+      go : (l : Line) → List·Memᴰ l lines → l .number ≡ k → (lineIn best (markOf ends (k * 2)) ≡ k → ⊥) → (lineIn best (markOf ends (k * 2 + 1)) ≡ k → ⊥)
           → List·Memᴰ l (treeLines es) ⊎ List·Memᴰ l (closing lines es) → (c : Line) × List·Memᴰ c (closing lines es) × (c .number ≡ k)
       go l i e no-to no-from (inr c) = (l, c, e)
       go l i e no-to no-from (inl t) = absurd (neither (tree-line-came l t))
@@ -140,17 +140,17 @@ pub record SoFar (n : ℕ) (lines : List Line) (marked : List ℕ) (number : ℕ
   pub complete : (c : Line) → List·Memᴰ c (closing lines (tree (n - 1) lines)) → c .number < number
       → (j : ℕ) → (eqb (c .number) j || crosses (tree (n - 1) lines) j c) ≡ true → isMarked marked j ≡ true
 
-module _ {n q : ℕ} {lines : List Line} {tip long best order : List ℕ} (li : Listed lines n q tip long) (ho : Holding (tree (n - 1) lines) best order tip) where
+module _ {n q : ℕ} {lines : List Line} {ends best order : List ℕ} (li : Listed lines n q ends) (ho : Holding (tree (n - 1) lines) best order ends) where
   -- at the start nothing is marked
   pub start-so-far : {marked : List ℕ} → ((j : ℕ) → j < numberLimit → getD marked j 0 ≡ 0) → SoFar n lines marked 1
   start-so-far z = record {
     sound = λ j lt h. absurd (false≢true (sym (ap (λ (k : ℕ). eqb k checkedMark) (z j lt)) ∙ h));
-    complete = λ c m lt j h. absurd (omega (arith, lt, li .sound c (closing-line-stands (n - 1) lines (book-sound n lines tip best (tree-held li ho)) c m) .numbered));
+    complete = λ c m lt j h. absurd (omega (arith, lt, li .sound c (closing-line-stands (n - 1) lines (book-sound n lines ends best (tree-held li ho)) c m) .numbered));
   }
 
   module _ {marked marked′ : List ℕ} {number : ℕ} (lt : number < q) (w : SoFar n lines marked number) where
     -- one line more
-    pub next-so-far : Passed tip long best marked marked′ number → SoFar n lines marked′ (number + 1)
+    pub next-so-far : Passed ends best marked marked′ number → SoFar n lines marked′ (number + 1)
     next-so-far (other-line h e) = subst (λ (m : List ℕ). SoFar n lines m (number + 1)) (sym e) (record {
       sound = w .sound;
       complete = λ c m less j x. go c m (ℕ-discrete (c .number) number) less j x;
@@ -158,7 +158,7 @@ module _ {n q : ℕ} {lines : List Line} {tip long best order : List ℕ} (li : 
       where
         go : (c : Line) → List·Memᴰ c (closing lines (tree (n - 1) lines)) → Dec (c .number ≡ number) → c .number < number + 1
             → (j : ℕ) → (eqb (c .number) j || crosses (tree (n - 1) lines) j c) ≡ true → isMarked marked j ≡ true
-        go c m (yes z) less j x = absurd (false≢true (sym h ∙ ap (closesAt tip long best) (sym z) ∙ closing-closes li ho c m))
+        go c m (yes z) less j x = absurd (false≢true (sym h ∙ ap (closesAt ends best) (sym z) ∙ closing-closes li ho c m))
         go c m (no z) less j x = w .complete c m (omega arith) j x
     next-so-far (closing-line h lc) = record { sound = sound; complete = λ c m less j x. complete c m (ℕ-discrete (c .number) number) less j x }
       where
@@ -166,7 +166,7 @@ module _ {n q : ℕ} {lines : List Line} {tip long best order : List ℕ} (li : 
         k = closes-closing li ho number lt h
 
         stands : (c : Line) → List·Memᴰ c (closing lines (tree (n - 1) lines)) → List·Memᴰ c lines
-        stands = closing-line-stands (n - 1) lines (book-sound n lines tip best (tree-held li ho))
+        stands = closing-line-stands (n - 1) lines (book-sound n lines ends best (tree-held li ho))
 
         now : (j : ℕ) → isMarked marked′ j ≡ (isMarked marked j || (eqb (k .0 .number) j || crosses (tree (n - 1) lines) j (k .0)))
         now j = lc n lines (tree-held li ho) (k .0) (stands (k .0) (k .1)) (k .2) j
@@ -192,5 +192,5 @@ module _ {n q : ℕ} {lines : List Line} {tip long best order : List ℕ} (li : 
   all-so-far {marked = marked} le w j lt = same-test (isMarked marked j) (crossed (tree (n - 1) lines) j (closing lines (tree (n - 1) lines))) (w .sound j lt)
       (λ h.
       let k = crossed-by (tree (n - 1) lines) j (closing lines (tree (n - 1) lines)) h in
-      let stands = closing-line-stands (n - 1) lines (book-sound n lines tip best (tree-held li ho)) (k .0) (k .1) in
+      let stands = closing-line-stands (n - 1) lines (book-sound n lines ends best (tree-held li ho)) (k .0) (k .1) in
       w .complete (k .0) (k .1) (omega (arith, li .numbered (k .0) stands)) j (one-checks (tree (n - 1) lines) j (k .0) (k .2)))

@@ -20,8 +20,8 @@ use Rattle.network.proofs.ClosingLines.{has-distance}
 use Rattle.network.proofs.Subgraph.{not-in}
 use Rattle.loops.specs.Crossed.{onWay}
 use Rattle.loops.proofs.Ways.{one-end, onward, root-way, beyond}
-use Rattle.chains.specs.Chains.{flip, halves, numberLimit}
-use Rattle.chains.proofs.Halves.{half-ends, half-flip, half-ok, half-low-end, half-no}
+use Rattle.chains.specs.Chains.{Half, flip, markOf, halves, numberLimit}
+use Rattle.chains.proofs.Halves.{half-ends, half-flip, half-ok, half-low-end, half-no, told-mark}
 use Rattle.search.specs.Front.{came, By, Key}
 use Rattle.search.specs.Front as f
 use Rattle.search.proofs.Enter.{came-new, came-old}
@@ -31,8 +31,12 @@ use Rattle.tree.proofs.Entries.{placed}
 use Rattle.unchecked.specs.Ways.{IsMark, TreeHeld, lineIn, nearerMark}
 
 -- the tables of the lines and the tree's keys hold the tree
-pub tree-held : {n q : ℕ} {lines : List Line} {tip long best order : List ℕ} → Listed lines n q tip long → Holding (tree (n - 1) lines) best order tip → TreeHeld n lines tip best
-tree-held li ho = record { rising = li .rising; sound = li .sound; tipOf = li .tipOf; keyed = ho .keyed }
+pub tree-held : {n q : ℕ} {lines : List Line} {ends best order : List ℕ} → Listed lines n q ends → Holding (tree (n - 1) lines) best order ends → TreeHeld n lines ends best
+tree-held li ho = record { rising = li .rising; sound = li .sound; few = li .few; told = li .told; keyed = ho .keyed }
+
+-- the mark that a half leads to
+pub held-mark : {n : ℕ} {lines : List Line} {ends best : List ℕ} → TreeHeld n lines ends best → (l : Line) (u v h : ℕ) → List·Memᴰ l lines → Half l u v h → markOf ends h ≡ v
+held-mark {ends = ends} t l u v h i hf = told-mark ends (t .sound l i) (t .few) hf (t .told l u v h i hf)
 
 -- the distance in the key of mark m
 abbrev pub distanceAt : List ℕ → ℕ → ℕ
@@ -49,7 +53,7 @@ entry-came (e ∷ es) m d h = go (after e es m) (entry-came es m d)
     go (new p q) ih = (e, List·Memᴰ·head refl, p, sym (came-new e es m p))
     go (old p q) ih = let k = ih (sym q ∙ h) in (k .0, List·Memᴰ·tail (k .1), k .2, k .3 ∙ sym (came-old e es m p))
 
-module _ (n : ℕ) (lines : List Line) (tip best : List ℕ) (t : TreeHeld n lines tip best) where
+module _ (n : ℕ) (lines : List Line) (ends best : List ℕ) (t : TreeHeld n lines ends best) where
   abbrev es : Tree
   es = tree (n - 1) lines
 
@@ -67,7 +71,7 @@ module _ (n : ℕ) (lines : List Line) (tip best : List ℕ) (t : TreeHeld n lin
   grown-tree = grows (n - 1) lines (placed n lines (t .sound))
 
   -- every mark has a distance and a key
-  pub key-at : (m : ℕ) → IsMark n m → (d : ℕ) × (distance es m ≡ some d) × Key es best tip m d
+  pub key-at : (m : ℕ) → IsMark n m → (d : ℕ) × (distance es m ≡ some d) × Key es best ends m d
   key-at m i = let h = has-distance (n - 1) lines book-sound m (i .0) (omega (arith, i .1)) in (h .0, h .1, t .keyed m (h .0) (h .1))
 
   -- ---- one line of a way
@@ -79,7 +83,7 @@ module _ (n : ℕ) (lines : List Line) (tip best : List ℕ) (t : TreeHeld n lin
     pub u : ℕ
     pub number : lineIn best m ≡ l .number
     pub small : l .number < numberLimit
-    pub nearer : nearerMark tip best m ≡ u
+    pub nearer : nearerMark ends best m ≡ u
     pub u-is : IsMark n u
     pub falls : distanceAt best u + leastLength ≤ distanceAt best m
     pub way : (j : ℕ) → onWay es j m ≡ (eqb (l .number) j || onWay es j u)
@@ -89,17 +93,17 @@ module _ (n : ℕ) (lines : List Line) (tip best : List ℕ) (t : TreeHeld n lin
   pub step-at : (m : ℕ) → IsMark n m → 0 < getD best m 0 → Step m
   step-at m im low = go (key-at m im)
     where
-      go : (d : ℕ) × (distance es m ≡ some d) × Key es best tip m d → Step m
+      go : (d : ℕ) × (distance es m ≡ some d) × Key es best ends m d → Step m
       go (d, at, ky) = by (ky .by) (entry-came es m d at)
         where
-          by : By es tip m d (ky .h) → (x : Entry) × List·Memᴰ x es × (x .mark ≡ m) × (x .by ≡ came es m) → Step m
+          by : By es ends m d (ky .h) → (x : Entry) × List·Memᴰ x es × (x .mark ≡ m) × (x .by ≡ came es m) → Step m
           by (f.root c a b) e = absurd (omega (arith, ky .key))
           by (f.line l u du c hf lo tp i s) (x, x-in, x-mark, x-by) = record {
             l = l;
             u = u;
             number = omega (arith, ky .key, ky .low, half-no hf);
             small = t .sound l isLine .number;
-            nearer = ap (λ (h : ℕ). getD tip (flip h) 0) its-half ∙ tp;
+            nearer = ap (λ (h : ℕ). markOf ends (flip h)) its-half ∙ tp;
             u-is = u-is;
             falls = omega (arith, ky .key, ku .2 .key, ku .2 .low, s, du-is, t .sound l isLine .long);
             way = way;
@@ -118,7 +122,7 @@ module _ (n : ℕ) (lines : List Line) (tip best : List ℕ) (t : TreeHeld n lin
               u-is : IsMark n u
               u-is = (half-low-end (t .sound l isLine) (half-flip hf), half-ok (t .sound l isLine) hf .0)
 
-              ku : (e : ℕ) × (distance es u ≡ some e) × Key es best tip u e
+              ku : (e : ℕ) × (distance es u ≡ some e) × Key es best ends u e
               ku = key-at u u-is
 
               du-is : ku .0 ≡ du
@@ -133,7 +137,7 @@ module _ (n : ℕ) (lines : List Line) (tip best : List ℕ) (t : TreeHeld n lin
               clear : (v : ℕ) → IsMark n v → getD best v 0 < getD best m 0 → onWay es (l .number) v ≡ false
               clear v iv lt = not-in (onWay es (l .number) v) (λ on. no (key-at v iv) on)
                 where
-                  no : (e : ℕ) × (distance es v ≡ some e) × Key es best tip v e → onWay es (l .number) v ≡ true → ⊥
+                  no : (e : ℕ) × (distance es v ≡ some e) × Key es best ends v e → onWay es (l .number) v ≡ true → ⊥
                   no (e, v-at, kv) on = hit (beyond lines (t .rising) (λ k z. t .sound k z .apart) (λ k z. omega (arith, t .sound k z .long)) grown-tree l x x-in its-line d (ap (distance es) x-mark ∙ at) v e v-at on)
                     where
                       hit : (v ≡ x .mark) ⊎ (d < e) → ⊥
@@ -154,15 +158,15 @@ module _ (n : ℕ) (lines : List Line) (tip best : List ℕ) (t : TreeHeld n lin
       stands : (m d : ℕ) → distance es m ≡ some d → (l : Line) → came es m ≡ some l → List·Memᴰ l lines
       stands m d h l c = let x = entry-came es m d h in treeLine lines grown-tree (x .0) (x .1) l (x .3 ∙ c)
 
-      go : (d : ℕ) × (distance es a ≡ some d) × Key es best tip a d → (d : ℕ) × (distance es b ≡ some d) × Key es best tip b d → onWay es j a ≡ onWay es j b
+      go : (d : ℕ) × (distance es a ≡ some d) × Key es best ends a d → (d : ℕ) × (distance es b ≡ some d) × Key es best ends b d → onWay es j a ≡ onWay es j b
       go (d, h, ka) (d′, h′, kb) = by (ka .by) (kb .by)
         where
           one-half : ka .h ≡ kb .h
           one-half = omega (arith, ka .key, kb .key, ka .low, kb .low)
 
-          by : By es tip a d (ka .h) → By es tip b d′ (kb .h) → onWay es j a ≡ onWay es j b
+          by : By es ends a d (ka .h) → By es ends b d′ (kb .h) → onWay es j a ≡ onWay es j b
           by (f.root c x y) (f.root c′ x′ y′) = root-of a d h c ∙ sym (root-of b d′ h′ c′)
           by (f.root c x y) (f.line l u du c′ hf lo tp i s) = absurd (omega (arith, half-no hf, t .sound l (stands b d′ h′ l c′) .numbered))
           by (f.line l u du c hf lo tp i s) (f.root c′ x y) = absurd (omega (arith, half-no hf, t .sound l (stands a d h l c) .numbered))
           by (f.line l u du c hf lo tp i s) (f.line l′ u′ du′ c′ hf′ lo′ tp′ i′ s′) =
-              ap (onWay es j) (sym (t .tipOf l u a (ka .h) (stands a d h l c) hf) ∙ ap (λ (z : ℕ). getD tip z 0) one-half ∙ t .tipOf l′ u′ b (kb .h) (stands b d′ h′ l′ c′) hf′)
+              ap (onWay es j) (sym (held-mark t l u a (ka .h) (stands a d h l c) hf) ∙ ap (λ (z : ℕ). markOf ends z) one-half ∙ held-mark t l′ u′ b (kb .h) (stands b d′ h′ l′ c′) hf′)

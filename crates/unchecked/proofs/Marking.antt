@@ -16,9 +16,9 @@ use Rattle.network.specs.Tree.{Tree, tree}
 use Rattle.network.proofs.Subgraph.{or-right}
 use Rattle.loops.specs.Crossed.{onWay, differ, crosses}
 use Rattle.loops.proofs.Ways.{differ-turn, same-differ}
-use Rattle.chains.specs.Chains.{fore, aft, numberLimit}
+use Rattle.chains.specs.Chains.{fore, aft, markOf, numberLimit}
 use Rattle.unchecked.specs.Ways.{checkedMark, isMarked, IsMark, TreeHeld, markLimit, Climbed, Follows, Followed}
-use Rattle.unchecked.proofs.Following.{distanceAt, Step, step-at, meet}
+use Rattle.unchecked.proofs.Following.{held-mark, distanceAt, Step, step-at, meet}
 
 -- ---- one mark more
 
@@ -43,8 +43,8 @@ passes true false w p q = sym (ap₂ differ p (q refl))
 passes false false {b = b} w p q = ap (λ (x : Bool). differ x b) (sym p)
 
 -- one line of the way of u is passed, to the mark r
-module _ {n : ℕ} {lines : List Line} {tip best : List ℕ} {t : TreeHeld n lines tip best} {u : ℕ} (s : Step n lines tip best t u)
-    {marked marked₁ : List ℕ} {r : ℕ} (c : Climbed tip best marked marked₁ u r) where
+module _ {n : ℕ} {lines : List Line} {ends best : List ℕ} {t : TreeHeld n lines ends best} {u : ℕ} (s : Step n lines ends best t u)
+    {marked marked₁ : List ℕ} {r : ℕ} (c : Climbed ends best marked marked₁ u r) where
   abbrev es : Tree
   es = tree (n - 1) lines
 
@@ -68,25 +68,25 @@ module _ {n : ℕ} {lines : List Line} {tip best : List ℕ} {t : TreeHeld n lin
       clear e = rw (← eqb-true (s .l .number) j e) (s .clear v iv farther)
 
 -- there is as much room as before
-pub climbed-length : {tip best marked marked₁ : List ℕ} {m r : ℕ} → Climbed tip best marked marked₁ m r → length marked₁ ≡ length marked
+pub climbed-length : {ends best marked marked₁ : List ℕ} {m r : ℕ} → Climbed ends best marked marked₁ m r → length marked₁ ≡ length marked
 climbed-length c = rw (c .marks, length-set)
 
 -- the two marks may change places
-pub follows-turn : {tip best marked : List ℕ} {u v : ℕ} → Follows tip best marked u v → Follows tip best marked v u
+pub follows-turn : {ends best marked : List ℕ} {u v : ℕ} → Follows ends best marked u v → Follows ends best marked v u
 follows-turn p =
     record { marks = p .marks; n = p .n; bests = p .bests; lines = p .lines; held = p .held; u-is = p .v-is; v-is = p .u-is }
 
-module _ {tip best marked : List ℕ} {u v : ℕ} (p : Follows tip best marked u v) where
+module _ {ends best marked : List ℕ} {u v : ℕ} (p : Follows ends best marked u v) where
   pub u-low : u < markLimit
   u-low = omega (arith, p .u-is .1, p .bests)
 
   -- where the ways meet nothing is left to mark
-  pub followed-met : getD best u 0 ≡ getD best v 0 → Followed tip best marked marked u v
-  followed-met e n lines t iu iv j = rw (same-differ _ _ (meet n lines tip best t u v iu iv e j), or-false)
+  pub followed-met : getD best u 0 ≡ getD best v 0 → Followed ends best marked marked u v
+  followed-met e n lines t iu iv j = rw (same-differ _ _ (meet n lines ends best t u v iu iv e j), or-false)
 
   -- u is farther than v, and so no root: one line of its way is passed
-  module _ (farther : getD best v 0 < getD best u 0) {marked₁ : List ℕ} {r : ℕ} (c : Climbed tip best marked marked₁ u r) where
-    step : {n : ℕ} {lines : List Line} (t : TreeHeld n lines tip best) → IsMark n u → Step n lines tip best t u
+  module _ (farther : getD best v 0 < getD best u 0) {marked₁ : List ℕ} {r : ℕ} (c : Climbed ends best marked marked₁ u r) where
+    step : {n : ℕ} {lines : List Line} (t : TreeHeld n lines ends best) → IsMark n u → Step n lines ends best t u
     step t iu = step-at _ _ _ _ t u iu (omega arith)
 
     -- "the distance falls at each step"
@@ -94,7 +94,7 @@ module _ {tip best marked : List ℕ} {u v : ℕ} (p : Follows tip best marked u
     distance-falls = r-nearer (step (p .held) (p .u-is)) c
 
     -- the ways of r and v are followed next
-    pub follows-rest : Follows tip best marked₁ r v
+    pub follows-rest : Follows ends best marked₁ r v
     follows-rest = record {
       marks = rw (climbed-length c) (p .marks);
       n = p .n;
@@ -106,28 +106,28 @@ module _ {tip best marked : List ℕ} {u v : ℕ} (p : Follows tip best marked u
     }
 
     -- and then those of u and v have been, whichever of the two is named first
-    pub followed-rest : (marked′ : List ℕ) → Followed tip best marked₁ marked′ r v → Followed tip best marked marked′ u v
+    pub followed-rest : (marked′ : List ℕ) → Followed ends best marked₁ marked′ r v → Followed ends best marked marked′ u v
     followed-rest marked′ f n lines t iu iv j =
         let s = step t iu in
         f n lines t (r-mark s c) iv j ∙ same s c v iv farther (p .marks) j
 
-    pub followed-turn : (marked′ : List ℕ) → Followed tip best marked₁ marked′ r v → Followed tip best marked marked′ v u
+    pub followed-turn : (marked′ : List ℕ) → Followed ends best marked₁ marked′ r v → Followed ends best marked marked′ v u
     followed-turn marked′ f n lines t iv iu j = rw differ-turn (followed-rest marked′ f n lines t iu iv j)
 
 -- ---- one closing line
 
-module _ {n : ℕ} {lines : List Line} {tip best : List ℕ} (t : TreeHeld n lines tip best) (c : Line) (isLine : List·Memᴰ c lines) {number : ℕ} (its : c .number ≡ number) where
-  -- its ends stand in tip
-  pub from-at : getD tip (number * 2 + 1) 0 ≡ c .from
-  from-at = t .tipOf c (c .to) (c .from) (number * 2 + 1) isLine (aft refl refl (omega arith))
+module _ {n : ℕ} {lines : List Line} {ends best : List ℕ} (t : TreeHeld n lines ends best) (c : Line) (isLine : List·Memᴰ c lines) {number : ℕ} (its : c .number ≡ number) where
+  -- its ends stand in ends
+  pub from-at : markOf ends (number * 2 + 1) ≡ c .from
+  from-at = held-mark t c (c .to) (c .from) (number * 2 + 1) isLine (aft refl refl (omega arith))
 
-  pub to-at : getD tip (number * 2) 0 ≡ c .to
-  to-at = t .tipOf c (c .from) (c .to) (number * 2) isLine (fore refl refl (omega arith))
+  pub to-at : markOf ends (number * 2) ≡ c .to
+  to-at = held-mark t c (c .from) (c .to) (number * 2) isLine (fore refl refl (omega arith))
 
-  pub from-mark : IsMark n (getD tip (number * 2 + 1) 0)
+  pub from-mark : IsMark n (markOf ends (number * 2 + 1))
   from-mark = subst (IsMark n) (sym from-at) (t .sound c isLine .from-low, t .sound c isLine .from-high)
 
-  pub to-mark : IsMark n (getD tip (number * 2) 0)
+  pub to-mark : IsMark n (markOf ends (number * 2))
   to-mark = subst (IsMark n) (sym to-at) (t .sound c isLine .to-low, t .sound c isLine .to-high)
 
   pub small-number : number < numberLimit
@@ -135,7 +135,7 @@ module _ {n : ℕ} {lines : List Line} {tip best : List ℕ} (t : TreeHeld n lin
 
   -- the line is marked, and so is what it crosses
   pub loop-checked : (marked marked′ : List ℕ) → numberLimit ≤ length marked
-      → Followed tip best (set marked number checkedMark) marked′ (getD tip (number * 2 + 1) 0) (getD tip (number * 2) 0)
+      → Followed ends best (set marked number checkedMark) marked′ (markOf ends (number * 2 + 1)) (markOf ends (number * 2))
       → (j : ℕ) → isMarked marked′ j ≡ (isMarked marked j || (eqb (c .number) j || crosses (tree (n - 1) lines) j c))
   unfolding crosses
   loop-checked marked marked′ room fo j =

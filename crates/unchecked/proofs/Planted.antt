@@ -8,23 +8,22 @@ use Rattle.network.specs.Standing.{standing}
 use Rattle.prepare.specs.Prepared.{Good, BookPlanted}
 use Rattle.unchecked.specs.Ways.{markLimit}
 use Rattle.unchecked.specs.List.{Ready}
-use Rattle.unchecked.specs.Book.{Shelf}
+use Rattle.unchecked.specs.Book.{RoomList}
 
 -- the list can be made
-pub list-ready : {n : ℕ} {ls : List ℤ} (g : Good n ls) {tip long best order marked out : List ℕ} → BookPlanted n ls tip long best order
-    → n ≤ markLimit → Shelf ls marked out → Ready tip long best marked out (length ls / 5 + 1)
-list-ready {n = n} {ls = ls} g {order = order} p bests shelf = record {
+pub list-ready : {n : ℕ} {ls : List ℤ} (g : Good n ls) {ends best order marked out : List ℕ} → BookPlanted n ls ends best order
+    → n ≤ markLimit → RoomList ls marked out → Ready ends best marked out (length ls / 5 + 1)
+list-ready {n = n} {ls = ls} g {order = order} p bests room = record {
   closes = record {
-    marks = shelf .marks;
+    marks = room .marks;
     few = omega (arith, g .few-lines);
-    longs = omega (arith, p .longs .longs, g .few-lines);
     n = n;
-    tips = p .tips;
+    bounded = p .bounded;
     bests = bests;
     order = order;
     lines = standing ls;
     listed = p .listed;
     holding = p .holding;
   };
-  outs = omega (arith, shelf .outs);
+  outs = omega (arith, room .outs);
 }

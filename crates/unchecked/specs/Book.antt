@@ -10,7 +10,7 @@ use Rattle.chains.specs.Chains.{numberLimit}
 use Rattle.closing.specs.Order.{Put}
 
 -- room for the marks and the list
-pub record Shelf (ls : List ℤ) (marked out : List ℕ) : Type 0 where
+pub record RoomList (ls : List ℤ) (marked out : List ℕ) : Type 0 where
   pub marks : numberLimit ≤ length marked
   pub outs : length ls / 5 ≤ length out
 

@@ -12,7 +12,7 @@ use Rattle.network.specs.Sound.{Rising}
 use Rattle.network.specs.Tree.{tree}
 use Rattle.network.specs.Closing.{closing}
 use Rattle.loops.specs.Crossed.{onWay, differ, crosses, crossed}
-use Rattle.chains.specs.Chains.{Half, flip, AllSound, Tips, halves, numberLimit}
+use Rattle.chains.specs.Chains.{flip, markOf, AllSound, Bounded, Told, halves, numberLimit}
 use Rattle.chains.specs.Listed.{Listed}
 use Rattle.search.specs.Front.{Keyed}
 use Rattle.tree.specs.Plant.{Holding}
@@ -31,12 +31,13 @@ isMarked marked j = eqb (getD marked j 0) checkedMark
 abbrev pub IsMark : ℕ → ℕ → Type 0
 IsMark n m = (0 < m) × (m < n)
 
--- tip has the ends of the lines, best of each mark its distance and the line it came in by
-pub record TreeHeld (n : ℕ) (lines : List Line) (tip best : List ℕ) : Type 0 where
+-- ends tells of the lines, best of each mark its distance and the line it came in by
+pub record TreeHeld (n : ℕ) (lines : List Line) (ends best : List ℕ) : Type 0 where
   pub rising : Rising lines
   pub sound : AllSound n lines
-  pub tipOf : (l : Line) (u v h : ℕ) → List·Memᴰ l lines → Half l u v h → getD tip h 0 ≡ v
-  pub keyed : Keyed (tree (n - 1) lines) best tip
+  pub few : n ≤ halves
+  pub told : Told lines ends
+  pub keyed : Keyed (tree (n - 1) lines) best ends
 
 -- more than any mark: best has so many places
 abbrev pub markLimit : ℕ
@@ -49,78 +50,77 @@ abbrev pub lineIn : List ℕ → ℕ → ℕ
 lineIn best m = getD best m 0 % halves / 2
 
 abbrev pub nearerMark : List ℕ → List ℕ → ℕ → ℕ
-nearerMark tip best m = getD tip (flip (getD best m 0 % halves)) 0
+nearerMark ends best m = markOf ends (flip (getD best m 0 % halves))
 
-pub record Climbed (tip best marked marked′ : List ℕ) (m r : ℕ) : Type 0 where
+pub record Climbed (ends best marked marked′ : List ℕ) (m r : ℕ) : Type 0 where
   pub marks : marked′ ≡ set marked (lineIn best m) checkedMark
-  pub nearer : r ≡ nearerMark tip best m
+  pub nearer : r ≡ nearerMark ends best m
 
 -- ---- two ways, to where they meet
 
 -- there is a tree, and u and v are marks of it
-pub record Follows (tip best marked : List ℕ) (u v : ℕ) : Type 0 where
+pub record Follows (ends best marked : List ℕ) (u v : ℕ) : Type 0 where
   pub marks : numberLimit ≤ length marked
   pub n : ℕ
   pub bests : n ≤ markLimit
   pub lines : List Line
-  pub held : TreeHeld n lines tip best
+  pub held : TreeHeld n lines ends best
   pub u-is : IsMark n u
   pub v-is : IsMark n v
 
 -- marked are the lines that were, and those on one of the two ways and not on the other
 abbrev pub Followed : List ℕ → List ℕ → List ℕ → List ℕ → ℕ → ℕ → Type 0
-Followed tip best marked marked′ u v =
-    (n : ℕ) (lines : List Line) → TreeHeld n lines tip best → IsMark n u → IsMark n v
+Followed ends best marked marked′ u v =
+    (n : ℕ) (lines : List Line) → TreeHeld n lines ends best → IsMark n u → IsMark n v
     → (j : ℕ) → isMarked marked′ j ≡ (isMarked marked j || differ (onWay (tree (n - 1) lines) j u) (onWay (tree (n - 1) lines) j v))
 
 -- ---- one closing line
 
 -- there is a tree, and a line of this number
-pub record Checks (tip best marked : List ℕ) (number : ℕ) : Type 0 where
+pub record Checks (ends best marked : List ℕ) (number : ℕ) : Type 0 where
   pub marks : numberLimit ≤ length marked
   pub n : ℕ
   pub bests : n ≤ markLimit
   pub lines : List Line
-  pub held : TreeHeld n lines tip best
+  pub held : TreeHeld n lines ends best
   pub c : Line
   pub isLine : List·Memᴰ c lines
   pub its : c .number ≡ number
 
 -- marked are the lines that were, the line c, and those that it crosses
 abbrev pub LoopChecked : List ℕ → List ℕ → List ℕ → List ℕ → ℕ → Type 0
-LoopChecked tip best marked marked′ number =
-    (n : ℕ) (lines : List Line) → TreeHeld n lines tip best → (c : Line) → List·Memᴰ c lines → c .number ≡ number
+LoopChecked ends best marked marked′ number =
+    (n : ℕ) (lines : List Line) → TreeHeld n lines ends best → (c : Line) → List·Memᴰ c lines → c .number ≡ number
     → (j : ℕ) → isMarked marked′ j ≡ (isMarked marked j || (eqb (c .number) j || crosses (tree (n - 1) lines) j c))
 
 -- ---- all closing lines
 
 -- line j stands, and neither of its ends came in by it
-abbrev pub closesAt : List ℕ → List ℕ → List ℕ → ℕ → Bool
-closesAt tip long best j =
-    cond (eqb (getD long j 0) 0) false
-    (cond (eqb (lineIn best (getD tip (j * 2) 0)) j) false
-    (not (eqb (lineIn best (getD tip (j * 2 + 1) 0)) j)))
+abbrev pub closesAt : List ℕ → List ℕ → ℕ → Bool
+closesAt ends best j =
+    cond (eqb (getD ends (j * 2) 0) 0) false
+    (cond (eqb (lineIn best (markOf ends (j * 2))) j) false
+    (not (eqb (lineIn best (markOf ends (j * 2 + 1))) j)))
 
 -- the tables of some lines with numbers below q, their tree, and room
-pub record Closes (tip long best marked : List ℕ) (q : ℕ) : Type 0 where
+pub record Closes (ends best marked : List ℕ) (q : ℕ) : Type 0 where
   pub marks : numberLimit ≤ length marked
   pub few : q ≤ numberLimit
-  pub longs : q ≤ length long
   pub n : ℕ
-  pub tips : Tips n tip
+  pub bounded : Bounded n ends
   pub bests : n ≤ markLimit
   pub order : List ℕ
   pub lines : List Line
-  pub listed : Listed lines n q tip long
-  pub holding : Holding (tree (n - 1) lines) best order tip
+  pub listed : Listed lines n q ends
+  pub holding : Holding (tree (n - 1) lines) best order ends
 
 -- a closing line is checked with what it crosses, and any other line is passed over
-pub data Passed (tip long best marked marked′ : List ℕ) (number : ℕ) : Type 0 where
-  closing-line : closesAt tip long best number ≡ true → LoopChecked tip best marked marked′ number → Passed tip long best marked marked′ number
-  other-line : closesAt tip long best number ≡ false → marked′ ≡ marked → Passed tip long best marked marked′ number
+pub data Passed (ends best marked marked′ : List ℕ) (number : ℕ) : Type 0 where
+  closing-line : closesAt ends best number ≡ true → LoopChecked ends best marked marked′ number → Passed ends best marked marked′ number
+  other-line : closesAt ends best number ≡ false → marked′ ≡ marked → Passed ends best marked marked′ number
 
 -- marked are the closing lines and the lines that one of them crosses, and no other
-abbrev pub LinesChecked : List ℕ → List ℕ → List ℕ → List ℕ → ℕ → Type 0
-LinesChecked tip long best marked′ q =
-    (n : ℕ) (order : List ℕ) (lines : List Line) → Listed lines n q tip long → Holding (tree (n - 1) lines) best order tip
+abbrev pub LinesChecked : List ℕ → List ℕ → List ℕ → ℕ → Type 0
+LinesChecked ends best marked′ q =
+    (n : ℕ) (order : List ℕ) (lines : List Line) → Listed lines n q ends → Holding (tree (n - 1) lines) best order ends
     → (j : ℕ) → j < numberLimit → isMarked marked′ j ≡ crossed (tree (n - 1) lines) j (closing lines (tree (n - 1) lines))

@@ -1,4 +1,4 @@
-use Rattle.entries.proofs.Entering.{chained-of, soil-of}
+use Rattle.entries.proofs.Entering.{room-net, room-plant}
 use borrow.Author.Needs.{needs}
 use Rattle.entries.proofs.plant.Statement.{statement}
 use Rattle.entries.proofs.plant.Tie as tie
@@ -21,15 +21,6 @@ slice-aggregate-plant-in-5 c = search needs
 slice-aggregate-plant-in-6 : tie.Need-slice-aggregate-plant-in-6
 slice-aggregate-plant-in-6 c = search needs
 
-slice-aggregate-plant-in-7 : tie.Need-slice-aggregate-plant-in-7
-slice-aggregate-plant-in-7 c = search needs
-
-slice-aggregate-plant-in-8 : tie.Need-slice-aggregate-plant-in-8
-slice-aggregate-plant-in-8 c = search needs
-
-slice-aggregate-plant-in-9 : tie.Need-slice-aggregate-plant-in-9
-slice-aggregate-plant-in-9 c = search needs
-
 plant-in-requires : tie.Need-plant-in-requires
 plant-in-requires c κs =
     let s : tie.Start = search in
@@ -40,8 +31,8 @@ plant-in-requires c κs =
       (
         s .pre .1 .0,
         (
-          chained-of l b n (s .pre .0) (s .pre .1 .0) _ _ _ _ _ _ (search needs) (search needs) (search needs) (search needs) (search needs) (search needs),
-          (soil-of l b n (s .pre .0) (s .pre .1 .0) _ _ _ (search needs) (search needs) (search needs), s .pre .1 .1),
+          room-net l b n (s .pre .0) (s .pre .1 .0) _ _ _ (search needs) (search needs) (search needs),
+          (room-plant l b n (s .pre .0) (s .pre .1 .0) _ _ _ (search needs) (search needs) (search needs), s .pre .1 .1),
         ),
       ),
     )
@@ -65,9 +56,6 @@ plant-spec =
     slice-aggregate-plant-in-4
     slice-aggregate-plant-in-5
     slice-aggregate-plant-in-6
-    slice-aggregate-plant-in-7
-    slice-aggregate-plant-in-8
-    slice-aggregate-plant-in-9
     plant-in-requires
     same-length
     same-length-2

@@ -17,7 +17,7 @@ list-entries-requires c κs =
     let after-plant-book : tie.After-plant-book = search in
     let s : tie.Start = search in
     let p = after-plant-book .plant-book in
-    readable-of (s .args .b) _ _ _ _ _ _ _ (s .pre .1 .1 .1 .0) (p .kept .1 .1 .1 .1 .1 .1 .1 .0) (p .kept .1 .1 .1 .1 .1 .1 .1 .1 .1 .0) (s .pre .1 .1 .1 .1 .0) (s .pre .1 .1 .1 .1 .1) (p .ensures .below)
+    readable-of (s .args .b) _ _ _ _ _ _ _ (s .pre .1 .1 .1 .0) (p .kept .1 .1 .1 .1 .0) (p .kept .1 .1 .1 .1 .1 .1 .0) (s .pre .1 .1 .1 .1 .0) (s .pre .1 .1 .1 .1 .1) (p .ensures .below)
 
 same-length : tie.Need-same-length
 same-length c = search needs
@@ -43,27 +43,17 @@ same-length-7 c = search needs
 same-length-8 : tie.Need-same-length-8
 same-length-8 c = search needs
 
-same-length-9 : tie.Need-same-length-9
-same-length-9 c = search needs
-
-same-length-10 : tie.Need-same-length-10
-same-length-10 c = search needs
-
-same-length-11 : tie.Need-same-length-11
-same-length-11 c = search needs
-
 returns : tie.Need-returns
 returns c =
     let after-list-entries : tie.After-list-entries = search in
     let after-plant-book : tie.After-plant-book = search in
-    let after-slice-known11 : tie.After-slice-known11 = search in
     let after-slice-known6 : tie.After-slice-known6 = search in
     let s : tie.Start = search in
     let p = after-plant-book .plant-book in
     let l = after-list-entries .list-entries in
     let w = s .pre .1 .1 .1 .1 in (
-      book-entered (s .args .lines .now) (s .args .b) (s .args .n) _ _ _ _ _ _ (s .pre .0) (p .ensures) (l .ensures),
-      book-growth (s .args .lines .now) (s .args .b) (s .args .n) _ _ _ _ _ _ (s .pre .0) (p .ensures) (l .ensures) (omega (arith, w .0, l .kept .1 .1 .0)) (omega (arith, w .1, l .kept .1 .1 .1 .0)),
+      book-entered (s .args .lines .now) (s .args .b) (s .args .n) _ _ _ _ _ (s .pre .0) (p .ensures) (l .ensures),
+      book-growth (s .args .lines .now) (s .args .b) (s .args .n) _ _ _ _ _ (s .pre .0) (p .ensures) (l .ensures) (omega (arith, w .0, l .kept .1 .1 .0)) (omega (arith, w .1, l .kept .1 .1 .1 .0)),
     )
 
 pub plant-in-spec : {M : Type 1} → statement M
@@ -81,7 +71,4 @@ plant-in-spec =
     same-length-6
     same-length-7
     same-length-8
-    same-length-9
-    same-length-10
-    same-length-11
     returns)

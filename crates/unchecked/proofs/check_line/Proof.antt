@@ -13,10 +13,10 @@ closes-requires : tie.Need-closes-requires
 closes-requires c κs =
     let entry : tie.Start = search in
     let p = entry .pre .0 in (
-      (omega (arith, c, p .longs), omega (arith, c, p .few, p .tips .tips)),
+      omega (arith, c, p .few, p .bounded .ends-at),
       (
-        omega (arith, p .bests, p .tips .tip-ok (entry .args .number * 2) (omega (arith, c, p .few))),
-        omega (arith, p .bests, p .tips .tip-ok (entry .args .number * 2 + 1) (omega (arith, c, p .few))),
+        omega (arith, p .bests, p .bounded .mark-ok (entry .args .number * 2) (omega (arith, c, p .few))),
+        omega (arith, p .bests, p .bounded .mark-ok (entry .args .number * 2 + 1) (omega (arith, c, p .few))),
       ),
     )
 

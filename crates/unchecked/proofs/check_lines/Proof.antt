@@ -14,13 +14,13 @@ use Rattle.unchecked.proofs.check_lines.Statement.{statement}
 use Rattle.unchecked.proofs.check_lines.Tie as tie
 
 abbrev Inv-loop : tie.InvT-loop
-Inv-loop tip long best marked₀ q number₀ marked number =
+Inv-loop ends best marked₀ q number₀ marked number =
     (numberLimit ≤ length marked)
-    × ((n : ℕ) (order : List ℕ) (lines : List Line) → Listed lines n q tip long → Holding (tree (n - 1) lines) best order tip
+    × ((n : ℕ) (order : List ℕ) (lines : List Line) → Listed lines n q ends → Holding (tree (n - 1) lines) best order ends
     → SoFar n lines marked number)
 
 abbrev μ-loop : tie.MeasureT-loop
-μ-loop tip long best marked₀ q number₀ marked number = q - number
+μ-loop ends best marked₀ q number₀ marked number = q - number
 
 zero-requires : tie.Need-zero-requires Inv-loop μ-loop
 zero-requires c κs =
@@ -41,9 +41,8 @@ check-line-requires c κs =
       record {
         marks = at-loop .loop .inv .0;
         few = p .few;
-        longs = p .longs;
         n = p .n;
-        tips = p .tips;
+        bounded = p .bounded;
         bests = p .bests;
         order = p .order;
         lines = p .lines;

@@ -11,7 +11,7 @@ use Rattle.unchecked.proofs.check_loop.Statement.{statement}
 use Rattle.unchecked.proofs.check_loop.Tie as tie
 
 -- the number of the line is below the limit
-low : {tip best marked : List ℕ} {number : ℕ} → Checks tip best marked number → number < numberLimit
+low : {ends best marked : List ℕ} {number : ℕ} → Checks ends best marked number → number < numberLimit
 low p = small-number (p .held) (p .c) (p .isLine) (p .its)
 
 mul-marked : tie.Need-mul-marked

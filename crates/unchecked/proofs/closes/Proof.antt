@@ -4,23 +4,17 @@ use borrow.Author.Needs.{needs}
 use Rattle.unchecked.proofs.closes.Statement.{statement}
 use Rattle.unchecked.proofs.closes.Tie as tie
 
-mul-if1 : tie.Need-mul-if1
-mul-if1 c = search needs
+mul-e : tie.Need-mul-e
+mul-e c = search needs
 
-shared-slice-read-if1 : tie.Need-shared-slice-read-if1
-shared-slice-read-if1 c = search needs
+mul-e-2 : tie.Need-mul-e-2
+mul-e-2 c = search needs
+
+shared-slice-read-e : tie.Need-shared-slice-read-e
+shared-slice-read-e c = search needs
 
 returns : tie.Need-returns
 returns c = rw (eq-eqb _ 0 (c .if1 .taken))
-
-mul-to : tie.Need-mul-to
-mul-to c = search needs
-
-mul-to-2 : tie.Need-mul-to-2
-mul-to-2 c = search needs
-
-shared-slice-read-to : tie.Need-shared-slice-read-to
-shared-slice-read-to c = search needs
 
 mul-if2 : tie.Need-mul-if2
 mul-if2 c = search needs
@@ -61,12 +55,10 @@ pub closes-spec : {M : Type 1} → statement M
 closes-spec =
     tie.close
     (tie.spec
-    mul-if1
-    shared-slice-read-if1
+    mul-e
+    mul-e-2
+    shared-slice-read-e
     returns
-    mul-to
-    mul-to-2
-    shared-slice-read-to
     mul-if2
     shared-slice-read-if2
     returns-2

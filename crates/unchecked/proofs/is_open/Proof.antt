@@ -7,6 +7,9 @@ use Rattle.unchecked.proofs.is_open.Tie as tie
 mul-if1 : tie.Need-mul-if1
 mul-if1 c = search needs
 
+mul-if1-2 : tie.Need-mul-if1-2
+mul-if1-2 c = search needs
+
 shared-slice-read-if1 : tie.Need-shared-slice-read-if1
 shared-slice-read-if1 c = search needs
 
@@ -25,4 +28,11 @@ returns-2 c = rw (ne-eqb _ 0 (c .before .if1 .left))
 pub is-open-spec : {M : Type 1} → statement M
 is-open-spec =
     tie.close
-    (tie.spec mul-if1 shared-slice-read-if1 returns mul-result shared-slice-read-result returns-2)
+    (tie.spec
+    mul-if1
+    mul-if1-2
+    shared-slice-read-if1
+    returns
+    mul-result
+    shared-slice-read-result
+    returns-2)

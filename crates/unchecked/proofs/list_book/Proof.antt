@@ -20,10 +20,10 @@ not-checked-requires : tie.Need-not-checked-requires
 not-checked-requires c κs =
     let after-plant-book : tie.After-plant-book = search in
     let entry : tie.Start = search in
-    let best-lent : tie.After-plant-book-arg7 = search in
+    let best-lent : tie.After-plant-book-arg4 = search in
     let p = entry .pre in
     list-ready (p .0) (after-plant-book .plant-book .ensures)
-    (omega (arith, p .1 .1 .0 .bests, best-lent .plant-book-arg7 .given)) (p .1 .1 .1)
+    (omega (arith, p .1 .1 .0 .bests, best-lent .plant-book-arg4 .given)) (p .1 .1 .1)
 
 same-length : tie.Need-same-length
 same-length c = search needs
@@ -39,15 +39,6 @@ same-length-4 c = search needs
 
 same-length-5 : tie.Need-same-length-5
 same-length-5 c = search needs
-
-same-length-6 : tie.Need-same-length-6
-same-length-6 c = search needs
-
-same-length-7 : tie.Need-same-length-7
-same-length-7 c = search needs
-
-same-length-8 : tie.Need-same-length-8
-same-length-8 c = search needs
 
 returns : tie.Need-returns
 returns c =
@@ -68,7 +59,4 @@ list-book-spec =
     same-length-3
     same-length-4
     same-length-5
-    same-length-6
-    same-length-7
-    same-length-8
     returns)

@@ -10,10 +10,10 @@ use Rattle.unchecked.proofs.list_open.Statement.{statement}
 use Rattle.unchecked.proofs.list_open.Tie as tie
 
 abbrev Inv-loop : tie.InvT-loop
-Inv-loop long marked out₀ q c₀ number₀ out c number = (c < number) × (length out ≡ length out₀) × Writing long marked q out₀ out c number
+Inv-loop ends marked out₀ q c₀ number₀ out c number = (c < number) × (length out ≡ length out₀) × Writing ends marked q out₀ out c number
 
 abbrev μ-loop : tie.MeasureT-loop
-μ-loop long marked out₀ q c₀ number₀ out c number = q - number
+μ-loop ends marked out₀ q c₀ number₀ out c number = q - number
 
 loop-holds : tie.Need-loop-holds Inv-loop μ-loop
 loop-holds c = (omega arith, refl, writing-start _ _ _ _)
@@ -21,7 +21,7 @@ loop-holds c = (omega arith, refl, writing-start _ _ _ _)
 is-open-requires : tie.Need-is-open-requires Inv-loop μ-loop
 is-open-requires c κs =
     let entry : tie.Start Inv-loop μ-loop = search in
-    let p = entry .pre in (omega (arith, p .longs), omega (arith, p .marks))
+    let p = entry .pre in (omega (arith, p .ends-at), omega (arith, p .marks))
 
 mul-out : tie.Need-mul-out Inv-loop μ-loop
 mul-out c =
