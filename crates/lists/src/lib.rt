@@ -3,7 +3,7 @@ ghost use mathlib.Core.Path.{_≡_};
 ghost use Rattle.lists.specs.Listing.{listing, unlisted, entered, listingOf, listingsOf};
 ghost use Rattle.lists.specs.NotChecked.{notCheckedOf};
 
-mod loops;
+mod loop_lists;
 pub mod run;
 pub mod watch;
 
@@ -42,7 +42,7 @@ pub fn listing(b: i64, t: i64, held: &[i64], lines: &[i64], number: i64, out: &m
 {
     match book::test(b, t, held, lines) {
         Tested::Refused(r) => unlisted(r.number, r.place),
-        Tested::Good(book) => loops::listing_good(book, lines, number, out),
+        Tested::Good(book) => loop_lists::listing_good(book, lines, number, out),
     }
 }
 
@@ -53,7 +53,7 @@ pub fn listings(b: i64, t: i64, held: &[i64], lines: &[i64], out: &mut [i64]) ->
 {
     match book::test(b, t, held, lines) {
         Tested::Refused(r) => unlisted(r.number, r.place),
-        Tested::Good(book) => loops::listings_good(book, lines, out),
+        Tested::Good(book) => loop_lists::listings_good(book, lines, out),
     }
 }
 

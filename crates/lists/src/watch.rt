@@ -31,25 +31,19 @@ pub fn not_checked_good(book: Book, lines: &[i64], out: &mut [i64]) -> Listed
     requires { ⌜ GoodLines book (now lines) ⌝ }
     ensures { λ r. ⌜ listing r (now (out .exit)) ≡ listOf (uncheckedOf (book .marks) (now (lines .entry))) (now (out .entry)) ⌝ }
 {
-    let mut tip = [0u64; 2048];
-    let mut long = [0u64; 1024];
-    let mut head = [0u64; 257];
-    let mut next = [0u64; 1024];
-    let mut far = [0u64; 1024];
-    let mut add = [0u64; 1024];
-    let mut best = [0u64; 257];
-    let mut seg = [0u64; 514];
-    let mut order = [0u64; 257];
-    let mut marked = [0u64; 1024];
+    let mut ends = [0u64; unchecked::HALVES];
+    let mut head = [0u64; unchecked::MARKS];
+    let mut next = [0u64; unchecked::HALVES];
+    let mut best = [0u64; unchecked::MARKS];
+    let mut seg = [0u64; unchecked::MARKS * 2];
+    let mut order = [0u64; unchecked::MARKS];
+    let mut marked = [0u64; unchecked::NUMBERS];
     let mut list = [0u64; Book::MAX_LINES];
     let count = unchecked::list_book(
         lines,
-        &mut tip,
-        &mut long[..],
+        &mut ends,
         &mut head[..],
         &mut next[..],
-        &mut far[..],
-        &mut add[..],
         &mut best,
         &mut seg[..],
         &mut order[..],

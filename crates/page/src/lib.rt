@@ -2,7 +2,7 @@
 ghost use Rattle.text.specs.Put.{Put};
 ghost use Rattle.page.specs.Page.{pageOf};
 
-mod loops;
+mod loop_lines;
 mod sheet;
 
 use book::Book;

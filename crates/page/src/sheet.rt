@@ -4,7 +4,7 @@ ghost use Rattle.lists.specs.NotChecked.{uncheckedOf};
 ghost use Rattle.text.specs.Put.{Put};
 ghost use Rattle.text.specs.Report.{notCheckedText};
 ghost use Rattle.page.specs.Page.{loopsPage, bookPage};
-use crate::loops;
+use crate::loop_lines;
 use book::Book;
 
 // The head and the loops.
@@ -17,7 +17,7 @@ fn put_loops_of(book: Book, lines: &[i64], out: &mut [u8]) -> usize
     let found = table::find_loops(book, lines, &mut starts[..], &mut runs[..]);
     let count = found.count;
     let at = text::head_text(out, 0, book.marks, book.lines, found.pieces, count);
-    loops::put_loops(book, lines, &starts[..], &runs[..], count, out, at)
+    loop_lines::put_loops(book, lines, &starts[..], &runs[..], count, out, at)
 }
 
 // The lines that are not checked, from place at on.

@@ -14,13 +14,13 @@ use book::line::Line;
 
 // The places of ends, one for each half. ends, marked and best are lent as arrays, each by one pointer, so that the call at the end of
 // `follow` is compiled to a jump. Slices would be handed on by copies on the stack, and it would stay a call.
-const HALVES: usize = chains::HALVES as usize;
+pub const HALVES: usize = chains::HALVES as usize;
 
 // The places of marked, one for each line number.
-const NUMBERS: usize = chains::NUMBERS as usize;
+pub const NUMBERS: usize = chains::NUMBERS as usize;
 
 // The places of best, one for each mark and 0.
-const MARKS: usize = Book::MAX_MARKS as usize + 1;
+pub const MARKS: usize = Book::MAX_MARKS as usize + 1;
 
 // What stands at the number of a line that is checked.
 const CHECKED: u64 = 1;

@@ -1,7 +1,7 @@
 use native.Mathlib.Omega.{arith}
 use lib.ListN.{length-take}
-use Rattle.survey.proofs.Working.{good-of}
-use Rattle.lists.proofs.Lists.{rooms-for, list-fits, list-numbers, list-is}
+use Rattle.table.proofs.Finding.{good-of}
+use Rattle.lists.proofs.Unwatched.{rooms-for, list-fits, list-numbers, list-is}
 use borrow.Author.Needs.{needs}
 use Rattle.lists.proofs.watch.not_checked_good.Statement.{statement}
 use Rattle.lists.proofs.watch.not_checked_good.Tie as tie
@@ -21,15 +21,6 @@ slice-aggregate-list-book-4 c = search needs
 slice-aggregate-list-book-5 : tie.Need-slice-aggregate-list-book-5
 slice-aggregate-list-book-5 c = search needs
 
-slice-aggregate-list-book-6 : tie.Need-slice-aggregate-list-book-6
-slice-aggregate-list-book-6 c = search needs
-
-slice-aggregate-list-book-7 : tie.Need-slice-aggregate-list-book-7
-slice-aggregate-list-book-7 c = search needs
-
-slice-aggregate-list-book-8 : tie.Need-slice-aggregate-list-book-8
-slice-aggregate-list-book-8 c = search needs
-
 add-list-book : tie.Need-add-list-book
 add-list-book c = search needs
 
@@ -39,7 +30,7 @@ list-book-requires c κs =
     let b = s .args .book in
     let l = s .args .lines .now in
     let g = s .pre in
-    (good-of b l g, rooms-for b l g (search needs) (search needs) (search needs) (search needs) (search needs) (search needs) (search needs) (search needs) (search needs) (search needs) (search needs))
+    (good-of b l g, rooms-for b l g (search needs) (search needs) (search needs) (search needs) (search needs) (search needs) (search needs) (search needs))
 
 array-share-prefix-list : tie.Need-array-share-prefix-list
 array-share-prefix-list c =
@@ -78,9 +69,6 @@ not-checked-good-spec =
     slice-aggregate-list-book-3
     slice-aggregate-list-book-4
     slice-aggregate-list-book-5
-    slice-aggregate-list-book-6
-    slice-aggregate-list-book-7
-    slice-aggregate-list-book-8
     add-list-book
     list-book-requires
     array-share-prefix-list

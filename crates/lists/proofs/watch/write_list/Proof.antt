@@ -3,10 +3,9 @@ use native.Mathlib.Omega.{arith}
 use mathlib.Core.Path.{sym, _∙_}
 use mathlib.Core.List.{map}
 use lib.IntN.{pos}
-use lib.ListN.{length, length-map}
+use lib.ListN.{length, length-map, List·getD-map}
 use Rattle.laws.proofs.Signed.{stored}
 use Rattle.laws.proofs.Laid.{Laid, laid-start, laid-next, laid-end}
-use Rattle.listing.proofs.Halves.{getD-map}
 use Rattle.lists.proofs.Lists.{list-ten, list-whole}
 use borrow.Author.Needs.{needs}
 use Rattle.lists.proofs.watch.write_list.Statement.{statement}
@@ -59,7 +58,7 @@ loop-again c =
     let l = c .before .before .before in
     let n = length-map (s .args .list .now) pos in
     laid-next _ _ _ (l .loop .i) _ (pos 0) (omega (arith, n, else1 .if1 .left)) (omega (arith, n))
-    (stored _ (c .signed-count .ok) (c .signed-count .ensures) ∙ sym (getD-map pos (s .args .list .now) (l .loop .i) 0 (pos 0) (omega arith)))
+    (stored _ (c .signed-count .ok) (c .signed-count .ensures) ∙ sym (List·getD-map pos (s .args .list .now) (l .loop .i) 0))
     (l .loop .inv)
 
 entered-requires : tie.Need-entered-requires Inv-loop μ-loop

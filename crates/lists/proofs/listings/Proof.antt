@@ -1,0 +1,61 @@
+use mathlib.Core.Path.{_≡_, sym, _∙_}
+use Rattle.book.specs.Test.{testOf}
+use Rattle.book.proofs.Goods.{tested-good}
+use Rattle.book.proofs.Goods.{good-lines}
+use Rattle.lists.specs.Listing.{listingsTested, listingsOf}
+use borrow.Author.Needs.{needs}
+use Rattle.lists.proofs.listings.Statement.{statement}
+use Rattle.lists.proofs.listings.Tie as tie
+
+test-requires : tie.Need-test-requires
+test-requires c κs = search needs
+
+enum-known-r : tie.Need-enum-known-r
+enum-known-r c = search needs
+
+unlisted-requires : tie.Need-unlisted-requires
+unlisted-requires c κs = search needs
+
+enum-known-book : tie.Need-enum-known-book
+enum-known-book c = search needs
+
+-- what the test answered, at the numbers that were lent
+tested : (c : tie.After-test) → (let a = c .before .args in c .test .result ≡ testOf (a .b) (a .t) (a .held .now) (a .lines .now))
+tested c = c .test .ensures ∙ search needs
+
+listings-good-requires : tie.Need-listings-good-requires
+listings-good-requires c κs =
+    let after-test : tie.After-test = search in
+    let entry : tie.Start = search in
+    let g = c .before .before in
+    let a = entry .args in
+    good-lines _ _ _ _ _ (tested-good (a .b) (a .t) (a .held .now) (a .lines .now) (g .book .given .0 .0) (sym (tested after-test) ∙ g .book .given .1))
+
+returns : tie.Need-returns
+unfolding listingsOf listingsTested
+returns c =
+    let after-test : tie.After-test = search in
+    rw (← (tested after-test), c .before .before .r .given .1, c .unlisted .ensures)
+
+same-length : tie.Need-same-length
+same-length c = search needs
+
+returns-2 : tie.Need-returns-2
+unfolding listingsOf listingsTested
+returns-2 c =
+    let after-book : tie.After-book = search in
+    let after-test : tie.After-test = search in
+    rw (← (tested after-test), after-book .book .given .1) (c .before .listings-good .ensures)
+
+pub listings-spec : {M : Type 1} → statement M
+listings-spec =
+    tie.close
+    (tie.spec
+    test-requires
+    enum-known-r
+    unlisted-requires
+    enum-known-book
+    listings-good-requires
+    returns
+    same-length
+    returns-2)

@@ -1,0 +1,163 @@
+use mir.Facts.{toZ-ofZ}
+use Prim.Native.Nat.{_-_, _<_}
+use mathlib.Core.Path.{_≡_, sym, _∙_}
+use native.Mathlib.Omega.{arith}
+use lib.IntN.{pos, natAbs}
+use lib.ListN.{length}
+use Rattle.laws.specs.Tests.{outZ}
+use Rattle.laws.proofs.Signed.{stored}
+use Rattle.loops.specs.Report.{loopsOf}
+use Rattle.loops.proofs.Sounding.{few-loops}
+use Rattle.loops.proofs.Table.{run-rises, run-fits}
+use Rattle.lists.proofs.Runs.{eight-is, place-of, run-coded, run-listed}
+use borrow.Author.Needs.{needs}
+use Rattle.lists.proofs.loop_lists.listing_good.Statement.{statement}
+use Rattle.lists.proofs.loop_lists.listing_good.Tie as tie
+
+slice-aggregate-find-loops : tie.Need-slice-aggregate-find-loops
+slice-aggregate-find-loops c = search needs
+
+slice-aggregate-find-loops-2 : tie.Need-slice-aggregate-find-loops-2
+slice-aggregate-find-loops-2 c = search needs
+
+find-loops-requires : tie.Need-find-loops-requires
+find-loops-requires c κs = search needs
+
+signed-count-requires : tie.Need-signed-count-requires
+signed-count-requires c κs = search needs
+
+outside-requires : tie.Need-outside-requires
+outside-requires c κs = search needs
+
+unlisted-requires : tie.Need-unlisted-requires
+unlisted-requires c κs = search needs
+
+-- the flag that the code has is the definition's test
+flag : (c : tie.After-outside) → (let a : tie.After-find-loops = search in let s : tie.Start = search in
+    c .outside .result ≡ outZ (pos 1) (pos (a .find-loops .result .count)) (s .args .number))
+flag c =
+    let s : tie.Start = search in
+    simp (toZ-ofZ (s .fits .number)) at (rw (stored _ (c .before .signed-count .ok) (c .before .signed-count .ensures)) at (c .outside .ensures))
+
+size : (c : tie.After-magnitude) → (let s : tie.Start = search in c .magnitude .result ≡ natAbs (s .args .number))
+size c = let s : tie.Start = search in simp (toZ-ofZ (s .fits .number)) at (c .magnitude .ensures)
+
+-- there is a loop of this number
+there : (c : tie.After-magnitude) → (let s : tie.Start = search in (0 < c .magnitude .result) × (c .magnitude .result - 1 < length (loopsOf (s .args .book .marks) (s .args .lines .now))))
+there c =
+    let after-find-loops : tie.After-find-loops = search in
+    let after-outside : tie.After-outside = search in
+    let else1 : tie.Else1 = search in
+    let s : tie.Start = search in
+    let w = place-of _ _ (s .pre) (after-find-loops .find-loops .ensures .1) (s .args .number) (sym (flag after-outside) ∙ else1 .if1 .left) in
+    rw (size c) w
+
+returns : tie.Need-returns
+returns c =
+    let after-find-loops : tie.After-find-loops = search in
+    let s : tie.Start = search in
+    rw (c .unlisted .ensures) (eight-is _ _ (s .pre) (after-find-loops .find-loops .ensures .1) (s .args .number) (s .args .out .now) (sym (flag (c .before .before)) ∙ c .before .if1 .taken))
+
+magnitude-requires : tie.Need-magnitude-requires
+magnitude-requires c κs = search needs
+
+sub-i : tie.Need-sub-i
+sub-i c = there c .0
+
+mul-begin : tie.Need-mul-begin
+mul-begin c =
+    let after-magnitude : tie.After-magnitude = search in
+    let s : tie.Start = search in
+    omega (arith, there after-magnitude, few-loops _ _ (s .pre), s .pre .few)
+
+array-read-begin : tie.Need-array-read-begin
+array-read-begin c =
+    let after-magnitude : tie.After-magnitude = search in
+    let s : tie.Start = search in
+    omega (arith, there after-magnitude, few-loops _ _ (s .pre), s .pre .few)
+
+add-end : tie.Need-add-end
+add-end c = search needs
+
+mul-end : tie.Need-mul-end
+mul-end c =
+    let after-magnitude : tie.After-magnitude = search in
+    let s : tie.Start = search in
+    omega (arith, there after-magnitude, few-loops _ _ (s .pre), s .pre .few)
+
+array-read-end : tie.Need-array-read-end
+array-read-end c =
+    let after-magnitude : tie.After-magnitude = search in
+    let s : tie.Start = search in
+    omega (arith, there after-magnitude, few-loops _ _ (s .pre), s .pre .few)
+
+mul-write-run : tie.Need-mul-write-run
+mul-write-run c =
+    let after-find-loops : tie.After-find-loops = search in
+    let after-magnitude : tie.After-magnitude = search in
+    let s : tie.Start = search in
+    omega (arith, run-rises (after-find-loops .find-loops .ensures .1) (after-magnitude .magnitude .result - 1) (there after-magnitude .1), run-fits (after-find-loops .find-loops .ensures .1) (after-magnitude .magnitude .result - 1) (there after-magnitude .1), after-find-loops .find-loops .kept)
+
+sub-write-run : tie.Need-sub-write-run
+sub-write-run c =
+    let after-find-loops : tie.After-find-loops = search in
+    let after-magnitude : tie.After-magnitude = search in
+    run-rises (after-find-loops .find-loops .ensures .1) (after-magnitude .magnitude .result - 1) (there after-magnitude .1)
+
+part-write-run-start : tie.Need-part-write-run-start
+part-write-run-start c =
+    let after-find-loops : tie.After-find-loops = search in
+    let after-magnitude : tie.After-magnitude = search in
+    run-rises (after-find-loops .find-loops .ensures .1) (after-magnitude .magnitude .result - 1) (there after-magnitude .1)
+
+part-write-run-end : tie.Need-part-write-run-end
+part-write-run-end c =
+    let after-find-loops : tie.After-find-loops = search in
+    let after-magnitude : tie.After-magnitude = search in
+    run-fits (after-find-loops .find-loops .ensures .1) (after-magnitude .magnitude .result - 1) (there after-magnitude .1)
+
+write-run-requires : tie.Need-write-run-requires
+write-run-requires c κs =
+    let after-find-loops : tie.After-find-loops = search in
+    let after-magnitude : tie.After-magnitude = search in
+    let s : tie.Start = search in
+    run-coded _ _ (s .pre) (after-find-loops .find-loops .ensures .1) (after-magnitude .magnitude .result - 1) (there after-magnitude .1)
+
+same-length : tie.Need-same-length
+same-length c = search needs
+
+returns-2 : tie.Need-returns-2
+returns-2 c =
+    let after-find-loops : tie.After-find-loops = search in
+    let after-magnitude : tie.After-magnitude = search in
+    let s : tie.Start = search in
+    let after-outside : tie.After-outside = search in
+    let else1 : tie.Else1 = search in
+    c .before .write-run .ensures
+    ∙ run-listed _ _ (s .pre) (after-find-loops .find-loops .ensures .1) (after-magnitude .magnitude .result - 1) (there after-magnitude .1) (s .args .number) (s .args .out .now) (sym (flag after-outside) ∙ else1 .if1 .left) (omega (arith, size after-magnitude))
+
+pub listing-good-spec : {M : Type 1} → statement M
+listing-good-spec =
+    tie.close
+    (tie.spec
+    slice-aggregate-find-loops
+    slice-aggregate-find-loops-2
+    find-loops-requires
+    signed-count-requires
+    outside-requires
+    unlisted-requires
+    returns
+    magnitude-requires
+    sub-i
+    mul-begin
+    array-read-begin
+    add-end
+    mul-end
+    array-read-end
+    mul-write-run
+    sub-write-run
+    part-write-run-start
+    part-write-run-end
+    write-run-requires
+    same-length
+    returns-2)

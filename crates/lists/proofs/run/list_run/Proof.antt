@@ -1,0 +1,89 @@
+use Prim.Native.Nat.{_-_}
+use native.Mathlib.Omega.{arith}
+use mathlib.Core.Path.{_∙_, sym}
+use mathlib.Core.List.{map}
+use lib.ListN.{length, length-map, List·getD-map}
+use Rattle.laws.proofs.Signed.{stored}
+use Rattle.laws.proofs.Laid.{Laid, laid-start, laid-next, laid-end}
+use Rattle.lists.specs.Run.{listedBy}
+use Rattle.lists.proofs.run.list_run.Statement.{statement}
+use Rattle.lists.proofs.run.list_run.Tie as tie
+
+abbrev Inv-loop : tie.InvT-loop
+Inv-loop run out₀ i₀ out i = Laid (map listedBy run) out₀ out i
+
+abbrev μ-loop : tie.MeasureT-loop
+μ-loop run out₀ i₀ out i = length run - i
+
+loop-holds : tie.Need-loop-holds Inv-loop μ-loop
+loop-holds c = laid-start _ _
+
+mul-listed-by : tie.Need-mul-listed-by Inv-loop μ-loop
+mul-listed-by c =
+    let entry : tie.Start Inv-loop μ-loop = search in
+    omega (arith, entry .pre .1, entry .good)
+
+shared-slice-read-listed-by : tie.Need-shared-slice-read-listed-by Inv-loop μ-loop
+shared-slice-read-listed-by c = omega arith
+
+listed-by-requires : tie.Need-listed-by-requires Inv-loop μ-loop
+listed-by-requires c κs =
+    let at-loop : tie.At-loop Inv-loop μ-loop = search in
+    let entry : tie.Start Inv-loop μ-loop = search in
+    entry .pre .0 (at-loop .loop .i) (omega arith)
+
+mul-t9 : tie.Need-mul-t9 Inv-loop μ-loop
+mul-t9 c =
+    let entry : tie.Start Inv-loop μ-loop = search in
+    omega (arith, entry .pre .1, entry .good)
+
+slice-set-from-out : tie.Need-slice-set-from-out Inv-loop μ-loop
+slice-set-from-out c =
+    let at-loop : tie.At-loop Inv-loop μ-loop = search in
+    let entry : tie.Start Inv-loop μ-loop = search in
+    omega (arith, entry .pre .1, at-loop .loop .inv .as-long)
+
+add-i : tie.Need-add-i Inv-loop μ-loop
+add-i c =
+    let entry : tie.Start Inv-loop μ-loop = search in
+    omega (arith, entry .pre .1, entry .good)
+
+loop-less : tie.Need-loop-less Inv-loop μ-loop
+loop-less c = omega arith
+
+loop-again : tie.Need-loop-again Inv-loop μ-loop
+loop-again c =
+    let at-loop : tie.At-loop Inv-loop μ-loop = search in
+    let entry : tie.Start Inv-loop μ-loop = search in
+    let run = entry .args .run .now in
+    let n = length-map run listedBy in
+    laid-next _ _ _ (at-loop .loop .i) _ (listedBy 0) (omega (arith, n, entry .pre .1)) (omega (arith, n))
+    (stored _ (c .listed-by .ok) (c .listed-by .ensures) ∙ sym (List·getD-map listedBy run (at-loop .loop .i) 0))
+    (at-loop .loop .inv)
+
+same-length : tie.Need-same-length Inv-loop μ-loop
+same-length c = c .before .loop .inv .as-long
+
+returns : tie.Need-returns Inv-loop μ-loop
+returns c =
+    let entry : tie.Start Inv-loop μ-loop = search in
+    let n = length-map (entry .args .run .now) listedBy in
+    rw n at (laid-end _ _ _ (c .before .loop .i) (omega (arith, n)) (c .before .loop .inv))
+
+pub list-run-spec : {M : Type 1} → statement M
+list-run-spec =
+    tie.close
+    (tie.spec
+    Inv-loop
+    μ-loop
+    loop-holds
+    mul-listed-by
+    shared-slice-read-listed-by
+    listed-by-requires
+    mul-t9
+    slice-set-from-out
+    add-i
+    loop-less
+    loop-again
+    same-length
+    returns)
