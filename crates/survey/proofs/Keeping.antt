@@ -1,116 +1,152 @@
--- The kept report of a tested book: compared with the book's rows, and brought up to date.
+-- The report of a tested book: written, compared with a lent one, and brought up to date.
 -- Assumes nothing.
-use Prim.Native.Nat.{ℕ, _+_, _*_, _-_, _≤_}
+use Prim.Native.Nat.{ℕ, zero, suc, _+_, _*_, _-_, _≤_, _<_}
 use native.Mathlib.Omega.{arith}
 use mathlib.Core.Path.{_≡_, refl, sym, _∙_, ap}
 use mathlib.Core.Bool.{Bool, true, false, cond}
-use mathlib.Core.List.{List, _++_}
+use mathlib.Core.List.{List, [], _++_, append-nil}
 use lib.IntN.{ℤ, pos}
 use lib.ListN.{length, take, drop, replicate}
 use lib.Seq.{take-at, drop-at, drop-drop}
-use borrow.Author.Tests.{le-ltb}
-use Rattle.book.specs.declared.Book.{Book}
+use borrow.Author.Tests.{lt-ltb, le-ltb}
+use Rattle.book.specs.Limits.{mostLines}
 use Rattle.book.specs.Good.{GoodLines}
+use Rattle.book.specs.declared.Book.{Book}
+use Rattle.loops.specs.Row.{rowWords}
 use Rattle.loops.specs.Report.{loopsOf, reportOf}
-use Rattle.survey.specs.Report.{counted}
+use Rattle.loops.proofs.Sounding.{few-loops, report-length}
+use Rattle.table.specs.Filled.{foundIn}
+use Rattle.table.specs.declared.Found.{Found}
+use Rattle.kept.proofs.SameNumbers.{long-enough}
+use Rattle.survey.specs.Report.{refusal, countOf, counted}
 use Rattle.survey.specs.Survey.{Surveyed, surveyed, surveyGood}
 use Rattle.survey.specs.Correction.{noLine, otherReport, updated, corrected, correctGood}
 use Rattle.survey.specs.Kept.{keptOf, Refresh, Refreshed}
 use Rattle.survey.specs.declared.Answer.{Answer}
 use Rattle.survey.specs.declared.correct.Kept.{Kept}
-use Rattle.survey.specs.declared.correct.Kept.the-variants.{Rows, Other}
-use Rattle.loops.proofs.Sounding.{few-loops, report-length}
-use Rattle.kept.proofs.SameNumbers.{long-enough}
+use Rattle.survey.specs.declared.correct.Kept.the-variants.{Own, Other}
 
 -- what was made of the comparison tells its test
-told-other : (t : Bool) (n : ℕ) → cond t Other (Rows n) ≡ Other → t ≡ true
-told-other true n e = refl
-told-other false n e = let z : _≡_ {A = ℕ} 0 1 = cc in absurd (omega arith)
+told-other : (t : Bool) (f : Found) → cond t Other (Own f) ≡ Other → t ≡ true
+told-other true f e = refl
+told-other false f e = let z : _≡_ {A = ℕ} 0 1 = cc in absurd (omega arith)
 
-told-rows : (t : Bool) (n m : ℕ) → cond t Other (Rows n) ≡ Rows m → (t ≡ false) × (m ≡ n)
-told-rows true n m e = let z : _≡_ {A = ℕ} 0 1 = cc in absurd (omega arith)
-told-rows false n m e = (refl, cc)
+told-own : (t : Bool) (f h : Found) → cond t Other (Own f) ≡ Own h → (t ≡ false) × (h ≡ f)
+told-own true f h e = let z : _≡_ {A = ℕ} 0 1 = cc in absurd (omega arith)
+told-own false f h e = (refl, cc)
 
 module _ (k : Book) (ls : List ℤ) (g : GoodLines k ls) where
   abbrev pub fresh : List ℤ
   fresh = reportOf (k .marks) (k .tolerance) ls
 
-  -- a survey into 2,560 places is never refused
-  module _ (out out′ : List ℤ) (a : Answer) (room : length out ≡ 2560) (e : surveyed a out′ ≡ surveyGood k ls out) where
-    pub rows-fit : length fresh ≤ 2560
-    rows-fit = omega (arith, report-length k ls g, few-loops k ls g, g .few)
+  pub words-are : {f : Found} → f ≡ foundIn (k .marks) ls → f .count * rowWords ≡ length fresh
+  words-are e = ap (λ (x : Found). x .count * rowWords) e ∙ sym (report-length k ls g)
 
+  pub few-words : {f : Found} → f ≡ foundIn (k .marks) ls → f .count * rowWords ≤ mostLines * rowWords
+  few-words e = omega (arith, ap (λ (x : Found). x .count) e, few-loops k ls g, g .few)
+
+  pub counts-are : {f : Found} → f ≡ foundIn (k .marks) ls → countOf f ≡ counted (k .marks) ls
+  unfolding counted
+  counts-are e = ap countOf e
+
+  -- the rows are put in front
+  pub front-is : {f : Found} → f ≡ foundIn (k .marks) ls → (out out′ : List ℤ) → out′ ≡ fresh ++ drop (f .count * rowWords) out → take (f .count * rowWords) out′ ≡ fresh
+  front-is {f = f} e out out′ p = ap (take (f .count * rowWords)) p ∙ take-at fresh (drop (f .count * rowWords) out) (f .count * rowWords) (sym (words-are e))
+
+  -- ---- the survey
+
+  pub ten-is : {f : Found} → f ≡ foundIn (k .marks) ls → (out : List ℤ) → length out < f .count * rowWords → surveyed (refusal 10 0) out ≡ surveyGood k ls out
+  unfolding surveyGood
+  ten-is e out h = rw (lt-ltb (length out) (length fresh) (omega (arith, words-are e)))
+
+  pub survey-is : {f : Found} → f ≡ foundIn (k .marks) ls → (out out′ : List ℤ) → f .count * rowWords ≤ length out → out′ ≡ fresh ++ drop (f .count * rowWords) out
+      → surveyed (countOf f) out′ ≡ surveyGood k ls out
+  unfolding surveyGood counted
+  survey-is {f = f} e out out′ h p = rw (le-ltb (length out) (length fresh) (omega (arith, words-are e)), p, words-are e, e)
+
+  -- a survey into room enough is not refused
+  module _ (out out′ : List ℤ) (a : Answer) (room : length fresh ≤ length out) (e : surveyed a out′ ≡ surveyGood k ls out) where
     whole : surveyed a out′ ≡ surveyed (counted (k .marks) ls) (fresh ++ drop (length fresh) out)
     unfolding surveyGood
-    whole = rw (le-ltb (length out) (length fresh) (omega (arith, rows-fit, room))) at e
+    whole = rw (le-ltb (length out) (length fresh) room) at e
 
     pub answer-is : a ≡ counted (k .marks) ls
     answer-is = ap (λ (s : Surveyed). s .answer) whole
 
-    pub count-of : a .rows ≡ length (loopsOf (k .marks) ls)
+    pub rows-are : out′ ≡ fresh ++ drop (length fresh) out
+    rows-are = ap (λ (s : Surveyed). s .rows) whole
+
+    pub answer-words : a .rows * rowWords ≡ length fresh
     unfolding counted
-    count-of = ap (λ (x : Answer). x .rows) answer-is
+    answer-words = ap (λ (x : Answer). x .rows * rowWords) answer-is ∙ sym (report-length k ls g)
 
-    pub words-are : a .rows * 5 ≡ length fresh
-    words-are = ap (λ (n : ℕ). n * 5) count-of ∙ sym (report-length k ls g)
+  -- ---- the comparison
 
-    pub front-is : take (a .rows * 5) out′ ≡ fresh
-    front-is =
-        let f : out′ ≡ fresh ++ drop (length fresh) out = ap (λ (s : Surveyed). s .rows) whole in
-        rw (f, take-at fresh (drop (length fresh) out) (a .rows * 5) (sym words-are))
-
-    pub few-words : a .rows * 5 ≤ 2560
-    few-words = omega (arith, words-are, rows-fit)
-
-  -- the comparison
   module _ (report : List ℤ) (r : Bool) (flag : r ≡ otherReport report fresh) where
     pub kept-other : r ≡ true → Other ≡ keptOf k ls report
     unfolding keptOf
     kept-other t = rw (← flag, t)
 
-    pub kept-rows : (n : ℕ) → n ≡ length (loopsOf (k .marks) ls) → r ≡ false → Rows n ≡ keptOf k ls report
+    pub kept-own : {f : Found} → f ≡ foundIn (k .marks) ls → r ≡ false → Own f ≡ keptOf k ls report
     unfolding keptOf
-    kept-rows n e t = rw (← flag, t, e)
+    kept-own e t = rw (← flag, t, e)
 
   module _ (report : List ℤ) (m : Kept) (e : m ≡ keptOf k ls report) where
     pub is-other : m ≡ Other → otherReport report fresh ≡ true
     unfolding keptOf
-    is-other h = told-other (otherReport report fresh) (length (loopsOf (k .marks) ls)) (sym e ∙ h)
+    is-other h = told-other (otherReport report fresh) (foundIn (k .marks) ls) (sym e ∙ h)
 
-    pub is-kept : (n : ℕ) → m ≡ Rows n → (otherReport report fresh ≡ false) × (n ≡ length (loopsOf (k .marks) ls))
+    pub is-own : (f : Found) → m ≡ Own f → (otherReport report fresh ≡ false) × (f ≡ foundIn (k .marks) ls)
     unfolding keptOf
-    is-kept n h = told-rows (otherReport report fresh) (length (loopsOf (k .marks) ls)) n (sym e ∙ h)
+    is-own f h = told-own (otherReport report fresh) (foundIn (k .marks) ls) f (sym e ∙ h)
 
-  -- the report brought up to date: the rows put, then the vacated places
-  module _ (report put vacated : List ℤ) (before words : ℕ) (r : Refresh k ls report before) (w : words ≡ length fresh) where
-    pub refreshed-is : put ≡ fresh ++ drop (length fresh) report → vacated ≡ take words put ++ replicate (before * 5 - words) (pos 0) ++ drop (before * 5) put
-        → (a : Answer) → a ≡ counted (k .marks) ls → Refreshed k ls report vacated before a
-    refreshed-is p v a e = record {
+  -- the book's own report is as long as its rows
+  pub own-places : (report : List ℤ) → otherReport report fresh ≡ false → length fresh ≤ length report
+  own-places report o = long-enough report fresh o
+
+  -- ---- the report brought up to date
+
+  module _ (report : List ℤ) (before : ℕ) where
+    -- as many rows as before: no row is vacated
+    pub refreshed-same : (report′ : List ℤ) (a : Answer) → length fresh ≡ before * rowWords → a ≡ counted (k .marks) ls → report′ ≡ fresh ++ drop (before * rowWords) report
+        → Refreshed k ls report report′ before a
+    refreshed-same report′ a n e p = record {
+      answer = e;
+      report-is = p ∙ ap (λ (r : List ℤ). r ++ drop (before * rowWords) report) (sym (ap (λ (z : List ℤ). fresh ++ z) (no-zeros (before * rowWords - length fresh) (omega (arith, n))) ∙ append-nil fresh));
+    }
+      where
+        no-zeros : (m : ℕ) → m ≡ 0 → replicate m (pos 0) ≡ []
+        no-zeros zero z = refl
+        no-zeros (suc m) z = absurd (omega arith)
+
+    -- the rows are put, then the vacated places become zeros
+    pub refreshed-fewer : (put vacated : List ℤ) (a : Answer) (words : ℕ) → Refresh k ls report before → words ≡ length fresh → a ≡ counted (k .marks) ls
+        → put ≡ fresh ++ drop (length fresh) report
+        → vacated ≡ take words put ++ replicate (before * rowWords - words) (pos 0) ++ drop (before * rowWords) put → Refreshed k ls report vacated before a
+    refreshed-fewer put vacated a words r w e p v = record {
       answer = e;
       report-is = v ∙ rw (p, w, take-at fresh (drop (length fresh) report) (length fresh) refl, past);
     }
       where
-        past : drop (before * 5) (fresh ++ drop (length fresh) report) ≡ drop (before * 5) report
+        past : drop (before * rowWords) (fresh ++ drop (length fresh) report) ≡ drop (before * rowWords) report
         past =
-            let n : before * 5 ≡ length fresh + (before * 5 - length fresh) = omega (arith, r .fewer) in
-            rw n (sym (drop-drop (before * 5 - length fresh) (length fresh) (fresh ++ drop (length fresh) report))
-            ∙ ap (drop (before * 5 - length fresh)) (drop-at fresh (drop (length fresh) report) (length fresh) refl)
-            ∙ drop-drop (before * 5 - length fresh) (length fresh) report)
+            let more = before * rowWords - length fresh in
+            let n : before * rowWords ≡ length fresh + more = omega (arith, r .fewer) in
+            rw n (sym (drop-drop more (length fresh) (fresh ++ drop (length fresh) report))
+            ∙ ap (drop more) (drop-at fresh (drop (length fresh) report) (length fresh) refl)
+            ∙ drop-drop more (length fresh) report)
 
 -- a correction that is not refused: the new lines, and the report brought up to date
-pub corrected-is : (k : Book) (ls new report report′ : List ℤ) (number : ℤ) (before : ℕ) (a : Answer) → GoodLines k ls
-    → noLine ls number ≡ false → otherReport report (reportOf (k .marks) (k .tolerance) ls) ≡ false → before ≡ length (loopsOf (k .marks) ls)
-    → Refreshed k new report report′ before a → corrected a new report′ ≡ correctGood k ls report number new
+pub corrected-is : (k : Book) (ls new report report′ : List ℤ) (number : ℤ) (a : Answer) {f : Found} → GoodLines k ls → noLine ls number ≡ false
+    → otherReport report (reportOf (k .marks) (k .tolerance) ls) ≡ false → f ≡ foundIn (k .marks) ls → Refreshed k new report report′ (f .count) a
+    → corrected a new report′ ≡ correctGood k ls report number new
 unfolding correctGood updated
-corrected-is k ls new report report′ number before a g n o b r =
-    let w : length (reportOf (k .marks) (k .tolerance) ls) ≡ before * 5 = report-length k ls g ∙ ap (λ (x : ℕ). x * 5) (sym b) in
-    rw (n, o, r .answer, r .report-is, w)
+corrected-is k ls new report report′ number a g n o e r = rw (n, o, r .answer, r .report-is, ← (words-are k ls g e))
 
 -- what was kept before is room enough for what is there now
-pub refresh-of : (k : Book) (ls new report : List ℤ) (before : ℕ) → GoodLines k ls → GoodLines k new → length (loopsOf (k .marks) new) ≤ length (loopsOf (k .marks) ls)
-    → otherReport report (reportOf (k .marks) (k .tolerance) ls) ≡ false → before ≡ length (loopsOf (k .marks) ls) → Refresh k new report before
-refresh-of k ls new report before g h fewer o b =
-    record {
-      fewer = omega (arith, report-length k new h, fewer, b);
-      places = omega (arith, report-length k ls g, b, long-enough report (reportOf (k .marks) (k .tolerance) ls) o);
-    }
+pub refresh-of : (k : Book) (ls new report : List ℤ) {f : Found} → GoodLines k ls → GoodLines k new → length (loopsOf (k .marks) new) ≤ length (loopsOf (k .marks) ls)
+    → otherReport report (reportOf (k .marks) (k .tolerance) ls) ≡ false → f ≡ foundIn (k .marks) ls → Refresh k new report (f .count)
+refresh-of k ls new report g h fewer o e = record {
+  fewer = omega (arith, report-length k new h, fewer, ap (λ (x : Found). x .count) e);
+  places = omega (arith, words-are k ls g e, own-places k ls g report o);
+}

@@ -1,4 +1,3 @@
-pub mod Working
 pub mod Keeping
 pub mod Corrected
 pub mod Remeasured
