@@ -19,7 +19,7 @@ use Rattle.closing.specs.Order.{Ready, Put}
 use Rattle.closing.proofs.Members.{length-numbers}
 use Rattle.subgraph.specs.Drawn.{RoomLay, TreeDrawn}
 use Rattle.subgraph.proofs.Turns.{going-start, queue-start}
-use Rattle.draw.specs.Book.{Sheet}
+use Rattle.prepare.specs.Drawn.{Sheet}
 use Rattle.prepare.specs.Prepared.{Good, RoomNet, RoomLoops, BookPlanted, Orders, Started}
 
 pub sheet-of : {n : ℕ} {ls : List ℤ} {ends head next : List ℕ} → Good n ls → RoomNet n ends head next → Sheet n ls ends head next
