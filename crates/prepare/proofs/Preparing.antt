@@ -3,7 +3,7 @@ use Prim.Native.Nat.{ℕ}
 use native.Mathlib.Omega.{arith}
 use mathlib.Core.List.{List}
 use lib.IntN.{ℤ}
-use Rattle.draw.specs.Book.{Sheet}
+use Rattle.prepare.specs.Drawn.{Sheet}
 use Rattle.prepare.specs.Prepared.{Good, RoomNet}
 
 pub sheet-of : {n : ℕ} {ls : List ℤ} {ends head next : List ℕ} → Good n ls → RoomNet n ends head next → Sheet n ls ends head next

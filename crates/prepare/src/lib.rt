@@ -1,5 +1,46 @@
 // The lent book as the network works on it: drawn, and its tree planted.
+ghost use Rattle.prepare.specs.Drawn.{Entry, Drew, Sheet, BookDrawn};
 ghost use Rattle.prepare.specs.Prepared.{Good, RoomNet, RoomPlant, BookPlanted};
+use book::line::Line;
+
+// The line of this number is drawn, if it stands: what ends has of its halves, and its place in the chains.
+fn draw_line(
+    e: &[i64],
+    ends: &mut [u64],
+    head: &mut [u64],
+    next: &mut [u64],
+    n: usize,
+    number: usize,
+)
+    requires { ⌜ Entry n number (now e) (now ends) (now head) (now next) ⌝ }
+    ensures { λ _. ⌜ Drew number (now (e .entry)) (now (ends .entry)) (now (head .entry)) (now (next .entry)) (now (ends .exit))
+        (now (head .exit)) (now (next .exit)) ⌝ }
+{
+    if signed::same(e[4], 0) {
+        return;
+    }
+    let from = signed::index(e[0]) as u64;
+    let to = signed::index(e[1]) as u64;
+    let length = signed::index(e[3]) as u64;
+    ends[number * 2] = length * chains::HALVES + to;
+    ends[number * 2 + 1] = length * chains::HALVES + from;
+    chains::join(ends, head, next, n, number);
+}
+
+// The book is drawn, from its last line to its first.
+fn draw_book(lines: &[i64], ends: &mut [u64], head: &mut [u64], next: &mut [u64], n: usize)
+    requires { ⌜ Sheet n (now lines) (now ends) (now head) (now next) ⌝ }
+    ensures { λ _. ⌜ BookDrawn n (now (lines .entry)) (now (ends .exit)) (now (head .exit)) (now (next .exit)) ⌝ }
+{
+    chains::zero(ends, chains::HALVES as usize);
+    chains::zero(head, n);
+    let mut j = lines.len() / Line::WORDS;
+    while 0 < j {
+        let at = (j - 1) * Line::WORDS;
+        draw_line(&lines[at..at + Line::WORDS], ends, head, next, n, j);
+        j -= 1;
+    }
+}
 
 // The book is drawn and its tree planted. Marks are below n.
 pub fn plant_book(
@@ -15,6 +56,6 @@ pub fn plant_book(
     requires { ⌜ Good n (now lines) ⌝ ∗ ⌜ RoomNet n (now ends) (now head) (now next) ⌝ ∗ ⌜ RoomPlant n (now best) (now seg) (now order) ⌝ }
     ensures { λ _. ⌜ BookPlanted n (now (lines .entry)) (now (ends .exit)) (now (best .exit)) (now (order .exit)) ⌝ }
 {
-    draw::draw_book(lines, ends, head, next, n);
+    draw_book(lines, ends, head, next, n);
     tree::plant(head, next, ends, best, seg, order, n);
 }

@@ -21,7 +21,7 @@ use Rattle.chains.specs.Chains.{Half, fore, aft, markOf, metresOf, Bounded, Tol
 use Rattle.chains.specs.Link.{RoomChains, Fits, Joined, Wider}
 use Rattle.chains.proofs.Halves.{half-no, half-ok, told-mark, told-metres}
 use Rattle.chains.proofs.Laws.{join-draws, draws-none}
-use Rattle.draw.specs.Book.{Entry, endOf, Drew, withdrawn, drawn, Sheet, BookDrawn}
+use Rattle.prepare.specs.Drawn.{Entry, endOf, Drew, withdrawn, drawn, Sheet, BookDrawn}
 
 -- ---- a line of the book
 

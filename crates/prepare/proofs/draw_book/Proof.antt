@@ -1,10 +1,10 @@
 use Prim.Native.Nat.{_≤_, _/_}
 use mathlib.Core.Path.{_≡_, refl}
 use lib.ListN.{length}
-use Rattle.draw.proofs.Drawing.{DrawingAt, draw-start, entry-asked, draw-turn, draw-end}
+use Rattle.prepare.proofs.Drawing.{DrawingAt, draw-start, entry-asked, draw-turn, draw-end}
 use native.Mathlib.Omega.{arith}
-use Rattle.draw.proofs.draw_book.Statement.{statement}
-use Rattle.draw.proofs.draw_book.Tie as tie
+use Rattle.prepare.proofs.draw_book.Statement.{statement}
+use Rattle.prepare.proofs.draw_book.Tie as tie
 
 abbrev Inv-loop : tie.InvT-loop
 Inv-loop lines ends₀ head₀ next₀ n j₀ ends head next j =

@@ -2,12 +2,12 @@ use mathlib.Core.Path.{refl, sym, _∙_}
 use lib.ListN.{length-set}
 use Rattle.laws.proofs.Signed.{back}
 use Rattle.laws.proofs.Size.{not-negative}
-use Rattle.draw.specs.Book.{withdrawn}
-use Rattle.draw.proofs.Drawing.{entry-short, entry-fits, drew-is}
+use Rattle.prepare.specs.Drawn.{withdrawn}
+use Rattle.prepare.proofs.Drawing.{entry-short, entry-fits, drew-is}
 use native.Mathlib.Omega.{arith}
 use borrow.Author.Needs.{needs}
-use Rattle.draw.proofs.draw_line.Statement.{statement}
-use Rattle.draw.proofs.draw_line.Tie as tie
+use Rattle.prepare.proofs.draw_line.Statement.{statement}
+use Rattle.prepare.proofs.draw_line.Tie as tie
 
 shared-slice-copy-out-same : tie.Need-shared-slice-copy-out-same
 shared-slice-copy-out-same c = search needs
