@@ -1,5 +1,5 @@
 -- The parts of a book's report together. Assumes nothing.
-use Prim.Native.Nat.{ℕ, _+_, _-_, _≤_}
+use Prim.Native.Nat.{ℕ, _≤_}
 use native.Mathlib.Omega.{arith}
 use mathlib.Core.Path.{_≡_, refl, sym, _∙_, ap}
 use mathlib.Core.List.{List, _++_}
@@ -8,16 +8,15 @@ use lib.ListN.{length, take, drop}
 use lib.Seq.{take-at}
 use Rattle.book.specs.Limits.{mostLines}
 use Rattle.book.specs.declared.Book.{Book}
-use Rattle.network.specs.Standing.{standing}
-use Rattle.loops.specs.Loops.{loops}
-use Rattle.prepare.specs.Prepared.{Started}
 use Rattle.book.specs.Good.{GoodLines}
 use Rattle.loops.specs.Report.{loopsOf}
-use Rattle.survey.proofs.Working.{count-is, parts-are}
+use Rattle.table.specs.Filled.{foundIn}
+use Rattle.table.specs.declared.Found.{Found}
 use Rattle.lists.specs.Listing.{Listing, listing, listOf}
 use Rattle.lists.specs.NotChecked.{uncheckedOf}
 use Rattle.lists.specs.declared.Listed.{Listed}
-use Rattle.lists.proofs.Lists.{list-whole, few-listed}
+use Rattle.lists.proofs.Lists.{list-whole}
+use Rattle.lists.proofs.Unwatched.{few-listed}
 use Rattle.text.specs.Put.{Put}
 use Rattle.text.specs.Report.{headText}
 use Rattle.text.proofs.Puts.{_then_}
@@ -25,15 +24,10 @@ use Rattle.page.specs.Page.{loopLines, loopsPage}
 
 module _ (k : Book) (ls : List ℤ) (g : GoodLines k ls) where
   -- the head and the loops
-  pub loops-put : {tip head next far add close : List ℕ} {count nodes parts : ℕ} → Started (k .marks + 1) (standing ls) tip head next far add close count nodes parts
-      → {out out₁ out₂ : List ℕ} {r s : ℕ} → Put out out₁ 0 r (headText (k .marks) (k .lines) parts count)
-      → Put out₁ out₂ r s (loopLines (k .tolerance) 1 (loops (k .marks + 1 - 1) (standing ls))) → Put out out₂ 0 s (loopsPage (k .marks) (k .tolerance) (k .lines) ls)
-  unfolding loopsPage loopsOf
-  loops-put st {out = out} {out₂ = out₂} {s = s} p q =
-      let n = count-is k ls g _ _ _ _ _ _ _ _ _ st in
-      let w = parts-are k ls g _ _ _ _ _ _ _ _ _ st in
-      let m : k .marks + 1 - 1 ≡ k .marks = omega arith in
-      rw (n, w, m) at (p then q)
+  pub loops-put : {f : Found} → f ≡ foundIn (k .marks) ls → {out out₁ out₂ : List ℕ} {r s : ℕ} → Put out out₁ 0 r (headText (k .marks) (k .lines) (f .pieces) (f .count))
+      → Put out₁ out₂ r s (loopLines (k .tolerance) 1 (loopsOf (k .marks) ls)) → Put out out₂ 0 s (loopsPage (k .marks) (k .tolerance) (k .lines) ls)
+  unfolding loopsPage
+  loops-put e p q = (rw e at p) then q
 
   -- the list of the lines that are not checked, in room for the most there can be
   module _ (out : List ℤ) {out′ : List ℤ} {r : Listed} (room : mostLines ≤ length out) (e : listing r out′ ≡ listOf (uncheckedOf (k .marks) ls) out) where

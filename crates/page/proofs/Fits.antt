@@ -29,7 +29,7 @@ use Rattle.book.specs.Good.{GoodLines}
 use Rattle.loops.specs.Report.{loopsOf, piecesOf}
 use Rattle.loops.proofs.Sounding.{LineLimits, lines-sound, line-limits, few-loops}
 use Rattle.lists.specs.NotChecked.{uncheckedOf}
-use Rattle.lists.proofs.Lists.{few-listed, listed-numbers}
+use Rattle.lists.proofs.Unwatched.{few-listed, listed-numbers}
 use Rattle.text.specs.Report.{headText, notCheckedText}
 use Rattle.text.specs.Put.{Put}
 use Rattle.text.proofs.Puts.{put-whole}

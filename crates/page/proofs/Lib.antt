@@ -1,4 +1,4 @@
-pub mod Turning
+pub mod Lines
 pub mod Book
 pub mod Filed
 pub mod Fits

@@ -2,10 +2,14 @@
 use Prim.Native.Nat.{ℕ}
 use mathlib.Core.List.{List, map}
 use lib.IntN.{ℤ, pos}
-use Rattle.rows.specs.Sums.{lengthOf, riseOf, verdictOf}
+use lib.ListN.{getD}
+use Rattle.rows.specs.Sums.{rowOf}
 use Rattle.lists.specs.Run.{listedBy}
 use Rattle.text.specs.Report.{loopText}
 
+-- length, misclosure and verdict stand in the row
 unfoldable pub runLine : ℕ → ℕ → List ℤ → List ℕ → List ℕ
-unfolding loopText lengthOf riseOf verdictOf
-runLine t number ls run = loopText number (pos (lengthOf ls run)) (riseOf ls run) (verdictOf t (riseOf ls run) (lengthOf ls run)) (map listedBy run)
+unfolding loopText rowOf
+runLine t number ls run =
+    let row = rowOf t ls run in
+    loopText number (getD row 2 (pos 0)) (getD row 3 (pos 0)) (getD row 4 (pos 0)) (map listedBy run)
