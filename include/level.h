@@ -117,6 +117,13 @@ struct Listed level_listing(int64_t b, int64_t t,
                             int64_t loop,
                             int64_t *out, size_t out_count);
 
+/* Lists the lines of all loops, one loop after the other, each as level_listing lists it. The count of a
+ * loop's lines is the second number of its row; a book has at most 65,792 of them in all. */
+struct Listed level_listings(int64_t b, int64_t t,
+                             const int64_t *held, size_t held_count,
+                             const int64_t *lines, size_t lines_count,
+                             int64_t *out, size_t out_count);
+
 /* Lists the standing lines that no loop checks, by rising number. */
 struct Listed level_not_checked(int64_t b, int64_t t,
                                 const int64_t *held, size_t held_count,

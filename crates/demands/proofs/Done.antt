@@ -24,16 +24,17 @@ use Rattle.book.proofs.Goods.{tested-good}
 use Rattle.book.proofs.Passing.{good-passes}
 use Rattle.file.specs.Read.{statedLength, statedVersion, statedT, statedB, statedH, statedN, fileLength, heldOf, linesOf, readOf}
 use Rattle.file.proofs.Reading.{held-entries, line-entries}
+use Rattle.loops.specs.Row.{listings}
 use Rattle.loops.specs.Report.{loopsOf}
 use Rattle.survey.specs.Survey.{surveyOf}
-use Rattle.lists.specs.Listing.{listingOf}
+use Rattle.lists.specs.Listing.{listingOf, listingsOf}
 use Rattle.lists.specs.NotChecked.{uncheckedOf, notCheckedOf}
 use Rattle.survey.specs.Correction.{rerunOf, withdrawOf}
-use Rattle.demands.specs.Tables.{bookFault, surveyRules, loopListing, listingRules, notCheckedRules, correctionRules, rerunRules, withdrawRules, fileRules}
+use Rattle.demands.specs.Tables.{bookFault, surveyRules, loopListing, listingRules, listingsRules, notCheckedRules, correctionRules, rerunRules, withdrawRules, fileRules}
 use Rattle.demands.specs.Calls.{afresh, Readable}
 use Rattle.demands.specs.Corrections.{Acceptable}
 use Rattle.demands.proofs.Meanings.{line-exactly-if-stands, report-exactly-if-rows}
-use Rattle.demands.proofs.Refusals.{no-other-fault, survey-keeps-to-table, listing-keeps-to-table, not-checked-keeps-to-table, reader-keeps-to-table, rerun-keeps-to-table, withdrawal-keeps-to-table}
+use Rattle.demands.proofs.Refusals.{no-other-fault, survey-keeps-to-table, listing-keeps-to-table, listings-keeps-to-table, not-checked-keeps-to-table, reader-keeps-to-table, rerun-keeps-to-table, withdrawal-keeps-to-table}
 use Rattle.demands.proofs.BookRules.{None, none-in, none-and, first-of, rest-of, passes-if, passes-only-if}
 
 module _ (b t : ℤ) (held lines : List ℤ) where
@@ -58,6 +59,17 @@ module _ (b t : ℤ) (held lines : List ℤ) where
             let own = rest-of (rest-of (rest-of h)) in
             (_, passes-if b t held lines h, between 1 (length (loopsOf (natAbs b) lines)) loop (first-of own), ltb-false (length out) (length (loopListing (natAbs b) lines loop)) (first-of (rest-of own))),
         λ p. w .1 (passes-only-if b t held lines (p .0) (p .1) (none-and (between-inside (p .2)) (none-and (le-ltb (length out) (length (loopListing (natAbs b) lines loop)) (p .3)) none-in))),
+      )
+
+  -- the lines of all loops are listed exactly if the book passes the test and they have room
+  pub listings-done-exactly-if : (out : List ℤ) → (listingsOf b t held lines out .answer .number ≡ 0)
+      ↔ ((k : Book) × (testOf b t held lines ≡ Good k) × (length (listings (loopsOf (natAbs b) lines)) ≤ length out))
+  unfolding listingsRules
+  listings-done-exactly-if out =
+      let w = listings-keeps-to-table b t held lines out .table .done-exactly-if in
+      let all = length (listings (loopsOf (natAbs b) lines)) in (
+        λ z. let h = w .0 z in (_, passes-if b t held lines h, ltb-false (length out) all (first-of (rest-of (rest-of (rest-of h))))),
+        λ p. w .1 (passes-only-if b t held lines (p .0) (p .1) (none-and (le-ltb (length out) all (p .2)) none-in)),
       )
 
   -- a not-checked list is done exactly if the book passes the test and the list has room

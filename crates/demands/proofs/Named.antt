@@ -23,7 +23,7 @@ use Rattle.book.specs.declared.Tested.the-variants.{Good}
 use Rattle.loops.specs.Report.{reportOf}
 use Rattle.survey.specs.Report.{refusal}
 use Rattle.survey.specs.Survey.{surveyTested, surveyOf}
-use Rattle.lists.specs.Listing.{listingTested, listingOf}
+use Rattle.lists.specs.Listing.{listingTested, listingOf, listingsTested, listingsOf}
 use Rattle.lists.specs.NotChecked.{notCheckedTested, notCheckedOf}
 use Rattle.survey.specs.Correction.{corrected, otherReport, correctGood, correctTested, rerunOf, withdrawOf}
 use Rattle.rates.specs.Rates.{rateAnswer}
@@ -39,10 +39,11 @@ use Rattle.demands.proofs.BookRules.{test-by-rules}
 
 -- a book that the test refuses gets the same refusal from every call
 pub faulty-book-same-at-every-call : (b t : ℤ) (held lines : List ℤ) (number place : ℕ) → testOf b t held lines ≡ refused number place → SameAtEveryCall b t held lines number place
-unfolding surveyOf surveyTested listingOf listingTested notCheckedOf notCheckedTested withdrawOf rerunOf correctTested differenceOut adjustOf adjustTested rateAnswer
+unfolding surveyOf surveyTested listingOf listingTested listingsOf listingsTested notCheckedOf notCheckedTested withdrawOf rerunOf correctTested differenceOut adjustOf adjustTested rateAnswer
 faulty-book-same-at-every-call b t held lines number place e = record {
   survey = λ out. rw e;
   listing-of = λ loop out. rw e;
+  listings-of = λ out. rw e;
   not-checked = λ out. rw e;
   withdrawal = λ report line. rw e;
   re-run = λ report line difference small. rw (size-inside mostDifference difference small, e);

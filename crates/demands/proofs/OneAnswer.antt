@@ -14,7 +14,7 @@ use Rattle.book.specs.declared.held.MadeHeld.{MadeHeld}
 use Rattle.book.specs.declared.line.MadeLine.{MadeLine}
 use Rattle.file.specs.Read.{Outcome, readOf}
 use Rattle.survey.specs.Survey.{Surveyed, surveyOf}
-use Rattle.lists.specs.Listing.{Listing, listingOf}
+use Rattle.lists.specs.Listing.{Listing, listingOf, listingsOf}
 use Rattle.lists.specs.NotChecked.{notCheckedOf}
 use Rattle.survey.specs.Correction.{Corrected, rerunOf, withdrawOf}
 use Rattle.rates.specs.Rates.{rowOf, rateAnswer}
@@ -50,6 +50,11 @@ survey-has-one-answer b t held lines out = one-answer (surveyOf b t held lines o
 pub listing-has-one-answer : (b t : ℤ) (held lines : List ℤ) (loop : ℤ) (out : List ℤ) (x y : Listing)
     → x ≡ listingOf b t held lines loop out → y ≡ listingOf b t held lines loop out → x ≡ y
 listing-has-one-answer b t held lines loop out = one-answer (listingOf b t held lines loop out)
+
+-- the listing of all loops: answer and output
+pub listings-has-one-answer : (b t : ℤ) (held lines out : List ℤ) (x y : Listing)
+    → x ≡ listingsOf b t held lines out → y ≡ listingsOf b t held lines out → x ≡ y
+listings-has-one-answer b t held lines out = one-answer (listingsOf b t held lines out)
 
 -- the not-checked list: answer and output
 pub not-checked-has-one-answer : (b t : ℤ) (held lines out : List ℤ) (x y : Listing)
@@ -88,6 +93,10 @@ level-survey-has-one-answer b t held lines out = one-answer (ofSurvey (surveyOf 
 pub level-listing-has-one-answer : (b t : ℤ) (held lines : List ℤ) (loop : ℤ) (out : List ℤ) (x y : ListingNow)
     → x ≡ ofListing (listingOf b t held lines loop out) → y ≡ ofListing (listingOf b t held lines loop out) → x ≡ y
 level-listing-has-one-answer b t held lines loop out = one-answer (ofListing (listingOf b t held lines loop out))
+
+pub level-listings-has-one-answer : (b t : ℤ) (held lines out : List ℤ) (x y : ListingNow)
+    → x ≡ ofListing (listingsOf b t held lines out) → y ≡ ofListing (listingsOf b t held lines out) → x ≡ y
+level-listings-has-one-answer b t held lines out = one-answer (ofListing (listingsOf b t held lines out))
 
 pub level-not-checked-has-one-answer : (b t : ℤ) (held lines out : List ℤ) (x y : ListingNow)
     → x ≡ ofListing (notCheckedOf b t held lines out) → y ≡ ofListing (notCheckedOf b t held lines out) → x ≡ y

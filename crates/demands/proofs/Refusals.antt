@@ -18,14 +18,15 @@ use Rattle.file.specs.Read.{Outcome, answered, statedLength, statedVersion, sta
 use Rattle.file.specs.declared.entry.Kind.the-variants as kind
 use Rattle.file.specs.declared.Head.the-variants as head
 use Rattle.file.proofs.Entries.{entries-length}
-use Rattle.loops.specs.Report.{reportOf}
+use Rattle.loops.specs.Row.{listings}
+use Rattle.loops.specs.Report.{loopsOf, reportOf}
 use Rattle.survey.specs.Report.{refusal, counted}
 use Rattle.survey.specs.Survey.{Surveyed, surveyed, surveyTested, surveyOf}
-use Rattle.lists.specs.Listing.{Listing, listing, unlisted, listingTested, listingOf}
+use Rattle.lists.specs.Listing.{Listing, listing, unlisted, listingTested, listingOf, listingsTested, listingsOf}
 use Rattle.lists.specs.NotChecked.{uncheckedOf, notCheckedTested, notCheckedOf}
 use Rattle.survey.specs.Correction.{Corrected, corrected, correctTested, rerunLines, withdrawLines, rerunOf, withdrawOf}
-use Rattle.demands.specs.Calls.{surveyDone, listDone, correctionDone, readDone, SurveyKeepsToTable, ListingKeepsToTable, NotCheckedKeepsToTable, RerunKeepsToTable, WithdrawalKeepsToTable, ReaderKeepsToTable}
-use Rattle.demands.specs.Tables.{bookFault, heldRule, lineRule, roomRule, roomsRule, surveyRules, loopListing, loopRules, correctionRules, listingRules, notCheckedRules, rerunRules, withdrawRules, fileRules}
+use Rattle.demands.specs.Calls.{surveyDone, listDone, correctionDone, readDone, SurveyKeepsToTable, ListingKeepsToTable, ListingsKeepsToTable, NotCheckedKeepsToTable, RerunKeepsToTable, WithdrawalKeepsToTable, ReaderKeepsToTable}
+use Rattle.demands.specs.Tables.{bookFault, heldRule, lineRule, roomRule, roomsRule, surveyRules, loopListing, loopRules, correctionRules, listingRules, listingsRules, notCheckedRules, rerunRules, withdrawRules, fileRules}
 use Rattle.demands.proofs.Rules.{byRules, cond-or, keeps-to-table}
 use Rattle.demands.proofs.BookRules.{by-the-test}
 
@@ -44,6 +45,14 @@ module _ (b t : ℤ) (held lines : List ℤ) where
       keeps-to-table (λ n p. refl) (λ n p. refl) refl refl refl
       (by-the-test b t held lines (listingTested lines number out) (loopRules b lines number out) (λ n p. listing (unlisted n p) out)
       (listDone (loopListing (natAbs b) lines number) out) (λ r. refl) refl)
+
+  -- the listing of all loops keeps to its table: 4, 6, 7, 10
+  pub listings-keeps-to-table : (out : List ℤ) → ListingsKeepsToTable b t held lines out (listingsOf b t held lines out)
+  unfolding listingsOf listingsRules byRules
+  listings-keeps-to-table out =
+      keeps-to-table (λ n p. refl) (λ n p. refl) refl refl refl
+      (by-the-test b t held lines (listingsTested lines out) (roomRule out (listings (loopsOf (natAbs b) lines)) ∷ []) (λ n p. listing (unlisted n p) out)
+      (listDone (listings (loopsOf (natAbs b) lines)) out) (λ r. refl) refl)
 
   -- the not-checked list keeps to its table: 4, 6, 7, 10
   pub not-checked-keeps-to-table : (out : List ℤ) → NotCheckedKeepsToTable b t held lines out (notCheckedOf b t held lines out)
@@ -84,6 +93,12 @@ module _ (b t : ℤ) (held lines : List ℤ) where
   pub refused-listing-changes-nothing : (number : ℤ) (out : List ℤ) → let l = listingOf b t held lines number out in (l .answer .number ≡ 0 → ⊥)
       → (l .answer .entries ≡ 0) × (l .out ≡ out)
   refused-listing-changes-nothing number out h = let e = listing-keeps-to-table number out .refused h in
+      (ap (λ (l : Listing). l .answer .entries) e, ap (λ (l : Listing). l .out) e)
+
+  -- a refused listing of all loops: no entries, and the output as it was
+  pub refused-listings-changes-nothing : (out : List ℤ) → let l = listingsOf b t held lines out in (l .answer .number ≡ 0 → ⊥)
+      → (l .answer .entries ≡ 0) × (l .out ≡ out)
+  refused-listings-changes-nothing out h = let e = listings-keeps-to-table out .refused h in
       (ap (λ (l : Listing). l .answer .entries) e, ap (λ (l : Listing). l .out) e)
 
   -- a refused not-checked list: no entries, and the output as it was

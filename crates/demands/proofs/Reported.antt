@@ -3,7 +3,7 @@ use mathlib.Core.Path.{_≡_, refl, _∙_, ap, subst}
 use mathlib.Core.Logic.{_↔_}
 use mathlib.Core.Bool.{false}
 use mathlib.Core.List.{List, _∷_, _++_, map, List·Memᴰ, List·Memᴰ·head, List·Memᴰ·tail, Memᴰ·map, Memᴰ·of-map}
-use Prim.Native.Nat.{ℕ, suc, _+_, _*_, _-_, _<_}
+use Prim.Native.Nat.{ℕ, zero, suc, _+_, _*_, _-_, _≤_, _<_}
 use native.Mathlib.Omega.{arith}
 use native.Mathlib.Decide.{decLe}
 use lib.ListN.{length, getD, take, drop, List·getD-append}
@@ -13,23 +13,27 @@ use Rattle.laws.proofs.Size.{between}
 use Rattle.book.specs.Test.{testOf}
 use Rattle.book.specs.declared.Book.{Book}
 use Rattle.book.specs.declared.Tested.the-variants.{Good}
-use Rattle.book.proofs.Goods.{tested-good}
+use Rattle.book.proofs.Goods.{tested-good, good-lines}
 use Rattle.network.specs.Standing.{Line, standing}
-use Rattle.loops.specs.Loops.{Loop, loopAt}
-use Rattle.loops.specs.Row.{listed, verdict, row}
+use Rattle.loops.specs.Loops.{Loop, loops, loopAt}
+use Rattle.loops.specs.LinesInAll.{linesInAll, mostLinesInAll}
+use Rattle.loops.specs.Row.{listed, listings, verdict, row}
 use Rattle.loops.specs.Checked.{runs, notChecked}
 use Rattle.loops.specs.Circuit.{Circuit}
 use Rattle.loops.proofs.Row.{within-exactly-if, over-else, rows-length}
 use Rattle.loops.specs.Report.{loopsOf, reportOf, piecesOf}
 use Rattle.survey.specs.Report.{counted}
 use Rattle.survey.specs.Survey.{surveyOf}
-use Rattle.lists.specs.Listing.{listingOf}
+use Rattle.lists.specs.Listing.{listingOf, listingsOf}
 use Rattle.lists.specs.NotChecked.{uncheckedOf, notCheckedOf}
+use Rattle.loops.proofs.LinesInAll.{lines-in-all-at-most}
+use Rattle.loops.proofs.Listings.{listings-length, lines-more, listed-after}
 use Rattle.loops.proofs.Places.{row-at}
+use Rattle.loops.proofs.Sounding.{lines-sound, few-standing}
 use Rattle.demands.specs.Calls.{listDone}
 use Rattle.demands.specs.Tables.{loopListing, listingRules}
-use Rattle.demands.specs.TheLoops.{inRow, Within, Over, RowOf, LoopIs, ListedIn}
-use Rattle.demands.proofs.Refusals.{survey-keeps-to-table, listing-keeps-to-table, not-checked-keeps-to-table}
+use Rattle.demands.specs.TheLoops.{inRow, countsBefore, Within, Over, RowOf, LoopIs, ListedIn}
+use Rattle.demands.proofs.Refusals.{survey-keeps-to-table, listing-keeps-to-table, listings-keeps-to-table, not-checked-keeps-to-table}
 use Rattle.demands.proofs.TheLoops as the
 
 -- ---- a row
@@ -124,6 +128,44 @@ module _ (b t : ℤ) (held lines : List ℤ) (k : Book) (passes : testOf b t hel
   pub listing-begins-with-closing-line : (i : ℕ) (h : i < length (loopsOf (k .marks) lines)) → let loop = the.each-loop-is-so b t held lines k passes i h in
       map listed (loopAt (loopsOf (k .marks) lines) i) ≡ pos (loop .closing-line .number) ∷ map listed (loop .path)
   listing-begins-with-closing-line i h = ap (map listed) (the.each-loop-is-so b t held lines k passes i h .closing-line-first)
+
+  -- ---- the lines of all loops
+
+  pub listings-in-first-places : (out : List ℤ) → listingsOf b t held lines out .answer .number ≡ 0
+      → ListedIn (listings (loopsOf (k .marks) lines)) out (listingsOf b t held lines out)
+  listings-in-first-places out done =
+      rw (listings-keeps-to-table b t held lines out .finished done, ← marks-are) (in-first-places (listings (loopsOf (natAbs b) lines)) out)
+
+  -- "at most 65,792 entries in all": with so many places the lines of all loops are never refused with 10
+  pub listings-are-few : length (listings (loopsOf (k .marks) lines)) ≤ mostLinesInAll
+  unfolding loopsOf
+  listings-are-few =
+      let good = good-lines k b t held lines (tested-good b t held lines k passes) in
+      omega (arith, listings-length (loops (k .marks) (standing lines)),
+      lines-in-all-at-most (k .marks) (standing lines) (lines-sound k lines good) (omega (arith, few-standing lines, good .whole, good .few)))
+
+  -- "each loop's count is the second number of its row": the lines of loop i stand after as many places as the rows before it count
+  module _ (rows out : List ℤ) (surveyed : surveyOf b t held lines rows .answer .number ≡ 0) (done : listingsOf b t held lines out .answer .number ≡ 0) where
+    abbrev ls : List Loop
+    ls = loopsOf (k .marks) lines
+
+    abbrev report : List ℤ
+    report = surveyOf b t held lines rows .rows
+
+    count-is : (i : ℕ) → i < length (loopsOf (k .marks) lines) → natAbs (inRow 1 report i) ≡ length (loopAt ls i)
+    count-is i h = ap natAbs (each-row-is-of-its-loop rows surveyed i (omega (arith, survey-counts rows surveyed .0)) .0 .count)
+
+    counts-are : (i : ℕ) → i ≤ length (loopsOf (k .marks) lines) → countsBefore report i ≡ linesInAll (take i ls)
+    unfolding countsBefore linesInAll
+    counts-are zero h = refl
+    counts-are (suc i) h = omega (arith, counts-are i (omega arith), count-is i (omega arith), lines-more ls i (omega arith))
+
+    pub listings-go-by-rows : (i : ℕ) → i < surveyOf b t held lines rows .answer .rows
+        → take (natAbs (inRow 1 report i)) (drop (countsBefore report i) (listingsOf b t held lines out .out)) ≡ map listed (loopAt (loopsOf (k .marks) lines) i)
+    listings-go-by-rows i h =
+        let l : i < length (loopsOf (k .marks) lines) = omega (arith, survey-counts rows surveyed .0) in
+        rw (count-is i l, counts-are i (omega arith), listings-keeps-to-table b t held lines out .finished done, marks-are)
+        (listed-after ls i l (drop (length (listings ls)) out))
 
   -- ---- the not-checked list
 

@@ -12,17 +12,18 @@ use Rattle.book.specs.Test.{counts}
 use Rattle.book.specs.Good.{GoodBook}
 use Rattle.file.specs.Read as read
 use Rattle.file.specs.Read.{Outcome, answered, done, statedLength, statedVersion, fileLength, statedT, statedB, statedH, statedN, heldOf, linesOf}
-use Rattle.loops.specs.Report.{reportOf}
+use Rattle.loops.specs.Row.{listings}
+use Rattle.loops.specs.Report.{loopsOf, reportOf}
 use Rattle.survey.specs.Report.{refusal, counted}
 use Rattle.survey.specs.Survey.{Surveyed, surveyed, surveyOf}
-use Rattle.lists.specs.Listing.{Listing, listing, unlisted, listingOf}
+use Rattle.lists.specs.Listing.{Listing, listing, unlisted, listingOf, listingsOf}
 use Rattle.lists.specs.NotChecked.{uncheckedOf, notCheckedOf}
 use Rattle.survey.specs.Correction.{Corrected, corrected, updated, rerunLines, withdrawLines, rerunOf, withdrawOf}
 use Rattle.rates.specs.Rates.{refusedRate, rateAnswer}
 use Rattle.adjust.specs.Answers.{answer}
 use Rattle.adjust.specs.Call.{adjusted, adjustOf}
 use Rattle.demands.specs.Rules.{Rule, KeepsToTable}
-use Rattle.demands.specs.Tables.{surveyRules, loopListing, listingRules, notCheckedRules, rerunRules, withdrawRules, fileRules}
+use Rattle.demands.specs.Tables.{surveyRules, loopListing, listingRules, listingsRules, notCheckedRules, rerunRules, withdrawRules, fileRules}
 
 -- the report of a book, worked out afresh
 abbrev pub afresh : ℤ → ℤ → List ℤ → List ℤ
@@ -48,6 +49,10 @@ ListKeepsToTable rules list out given =
 -- the listing: lines and sense of the loop of that number
 abbrev pub ListingKeepsToTable : ℤ → ℤ → List ℤ → List ℤ → ℤ → List ℤ → Listing → Type 0
 ListingKeepsToTable b t held lines number out given = ListKeepsToTable (listingRules b t held lines number out) (loopListing (natAbs b) lines number) out given
+
+-- the lines of all loops, one loop after the other
+abbrev pub ListingsKeepsToTable : ℤ → ℤ → List ℤ → List ℤ → List ℤ → Listing → Type 0
+ListingsKeepsToTable b t held lines out given = ListKeepsToTable (listingsRules b t held lines out) (listings (loopsOf (natAbs b) lines)) out given
 
 -- the not-checked list
 abbrev pub NotCheckedKeepsToTable : ℤ → ℤ → List ℤ → List ℤ → List ℤ → Listing → Type 0
@@ -91,6 +96,7 @@ ReaderKeepsToTable file held lines given =
 pub record SameAtEveryCall (b t : ℤ) (held lines : List ℤ) (number place : ℕ) : Type 0 where
   pub survey : (out : List ℤ) → surveyOf b t held lines out ≡ surveyed (refusal number place) out
   pub listing-of : (loop : ℤ) (out : List ℤ) → listingOf b t held lines loop out ≡ listing (unlisted number place) out
+  pub listings-of : (out : List ℤ) → listingsOf b t held lines out ≡ listing (unlisted number place) out
   pub not-checked : (out : List ℤ) → notCheckedOf b t held lines out ≡ listing (unlisted number place) out
   pub withdrawal : (report : List ℤ) (line : ℤ) → withdrawOf b t held lines report line ≡ corrected (refusal number place) lines report
   pub re-run : (report : List ℤ) (line difference : ℤ) → natAbs difference ≤ mostDifference

@@ -12,7 +12,7 @@ use Rattle.book.specs.Line.{lineWords, lineCount, differenceOut, firstBadLine}
 use Rattle.book.specs.Test.{torn, bookOut}
 use Rattle.file.specs.Read.{statedLength, statedVersion, statedT, statedB, statedH, statedN, fileLength, heldOf, linesOf}
 use Rattle.loops.specs.Loops.{loopAt}
-use Rattle.loops.specs.Row.{listed}
+use Rattle.loops.specs.Row.{listed, listings}
 use Rattle.loops.specs.Report.{loopsOf, reportOf}
 use Rattle.lists.specs.NotChecked.{uncheckedOf}
 use Rattle.survey.specs.Correction.{noLine, otherReport}
@@ -55,6 +55,11 @@ loopRules b lines number out = rule 8 (outZ (pos 1) (pos (length (loopsOf (natAb
 unfoldable pub listingRules : ℤ → ℤ → List ℤ → List ℤ → ℤ → List ℤ → List Rule
 unfolding loopsOf loopListing
 listingRules b t held lines number out = bookRules b t held lines (loopRules b lines number out)
+
+-- the lines of all loops
+unfoldable pub listingsRules : ℤ → ℤ → List ℤ → List ℤ → List ℤ → List Rule
+unfolding loopsOf listings
+listingsRules b t held lines out = bookRules b t held lines (roomRule out (listings (loopsOf (natAbs b) lines)) ∷ [])
 
 unfoldable pub notCheckedRules : ℤ → ℤ → List ℤ → List ℤ → List ℤ → List Rule
 unfolding uncheckedOf

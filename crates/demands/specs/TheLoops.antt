@@ -4,7 +4,7 @@ use mathlib.Core.Path.{_≡_}
 use mathlib.Core.Logic.{_↔_}
 use mathlib.Core.Bool.{true, false}
 use mathlib.Core.List.{List, _∷_, _++_, List·Memᴰ}
-use Prim.Native.Nat.{ℕ, _+_, _*_, _≤_, _<_}
+use Prim.Native.Nat.{ℕ, zero, suc, _+_, _*_, _≤_, _<_}
 use lib.IntN.{ℤ, pos, natAbs}
 use lib.ListN.{length, getD, take, drop}
 use Rattle.network.specs.Standing.{Line, standing}
@@ -21,6 +21,11 @@ use Rattle.lists.specs.Listing.{Listing}
 -- "A report row is five numbers: closing line, count of lines, length, misclosure, verdict": number j of row i, rows counted from 0
 abbrev pub inRow : ℕ → List ℤ → ℕ → ℤ
 inRow j report i = getD report (5 * i + j) (pos 0)
+
+-- the counts of lines of the rows before row i, in all
+unfoldable pub countsBefore : List ℤ → ℕ → ℕ
+countsBefore report zero = zero
+countsBefore report (suc i) = countsBefore report i + natAbs (inRow 1 report i)
 
 -- "With misclosure m and length L a loop is within exactly if m*m <= 10*t*t*L"
 abbrev pub Within : ℕ → Loop → Type 0

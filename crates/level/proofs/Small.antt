@@ -30,10 +30,10 @@ use Rattle.loops.specs.Report.{loopsOf, reportOf, piecesOf}
 use Rattle.survey.specs.Report.{refusal, counted}
 use Rattle.survey.specs.Survey.{Surveyed, surveyGood, surveyTested, surveyOf}
 use Rattle.survey.specs.Correction.{Corrected, noLine, otherReport, correctGood, correctTested, rerunLines, withdrawLines, rerunOf, withdrawOf}
-use Rattle.lists.specs.Listing.{Listing, unlisted, listOf, listingGood, listingTested, listingOf}
+use Rattle.lists.specs.Listing.{Listing, unlisted, listOf, listingGood, listingTested, listingOf, listingsGood, listingsTested, listingsOf}
 use Rattle.lists.specs.NotChecked.{uncheckedOf, notCheckedTested, notCheckedOf}
 use Rattle.loops.specs.Loops.{loopAt}
-use Rattle.loops.specs.Row.{listed}
+use Rattle.loops.specs.Row.{listed, listings}
 use Rattle.book.proofs.Goods.{good-lines}
 use Rattle.loops.proofs.Sounding.{lines-sound, few-loops}
 use Rattle.survey.proofs.Corrected.{stands-of, rerun-lines-good, withdrawn-lines-good}
@@ -156,6 +156,14 @@ module _ (b t : ℤ) (held lines : List ℤ) where
             cond-ind (λ (o : Listing). SmallListed (o .answer)) (outZ (pos 1) (pos (length (loopsOf (k .marks) lines))) number) _ _
             (λ _. unlisted-small 8 0 (omega arith) (omega arith))
             (λ _. list-small (map listed (loopAt (loopsOf (k .marks) lines) (natAbs number - 1))) out small)
+
+    pub listings-small : SmallListed (listingsOf b t held lines out .answer)
+    unfolding listingsOf listingsTested listingsGood
+    listings-small = go (testOf b t held lines) refl
+      where
+        go : (x : Tested) → testOf b t held lines ≡ x → SmallListed (listingsTested lines out x .answer)
+        go (Refused r) e = untested-small r e
+        go (Good k) e = list-small (listings (loopsOf (k .marks) lines)) out small
 
     pub not-checked-small : SmallListed (notCheckedOf b t held lines out .answer)
     unfolding notCheckedOf notCheckedTested

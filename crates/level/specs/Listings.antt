@@ -1,4 +1,4 @@
--- What the two listings answer, with the numbers as int64, beside what the lent output then holds.
+-- What the three lists answer, with the numbers as int64, beside what the lent output then holds.
 -- Assumes nothing.
 use mathlib.Core.List.{List}
 use lib.IntN.{ℤ, pos}

@@ -7,7 +7,7 @@ ghost use Rattle.survey.specs.Correction.{rerunOf, withdrawOf};
 ghost use Rattle.rates.specs.Rates.{rateAnswer};
 ghost use Rattle.level.specs.Signed.{SmallRead, signedRead, readNow, ofRead};
 ghost use Rattle.level.specs.Answers.{SmallAnswer, signedAnswer, surveyNow, ofSurvey, correctionNow, ofCorrection};
-ghost use Rattle.lists.specs.Listing.{listingOf};
+ghost use Rattle.lists.specs.Listing.{listingOf, listingsOf};
 ghost use Rattle.lists.specs.NotChecked.{notCheckedOf};
 ghost use Rattle.adjust.specs.Call.{adjustOf};
 ghost use Rattle.level.specs.Listings.{SmallListed, signedListed, listingNow, ofListing};
@@ -142,6 +142,19 @@ pub extern "C" fn level_listing(
     ensures { λ r. ⌜ listingNow r (now (out .exit)) ≡ ofListing (listingOf b t (now (held .entry)) (now (lines .entry)) number (now (out .entry))) ⌝ }
 {
     listing_answer(lists::listing(b, t, held, lines, number, out))
+}
+
+#[no_mangle]
+pub extern "C" fn level_listings(
+    b: i64,
+    t: i64,
+    held: &[i64],
+    lines: &[i64],
+    out: &mut [i64],
+) -> Listed
+    ensures { λ r. ⌜ listingNow r (now (out .exit)) ≡ ofListing (listingsOf b t (now (held .entry)) (now (lines .entry)) (now (out .entry))) ⌝ }
+{
+    listing_answer(lists::listings(b, t, held, lines, out))
 }
 
 #[no_mangle]

@@ -2,6 +2,7 @@ pub mod Count
 pub mod AllLoops
 pub mod EachLoop
 pub mod LinesInAll
+pub mod Listings
 pub mod Passes
 pub mod Basis
 pub mod Misclosure
