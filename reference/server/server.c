@@ -23,15 +23,16 @@ extern void _exit(int);
 #pragma weak level_read
 #pragma weak level_survey
 #pragma weak level_listing
+#pragma weak level_listings
 #pragma weak level_not_checked
 #pragma weak level_rerun
 #pragma weak level_withdraw
 #pragma weak level_adjust
 #pragma weak level_rate
 
-enum { READ, SURVEY, LISTING, NOT_CHECKED, RERUN, WITHDRAW, ADJUST, RATE };
+enum { READ, SURVEY, LISTING, LISTINGS, NOT_CHECKED, RERUN, WITHDRAW, ADJUST, RATE };
 enum { HELD, LINES, THIRD, SLICES };
-enum { GUARD = 64, MOST = 1 << 17, CANARY = 0xA5 };
+enum { GUARD = 64, MOST = 1 << 20, CANARY = 0xA5 };
 
 /* A slice in bytes, between its guards, and as it was lent. */
 static unsigned char room[SLICES][GUARD + MOST + GUARD] __attribute__((aligned(64)));
@@ -131,10 +132,12 @@ static void make(const int64_t *q, int64_t *a)
         break;
     }
     case LISTING:
+    case LISTINGS:
     case NOT_CHECKED: {
-        struct Listed r = call == LISTING
-                              ? level_listing(b, t, held, h, lines, l, number, third, n)
-                              : level_not_checked(b, t, held, h, lines, l, third, n);
+        struct Listed r =
+            call == LISTING    ? level_listing(b, t, held, h, lines, l, number, third, n)
+            : call == LISTINGS ? level_listings(b, t, held, h, lines, l, third, n)
+                               : level_not_checked(b, t, held, h, lines, l, third, n);
         a[0] = r.number, a[1] = r.place, a[2] = r.entries;
         break;
     }

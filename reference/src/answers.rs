@@ -1,4 +1,4 @@
-//! The eight calls, and what they answer, laid out as in `include/level.h`.
+//! The nine calls, and what they answer, laid out as in `include/level.h`.
 
 use crate::{Lent, LentMut};
 
@@ -41,7 +41,7 @@ pub struct Answer {
     pub pieces: i64,
 }
 
-/// The answer of the two listings.
+/// The answer of the three lists.
 #[repr(C)]
 #[derive(Clone, Copy, Debug, Default, PartialEq, Eq)]
 pub struct Listed {
@@ -79,12 +79,13 @@ impl PartialEq for Rated {
     }
 }
 
-/// The eight calls, in the order of `include/level.h` and of the server.
+/// The nine calls, in the order of `include/level.h` and of the server.
 #[derive(Clone, Copy, Debug, PartialEq, Eq)]
 pub enum Kind {
     Read,
     Survey,
     Listing,
+    Listings,
     NotChecked,
     Rerun,
     Withdraw,
@@ -92,11 +93,12 @@ pub enum Kind {
     Rate,
 }
 
-/// Who answers the eight calls, in the words of `include/level.h`.
+/// Who answers the nine calls, in the words of `include/level.h`.
 pub trait Level {
     fn read(&mut self, file: &[u8], held: &mut [i64], lines: &mut [i64]) -> ReadAnswer;
     fn survey(&mut self, book: Lent, rows: &mut [i64]) -> Answer;
     fn listing(&mut self, book: Lent, number: i64, out: &mut [i64]) -> Listed;
+    fn listings(&mut self, book: Lent, out: &mut [i64]) -> Listed;
     fn not_checked(&mut self, book: Lent, out: &mut [i64]) -> Listed;
     fn rerun(&mut self, book: LentMut, report: &mut [i64], line: i64, difference: i64) -> Answer;
     fn withdraw(&mut self, book: LentMut, report: &mut [i64], line: i64) -> Answer;

@@ -33,6 +33,12 @@ impl Level for Archive {
         unsafe { level_listing(b, t, h, held.len(), l, lines.len(), number, o, out.len()) }
     }
 
+    fn listings(&mut self, book: Lent, out: &mut [i64]) -> Listed {
+        let Lent { b, t, held, lines } = book;
+        let (h, l, o) = (held.as_ptr(), lines.as_ptr(), out.as_mut_ptr());
+        unsafe { level_listings(b, t, h, held.len(), l, lines.len(), o, out.len()) }
+    }
+
     fn not_checked(&mut self, book: Lent, out: &mut [i64]) -> Listed {
         let Lent { b, t, held, lines } = book;
         let (h, l, o) = (held.as_ptr(), lines.as_ptr(), out.as_mut_ptr());

@@ -192,6 +192,10 @@ impl Level for Bridge {
         listed(self.fill(Kind::Listing, book, number, out))
     }
 
+    fn listings(&mut self, book: Lent, out: &mut [i64]) -> Listed {
+        listed(self.fill(Kind::Listings, book, 0, out))
+    }
+
     fn not_checked(&mut self, book: Lent, out: &mut [i64]) -> Listed {
         listed(self.fill(Kind::NotChecked, book, 0, out))
     }

@@ -10,6 +10,8 @@ pub struct Reference {
     pub(crate) network: Box<Network>,
     /// Rows that have the line of a re-run, each with the sense in which they run it.
     touched: Vec<(usize, i64)>,
+    /// The lines of all loops, one loop after the other.
+    listed: Vec<i64>,
 }
 
 impl Default for Reference {
@@ -23,7 +25,11 @@ type Counts = (usize, usize);
 
 impl Reference {
     pub fn new() -> Self {
-        Reference { network: Box::new(Network::new()), touched: Vec::with_capacity(MAX_LINES) }
+        Reference {
+            network: Box::new(Network::new()),
+            touched: Vec::with_capacity(MAX_LINES),
+            listed: Vec::with_capacity(MAX_LISTED),
+        }
     }
 
     fn counts(&self) -> Counts {
@@ -65,6 +71,23 @@ impl Reference {
         for (place, &signed) in out[1..].iter_mut().zip(self.network.search.path()) {
             *place = signed as i64;
         }
+        Ok(count)
+    }
+
+    fn try_listings(&mut self, book: Lent, out: &mut [i64]) -> Result<usize, Refusal> {
+        book.test()?;
+        self.network.load(book.b, book.lines);
+        self.listed.clear();
+        for i in 0..self.network.rows {
+            let [closing, ..] = self.network.take(i, book.t);
+            self.listed.push(closing);
+            self.listed.extend(self.network.search.path().iter().map(|&signed| signed as i64));
+        }
+        let count = self.listed.len();
+        if out.len() < count {
+            return refuse(10);
+        }
+        out[..count].copy_from_slice(&self.listed);
         Ok(count)
     }
 
@@ -194,6 +217,10 @@ impl Level for Reference {
 
     fn listing(&mut self, book: Lent, number: i64, out: &mut [i64]) -> Listed {
         listed(self.try_listing(book, number, out))
+    }
+
+    fn listings(&mut self, book: Lent, out: &mut [i64]) -> Listed {
+        listed(self.try_listings(book, out))
     }
 
     fn not_checked(&mut self, book: Lent, out: &mut [i64]) -> Listed {

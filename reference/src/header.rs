@@ -1,6 +1,6 @@
 //! The C functions of `include/level.h`, written once for all that name, declare or define them.
 
-/// Gives the eight functions to a macro: of each the arguments, the answer and the call of `Level` that
+/// Gives the nine functions to a macro: of each the arguments, the answer and the call of `Level` that
 /// it is. Where they are defined, `lent` makes a slice of its start and its count.
 #[macro_export]
 macro_rules! header {
@@ -16,6 +16,8 @@ macro_rules! header {
                 = survey(rows.lent(rows_count));
             level_listing(const lines; number: i64, out: *mut i64, out_count: usize) -> Listed
                 = listing(number, out.lent(out_count));
+            level_listings(const lines; out: *mut i64, out_count: usize) -> Listed
+                = listings(out.lent(out_count));
             level_not_checked(const lines; out: *mut i64, out_count: usize) -> Listed
                 = not_checked(out.lent(out_count));
             level_rerun(

@@ -24,6 +24,8 @@ pub use network::verdict;
 
 pub const MAX_MARKS: usize = 256;
 pub const MAX_LINES: usize = 512;
+/// The lines of a book's loops in all are no more: 257 loops on 256 marks, each with a line to a mark.
+pub const MAX_LISTED: usize = (MAX_MARKS + 1) * MAX_MARKS;
 pub const MAX_HELD: usize = 256;
 pub const MAX_TOLERANCE: i64 = 1_000;
 pub const MAX_DIFFERENCE: i64 = 100_000_000;

@@ -2,7 +2,7 @@
 
 use reference::trial::call::own_report;
 use reference::trial::random::Random;
-use reference::trial::shapes::{edge_book, Shape};
+use reference::trial::shapes::{self, edge_book, Shape};
 use reference::trial::Book;
 use reference::*;
 
@@ -176,11 +176,24 @@ fn listing_of_no_loop() {
 }
 
 #[test]
+fn longest_listings() {
+    let book = shapes::longest_listings();
+    let mut out = vec![9; MAX_LISTED];
+    let short = Reference::new().listings(book.lent(), &mut out[1..]);
+    assert_eq!(short, Listed { number: 10, place: 0, entries: 0 });
+    assert!(out.iter().all(|&entry| entry == 9));
+    let listed = Reference::new().listings(book.lent(), &mut out);
+    assert_eq!(listed, Listed { number: 0, place: 0, entries: MAX_LISTED as i64 });
+    assert_eq!(out[MAX_LISTED - 2..], [254, 255]);
+}
+
+#[test]
 fn outputs_too_short() {
     let mut book = ring();
     let mut reference = Reference::new();
     assert_eq!(reference.survey(book.lent(), &mut [9; 4]).number, 10);
     assert_eq!(reference.adjust(book.lent(), &mut [9; 2]).number, 10);
+    assert_eq!(reference.listings(book.lent(), &mut [9; 2]).number, 10);
     let free = Lent { held: &[], ..book.lent() };
     assert_eq!(reference.adjust(free, &mut [9; 2]).number, 10, "before 11");
     book.lines[4] = 0;
@@ -343,6 +356,7 @@ fn never_panics() {
         reference.read(&file, &mut any_numbers(random), &mut out);
         reference.survey(book.lent(), &mut out);
         reference.listing(book.lent(), number, &mut out);
+        reference.listings(book.lent(), &mut out);
         reference.not_checked(book.lent(), &mut out);
         reference.rate(book.lent(), &out, number);
         reference.adjust(book.lent(), &mut out);

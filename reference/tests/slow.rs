@@ -276,6 +276,10 @@ fn same_as_slow(reference: &mut Reference, book: &Book, random: &mut Random) {
         let listed = reference.listing(book.lent(), number, &mut out);
         assert_eq!((listed.number, &out), (0, list), "{book:?}");
     }
+    let all_lists = lists.concat();
+    let mut out = vec![0; all_lists.len()];
+    let listed = reference.listings(book.lent(), &mut out);
+    assert_eq!((listed.entries, &out), (out.len() as i64, &all_lists), "{book:?}");
     let mut out = vec![0; open.len()];
     let listed = reference.not_checked(book.lent(), &mut out);
     assert_eq!((listed.entries, &out), (open.len() as i64, &open), "{book:?}");

@@ -141,8 +141,11 @@ module _ (b t : ℤ) (held lines : List ℤ) (k : Book) (passes : testOf b t hel
   unfolding loopsOf
   listings-are-few =
       let good = good-lines k b t held lines (tested-good b t held lines k passes) in
-      omega (arith, listings-length (loops (k .marks) (standing lines)),
-      lines-in-all-at-most (k .marks) (standing lines) (lines-sound k lines good) (omega (arith, few-standing lines, good .whole, good .few)))
+      omega (
+        arith,
+        listings-length (loops (k .marks) (standing lines)),
+        lines-in-all-at-most (k .marks) (standing lines) (lines-sound k lines good) (omega (arith, few-standing lines, good .whole, good .few)),
+      )
 
   -- "each loop's count is the second number of its row": the lines of loop i stand after as many places as the rows before it count
   module _ (rows out : List ℤ) (surveyed : surveyOf b t held lines rows .answer .number ≡ 0) (done : listingsOf b t held lines out .answer .number ≡ 0) where

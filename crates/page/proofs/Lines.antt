@@ -79,7 +79,7 @@ module _ {lines : List ℤ} {starts runs : List ℕ} {count t : ℕ} {out₀ : L
         let numbered : i + 1 ≡ 1 + length (take i ls) = omega (arith, length-take-le i ls (omega arith)) in
         let line = ap (runLine t (i + 1) lines) (run-is tb i left) ∙ line-is k lines good t (i + 1) i left ∙ ap (λ (m : ℕ). loopLine t m (loopAt ls i)) numbered in
         subst (λ (text : List ℕ). Put out₀ out′ at after′ text) (sym (ap (loopLines t 1) more ∙ lines-more t 1 (take i ls) (loopAt ls i)))
-        (w .of k good tb then subst (λ (text : List ℕ). Put out out′ after after′ text) line p)
+        (w .of k good tb then subst (λ (text : List ℕ). Put out out′ after after′ text) line p);
   }
 
   pub all-put-end : {out : List ℕ} {after i : ℕ} → AllPut lines starts runs count t out₀ at out after i → i ≡ count → (k : Book) → GoodLines k lines

@@ -14,14 +14,7 @@ use book::Book;
 const RUN: usize = Book::MAX_MARKS as usize;
 
 // The line of the loop with this run, under this number of the report.
-fn put_loop(
-    lines: &[i64],
-    run: &[u16],
-    t: usize,
-    number: usize,
-    out: &mut [u8],
-    at: usize,
-) -> usize
+fn put_loop(lines: &[i64], run: &[u16], t: usize, number: usize, out: &mut [u8], at: usize) -> usize
     requires { ⌜ Measured (now lines) ⌝ ∗ ⌜ RunIn (now lines) (now run) ⌝ ∗ ⌜ t ≤ mostTolerance ⌝ }
     ensures { λ r. ⌜ Put (now (out .entry)) (now (out .exit)) at r (runLine t number (now (lines .entry)) (now (run .entry))) ⌝ }
 {
@@ -30,15 +23,7 @@ fn put_loop(
     let mut list = [0i64; RUN];
     lists::run::list_run(run, &mut list[..]);
     let count = run.len();
-    text::loop_text(
-        out,
-        at,
-        number,
-        row[2],
-        row[3],
-        row[4],
-        &list[..count],
-    )
+    text::loop_text(out, at, number, row[2], row[3], row[4], &list[..count])
 }
 
 // The lines of all loops, from place at on. The answer is the place after them.

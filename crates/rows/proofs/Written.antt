@@ -71,5 +71,5 @@ module _ {lines : List ℤ} {starts runs : List ℕ} {count : ℕ} {out₀ : Lis
       → (vs : List ℤ) → vs ≡ rowOf t lines (take (getD starts (i + 1) 0 - getD starts i 0) (drop (getD starts i 0) runs))
       → AllWritten lines starts runs count out₀ t (putMid (i * rowWords) (i * rowWords + rowWords - i * rowWords) out vs) (i + 1)
   all-written-next {out = out} {i = i} lt w vs e = record {
-    of = λ k good tb. written-next t (loopsOf (k .marks) lines) out₀ out vs i (omega (arith, tb .counted)) (w .of k good tb) (e ∙ run-row k lines good tb i lt t)
+    of = λ k good tb. written-next t (loopsOf (k .marks) lines) out₀ out vs i (omega (arith, tb .counted)) (w .of k good tb) (e ∙ run-row k lines good tb i lt t);
   }

@@ -35,7 +35,13 @@ fn no_line(lines: &[i64], number: i64) -> bool
 }
 
 // The loops are found, and the lent report is compared with their rows.
-fn kept_report(book: Book, lines: &[i64], report: &[i64], starts: &mut [u64], runs: &mut [u16]) -> Kept
+fn kept_report(
+    book: Book,
+    lines: &[i64],
+    report: &[i64],
+    starts: &mut [u64],
+    runs: &mut [u16],
+) -> Kept
     requires { ⌜ GoodLines book (now lines) ⌝ ∗ ⌜ RoomTable (now starts) (now runs) ⌝ }
     ensures { λ r. ⌜ r ≡ keptOf book (now (lines .entry)) (now (report .entry)) ⌝
         ∗ ⌜ Table (loopsOf (book .marks) (now (lines .entry))) (now (starts .exit)) (now (runs .exit)) (length (loopsOf (book .marks) (now (lines .entry)))) ⌝ }
@@ -87,11 +93,7 @@ fn refresh(book: Book, lines: &[i64], report: &mut [i64], before: usize) -> Answ
 {
     let answer = report::survey_good(book, lines, report);
     let rows = answer.rows;
-    kept::vacate(
-        report,
-        rows * rows::ROW_WORDS,
-        before * rows::ROW_WORDS,
-    );
+    kept::vacate(report, rows * rows::ROW_WORDS, before * rows::ROW_WORDS);
     answer
 }
 

@@ -165,10 +165,10 @@ module _ {n count : ℕ} {ends close head₀ next₀ : List ℕ} where
     pub all-next : (number : ℕ) (number-is : number ≡ getD close i 0) → i < length starts → at + 1 + n ≤ length runs → {c : ℕ} {head′ next′ : List ℕ} (out′ : List ℕ)
         → Taken n number ends head next (midOf (at + 1) (length (set runs at (number * 2)) - (at + 1)) (set runs at (number * 2))) head′ next′ out′ c
         → AllFilledTo n count (i + 1) (at + 1 + c) ends close head₀ next₀ head′ next′ (set starts i at)
-            (putMid (at + 1) (length (set runs at (number * 2)) - (at + 1)) (set runs at (number * 2)) out′)
+        (putMid (at + 1) (length (set runs at (number * 2)) - (at + 1)) (set runs at (number * 2)) out′)
     all-next number number-is sf fits out′ t = record {
       of = λ lines r. fill-next (w .of lines r) (left-of lt r) number number-is sf fits out′
-          (t (r .q) lines (w .of lines r .going .sub) (its-turn r number number-is .c) (taking r number number-is))
+          (t (r .q) lines (w .of lines r .going .sub) (its-turn r number number-is .c) (taking r number number-is));
     }
 
 -- ---- what a turn asks for

@@ -4,6 +4,7 @@ ghost use Rattle.book.specs.Good.{GoodLines};
 ghost use Rattle.loops.specs.Report.{loopsOf};
 ghost use Rattle.loops.specs.Table.{Table};
 ghost use Rattle.table.specs.Filled.{RoomTable, RoomWork, foundIn, Fills, Filled};
+
 mod order;
 
 use book::Book;
@@ -41,7 +42,9 @@ fn fill(
         let number = close[i] as usize;
         starts[i] = at as u64;
         runs[at] = (number * 2) as u16;
-        at = at + 1 + subgraph::take_loop(ends, head, next, best, seg, &mut runs[at + 1..], n, number);
+        at = at
+            + 1
+            + subgraph::take_loop(ends, head, next, best, seg, &mut runs[at + 1..], n, number);
         i += 1;
     }
     starts[count] = at as u64;

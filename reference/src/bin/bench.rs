@@ -24,10 +24,11 @@ const TURN_SECONDS: f64 = 0.0005;
 const FEWEST_TURNS: usize = 3;
 
 /// The calls in words.
-const CALLS: [(Kind, &str); 8] = [
+const CALLS: [(Kind, &str); 9] = [
     (Kind::Read, "read"),
     (Kind::Survey, "survey"),
     (Kind::Listing, "listing"),
+    (Kind::Listings, "listings"),
     (Kind::NotChecked, "not-checked"),
     (Kind::Rerun, "re-run"),
     (Kind::Withdraw, "withdrawal"),
@@ -105,7 +106,7 @@ impl Desk {
             kept: report.clone(),
             held_out: vec![0; HELD * MAX_HELD],
             lines_out: vec![0; LINE * MAX_LINES],
-            out: vec![0; ROW * MAX_LINES],
+            out: vec![0; MAX_LISTED],
             turn: 0,
             report,
             heights,
@@ -132,6 +133,7 @@ impl Desk {
             }
             Kind::Survey => answer(level.survey(book, &mut self.out)),
             Kind::Listing => listed(level.listing(book, last, &mut self.out)),
+            Kind::Listings => listed(level.listings(book, &mut self.out)),
             Kind::NotChecked => listed(level.not_checked(book, &mut self.out)),
             Kind::Rerun => {
                 let now = self.corrected.lines[LINE * self.turn + 2];

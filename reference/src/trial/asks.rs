@@ -97,6 +97,7 @@ pub fn every_ask(random: &mut Random, reference: &mut Reference, book: &Book) ->
         Ask::Survey { room: room(random) },
         Ask::Listing { number: loop_number(random, rows), room: room(random) },
         Ask::Listing { number: rows, room: room(random) },
+        Ask::Listings { room: room(random) },
         Ask::NotChecked { room: room(random) },
         Ask::Rerun {
             kept: kept(random, reference, book),

@@ -22,6 +22,7 @@ pub struct Kept {
 pub enum Ask {
     Survey { room: Room },
     Listing { number: i64, room: Room },
+    Listings { room: Room },
     NotChecked { room: Room },
     Rerun { kept: Kept, line: i64, difference: i64 },
     Withdraw { kept: Kept, line: i64 },
@@ -53,7 +54,7 @@ macro_rules! names {
     };
 }
 
-pub const KINDS: [&str; 9] = header!(names);
+pub const KINDS: [&str; 10] = header!(names);
 
 impl Call {
     /// The place of the call's name in `KINDS`.
@@ -62,12 +63,13 @@ impl Call {
             Call::Read { .. } => 0,
             Call::Ask { ask: Ask::Survey { .. }, .. } => 1,
             Call::Ask { ask: Ask::Listing { .. }, .. } => 2,
-            Call::Ask { ask: Ask::NotChecked { .. }, .. } => 3,
-            Call::Ask { ask: Ask::Rerun { .. }, .. } => 4,
-            Call::Ask { ask: Ask::Withdraw { .. }, .. } => 5,
-            Call::Ask { ask: Ask::Adjust { .. }, .. } => 6,
-            Call::Ask { ask: Ask::Rate { .. }, .. } => 7,
-            Call::Report { .. } => 8,
+            Call::Ask { ask: Ask::Listings { .. }, .. } => 3,
+            Call::Ask { ask: Ask::NotChecked { .. }, .. } => 4,
+            Call::Ask { ask: Ask::Rerun { .. }, .. } => 5,
+            Call::Ask { ask: Ask::Withdraw { .. }, .. } => 6,
+            Call::Ask { ask: Ask::Adjust { .. }, .. } => 7,
+            Call::Ask { ask: Ask::Rate { .. }, .. } => 8,
+            Call::Report { .. } => 9,
         }
     }
 }
@@ -172,6 +174,7 @@ fn need(reference: &mut Reference, book: &Book, ask: &Ask) -> usize {
     let mut out = [0; MAX_LINES];
     let entries = match *ask {
         Ask::Listing { number, .. } => reference.listing(book.lent(), number, &mut out).entries,
+        Ask::Listings { .. } => reference.listings(book.lent(), &mut vec![0; MAX_LISTED]).entries,
         Ask::NotChecked { .. } => reference.not_checked(book.lent(), &mut out).entries,
         Ask::Survey { .. } => return own_report(reference, book).len(),
         _ => book.b.clamp(0, 2 * MAX_MARKS as i64),
@@ -198,6 +201,7 @@ fn third(reference: &mut Reference, book: &Book, ask: &Ask) -> Buffer {
     match ask {
         Ask::Survey { room } => Buffer::output("rows", places(need, *room)),
         Ask::Listing { room, .. } => Buffer::output("out", places(need, *room)),
+        Ask::Listings { room } => Buffer::output("out", places(need, *room)),
         Ask::NotChecked { room } => Buffer::output("out", places(need, *room)),
         Ask::Adjust { room } => Buffer::output("heights", places(need, *room)),
         Ask::Rerun { kept, .. } | Ask::Withdraw { kept, .. } => kept_report(reference, book, kept),
@@ -245,6 +249,7 @@ fn make_ask(level: &mut dyn Level, ask: &Ask, book: LentMut, third: &mut [i64]) 
     match *ask {
         Ask::Survey { .. } => Given::Answer(level.survey(book.lent(), third)),
         Ask::Listing { number, .. } => Given::Listed(level.listing(book.lent(), number, third)),
+        Ask::Listings { .. } => Given::Listed(level.listings(book.lent(), third)),
         Ask::NotChecked { .. } => Given::Listed(level.not_checked(book.lent(), third)),
         Ask::Rerun { line, difference, .. } => {
             Given::Answer(level.rerun(book, third, line, difference))

@@ -296,6 +296,15 @@ pub fn edge_book(random: &mut Random) -> Book {
     Book { b: marks, t, held: vec![1, 0], lines }
 }
 
+/// The book whose loops have the most lines in all: 256 marks in a chain of short lines, and 257 long lines from
+/// its last mark to its first, each of which closes a loop by the whole chain.
+pub fn longest_listings() -> Book {
+    let marks = MAX_MARKS as i64;
+    let chain = (1..marks).flat_map(|m| [m, m + 1, 0, MIN_LENGTH, 1]);
+    let closing = (0..MAX_LINES as i64 - marks + 1).flat_map(|_| [marks, 1, 0, MAX_LENGTH, 1]);
+    Book { b: marks, t: 60, held: vec![1, 0], lines: chain.chain(closing).collect() }
+}
+
 /// A good book of any shape; a full one now and then.
 pub fn good_book(random: &mut Random) -> Book {
     match random.below(40) {
@@ -304,6 +313,7 @@ pub fn good_book(random: &mut Random) -> Book {
             finished(random, shape)
         }
         1 => edge_book(random),
+        2 if random.once_in(10) => longest_listings(),
         _ => {
             let shape = any_shape(random);
             finished(random, shape)

@@ -172,7 +172,7 @@ fn plain_report(kept: &mut Kept) -> Option<()> {
 /// The room of a call's output beyond the answer.
 fn room(ask: &mut Ask) -> Option<&mut Room> {
     match ask {
-        Ask::Survey { room } | Ask::NotChecked { room } => Some(room),
+        Ask::Survey { room } | Ask::Listings { room } | Ask::NotChecked { room } => Some(room),
         Ask::Listing { room, .. } | Ask::Adjust { room } => Some(room),
         Ask::Rerun { kept, .. } | Ask::Withdraw { kept, .. } => Some(&mut kept.beyond),
         Ask::Rate { .. } => None,

@@ -150,6 +150,19 @@ impl Level for Faulty {
         right
     }
 
+    fn listings(&mut self, book: Lent, out: &mut [i64]) -> Listed {
+        let mut right = self.0.listings(book, out);
+        match fault() {
+            "listings-without-last-line" if right.number == 0 && right.entries > 2 => {
+                right.entries -= 1;
+                out[right.entries as usize] = 0;
+            }
+            "listings-writes-what-fits" if right.number == 10 => out.fill(1),
+            _ => {}
+        }
+        right
+    }
+
     fn not_checked(&mut self, book: Lent, out: &mut [i64]) -> Listed {
         match fault() {
             "not-checked-always-empty" => {
