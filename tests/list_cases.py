@@ -27,15 +27,25 @@ def listed(entries, out):
     return 0, 0, len(entries)
 
 
+def signed_lines(loop):
+    return [sense * (i + 1) for i, sense in loop[0]]
+
+
 def loop_listed(loops, number, out):
     if not 1 <= number <= len(loops):
         return 8, 0, 0
-    return listed([sense * (i + 1) for i, sense in loops[number - 1][0]], out)
+    return listed(signed_lines(loops[number - 1]), out)
+
+
+def all_listed(loops, out):
+    """The lines of all loops, one loop after the other."""
+    return printed("all loops", listed([x for loop in loops for x in signed_lines(loop)], out), out)
 
 
 def loops_listed(b, t, lines, out):
     loops, _ = loops_of(b, t, lines)
-    return "".join(printed(f"loop {number}", loop_listed(loops, number, out), out) for number in range(-1, len(loops) + 2))
+    one_by_one = (printed(f"loop {number}", loop_listed(loops, number, out), out) for number in range(-1, len(loops) + 2))
+    return "".join(one_by_one) + all_listed(loops, out)
 
 
 def not_checked_listed(lines, out):
@@ -52,11 +62,13 @@ def refusal(b, t, helds, lines):
 
 
 def spoilt_listed(name, b, t, helds, lines, out):
-    """Both lists of a book that may be refused: the refusal, with the output as it was, or what they are."""
+    """The three lists of a book that may be refused: the refusal, with the output as it was, or what they are."""
     number, place = refusal(b, t, helds, lines)
     if number:
-        return f"{name}\n" + "".join(printed(call, (number, place, 0), out) for call in ("loop 1", "not checked"))
-    return f"{name}\n" + printed("loop 1", loop_listed(loops_of(b, t, lines)[0], 1, out), out) + not_checked_listed(lines, out)
+        return f"{name}\n" + "".join(printed(call, (number, place, 0), out) for call in ("loop 1", "all loops", "not checked"))
+    loops, _ = loops_of(b, t, lines)
+    first = printed("loop 1", loop_listed(loops, 1, out), out)
+    return f"{name}\n" + first + all_listed(loops, out) + not_checked_listed(lines, out)
 
 
 def outcome(file, lent):
@@ -99,6 +111,8 @@ def cases():
     yield "255 lines not checked", 300, branches
     yield "255 places for them", 255, branches
     yield "254 places", 254, branches
+    yield "all loops of the worked network just fit", 10, WORKED
+    yield "one place too few for all", 9, WORKED
     yield "the longest loop of the worked network just fits", 4, WORKED
     yield "one place too few for it", 3, WORKED
     yield "one place too few for any", 2, WORKED

@@ -1,4 +1,4 @@
-// Lists the loops of many books and the lines that are not checked, withdraws a line and lists again, spoils the book number by
+// Lists the loops of many books, one by one and all at once, and the lines that are not checked, withdraws a line and lists again, spoils the book number by
 // number, and prints every answer and what the output then holds. A case on standard input (cases::case) has two numbers: how many places
 // of output are lent, and its file's length. tests/list_cases.py makes the cases and, on its own, what is printed of them.
 ghost use Prim.Native.Nat.{_≤_};
@@ -51,10 +51,17 @@ fn list_from_first(b: i64, t: i64, held: &[i64], lines: &[i64], out: &mut [i64])
     }
 }
 
+fn all_loops(b: i64, t: i64, held: &[i64], lines: &[i64], out: &mut [i64]) {
+    let a = lists::listings(b, t, held, lines, out);
+    put(b"  all loops");
+    put_listed(a, out);
+}
+
 fn list_loops(b: i64, t: i64, held: &[i64], lines: &[i64], out: &mut [i64]) {
     list_loop(b, t, held, lines, -1, out);
     list_loop(b, t, held, lines, 0, out);
     list_from_first(b, t, held, lines, out);
+    all_loops(b, t, held, lines, out);
 }
 
 fn not_checked(b: i64, t: i64, held: &[i64], lines: &[i64], out: &mut [i64]) {
@@ -76,10 +83,11 @@ fn without_it(b: i64, t: i64, held: &[i64], lines: &mut [i64], out: &mut [i64]) 
     list_loops(b, t, held, lines, out);
 }
 
-// Both lists of a book that is spoilt.
+// The three lists of a book that is spoilt.
 fn list_spoilt(name: &[u8], b: i64, t: i64, held: &[i64], lines: &[i64], out: &mut [i64]) {
     put(name);
     list_loop(b, t, held, lines, 1, out);
+    all_loops(b, t, held, lines, out);
     not_checked(b, t, held, lines, out);
 }
 
