@@ -1,5 +1,5 @@
--- All that comes before the first loop: the book drawn and its tree planted, then the closing lines in their order and the subgraph as it begins.
--- Assumes nothing.
+-- All that comes before the first loop: the book drawn and its tree planted, then the closing lines in their order and the subgraph
+-- as it begins. Assumes nothing.
 use Prim.Native.Nat.{ℕ, _+_, _*_, _-_, _/_, _≤_, _<_}
 use mathlib.Core.Path.{_≡_}
 use mathlib.Core.List.{List}
@@ -73,7 +73,8 @@ pub record Started (n : ℕ) (lines : List Line) (head next close : List ℕ) (c
 
 abbrev pub Ordered : ℕ → ℕ → List ℕ → List ℕ → List ℕ → List ℕ → List ℕ → List ℕ → ℕ → ℕ → Type 0
 Ordered n q ends best order head next close count parts =
-    (lines : List Line) → Listed lines n q ends → Holding (tree (n - 1) lines) best order ends → Started n lines head next close count parts
+    (lines : List Line) → Listed lines n q ends → Holding (tree (n - 1) lines) best order ends
+    → Started n lines head next close count parts
 
 -- a lent book before its first turn
 pub record BookStarted (n : ℕ) (ls : List ℤ) (ends head next best order close : List ℕ) (count parts : ℕ) : Type 0 where

@@ -59,7 +59,9 @@ pub fn plant_book(
     order: &mut [u64],
     n: usize,
 )
-    requires { ⌜ Good n (now lines) ⌝ ∗ ⌜ RoomNet n (now ends) (now head) (now next) ⌝ ∗ ⌜ RoomPlant n (now best) (now seg) (now order) ⌝ }
+    requires { ⌜ Good n (now lines) ⌝
+        ∗ ⌜ RoomNet n (now ends) (now head) (now next) ⌝
+        ∗ ⌜ RoomPlant n (now best) (now seg) (now order) ⌝ }
     ensures { λ _. ⌜ BookPlanted n (now (lines .entry)) (now (ends .exit)) (now (best .exit)) (now (order .exit)) ⌝ }
 {
     draw_book(lines, ends, head, next, n);
@@ -105,7 +107,9 @@ pub fn start_book(
     close: &mut [u64],
     n: usize,
 ) -> Start
-    requires { ⌜ Good n (now lines) ⌝ ∗ ⌜ RoomNet n (now ends) (now head) (now next) ⌝ ∗ ⌜ RoomPlant n (now best) (now seg) (now order) ⌝
+    requires { ⌜ Good n (now lines) ⌝
+        ∗ ⌜ RoomNet n (now ends) (now head) (now next) ⌝
+        ∗ ⌜ RoomPlant n (now best) (now seg) (now order) ⌝
         ∗ ⌜ RoomLoops n (now lines) (now rank) (now sort) (now close) ⌝ }
     ensures { λ r. ⌜ BookStarted n (now (lines .entry)) (now (ends .exit)) (now (head .exit)) (now (next .exit)) (now (best .exit))
         (now (order .exit)) (now (close .exit)) (r .count) (r .pieces) ⌝ }

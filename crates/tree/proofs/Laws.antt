@@ -26,7 +26,7 @@ use Rattle.search.specs.Front as f
 use Rattle.chains.proofs.Halves.{half-ends, half-flip, half-low-end, mark-of}
 use Rattle.search.proofs.Enter.{far-half, step-some, Pop, pop-none, pop-some, came-new, front-enter, front-relaxed}
 use Rattle.search.proofs.Searched.{near, newest-line, turned-any}
-use Rattle.tree.specs.Plant.{FirstFar, Sprouted, by-line, by-root, ended, Entered, none-yet, enters, Holding, Below}
+use Rattle.tree.specs.Plant.{FirstFar, growing, Sprouted, by-line, by-root, ended, Entered, none-yet, enters, Holding, Below}
 
 -- ---- the first mark that is out
 
@@ -271,7 +271,7 @@ module _ (lines : List Line) (n : ℕ) (head next ends : List ℕ) (gv : Given l
           at-next = ap (λ (o : Option Candidate). tr.next (at k) o (firstOut (at k) rts)) gone
               ∙ ap (λ (o : Option ℕ). tr.next (at k) none o) (out-past (at k) (n - 1) [] (λ m a b. all-in r ff m a (omega arith)))
 
-    pub sprouted-next : (best′ seg′ order′ : List ℕ) (r : ℕ) → Sprouted n head next ends best seg order best′ seg′ order′ k root r → Planting (k + 1) best′ seg′ order′ r
+    pub sprouted-next : (best′ seg′ order′ : List ℕ) (r : ℕ) → Sprouted n head next ends (growing best seg order) (growing best′ seg′ order′) k root r → Planting (k + 1) best′ seg′ order′ r
     sprouted-next best′ seg′ order′ r (by-line a (more z lt seg₁ ch ne rx) e q o) =
         subst (λ (x : List ℕ). Planting (k + 1) best′ seg′ x r) (sym o) (subst (λ (x : ℕ). Planting (k + 1) best′ seg′ (set order k a) x) (sym q) (line-next lt seg₁ best′ seg′ a z ch rx))
     sprouted-next best′ seg′ order′ r (by-line a (found z lt t q q₂) e q′ o) = absurd (e (z ∙ t))
@@ -315,12 +315,12 @@ stage-clear n best seg few pos lb ls fb fs = record {
 }
 
 module _ (n : ℕ) (head next ends best seg order best′ seg′ order′ : List ℕ) (k rt r : ℕ) where
-  pub sprouted-high : rt ≤ n → Sprouted n head next ends best seg order best′ seg′ order′ k rt r → r ≤ n
+  pub sprouted-high : rt ≤ n → Sprouted n head next ends (growing best seg order) (growing best′ seg′ order′) k rt r → r ≤ n
   sprouted-high h (by-line a t e q o) = omega arith
   sprouted-high h (by-root a b s t e ff l x o) = omega arith
   sprouted-high h (ended a t e ff q o) = omega arith
 
-  pub sprouted-below : Stage n best seg → Bounded n ends → Below n order → Sprouted n head next ends best seg order best′ seg′ order′ k rt r → Below n order′
+  pub sprouted-below : Stage n best seg → Bounded n ends → Below n order → Sprouted n head next ends (growing best seg order) (growing best′ seg′ order′) k rt r → Below n order′
   sprouted-below st tp o (by-line a t e q z) m h = rw z (below-set n order k a (turned-low t) o m h)
     where
       turned-low : Turned n head next ends best seg best′ seg′ 0 a → a < n
@@ -330,7 +330,7 @@ module _ (n : ℕ) (head next ends best seg order best′ seg′ order′ : List
   sprouted-below st tp o (by-root a b s t e ff l x z) m h = rw z (below-set n order k r l o m h)
   sprouted-below st tp o (ended a t e ff q z) m h = rw z (o m h)
 
-  pub sprouted-stage : Stage n best seg → Bounded n ends → Sprouted n head next ends best seg order best′ seg′ order′ k rt r → Stage n best′ seg′
+  pub sprouted-stage : Stage n best seg → Bounded n ends → Sprouted n head next ends (growing best seg order) (growing best′ seg′ order′) k rt r → Stage n best′ seg′
   sprouted-stage st tp (by-line a t e q o) = turned-any n head next ends best seg best′ seg′ 0 a st t
   sprouted-stage st tp (by-root a b s t e ff l x o) = x .stage
   sprouted-stage st tp (ended a t e ff q o) = turned-any n head next ends best seg best′ seg′ 0 a st t
