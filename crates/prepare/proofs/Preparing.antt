@@ -17,23 +17,13 @@ use Rattle.chains.specs.Link.{RoomChains}
 use Rattle.chains.specs.Listed.{Listed}
 use Rattle.closing.specs.Order.{Ready, Put}
 use Rattle.closing.proofs.Members.{length-numbers}
-use Rattle.subgraph.specs.Drawn.{RoomLay, TreeDrawn}
+use Rattle.subgraph.specs.Drawn.{TreeDrawn}
 use Rattle.subgraph.proofs.Turns.{going-start, queue-start}
-use Rattle.prepare.specs.Drawn.{Sheet}
-use Rattle.prepare.specs.Prepared.{Good, RoomNet, RoomLoops, BookPlanted, Orders, Started}
-
-pub sheet-of : {n : ℕ} {ls : List ℤ} {ends head next : List ℕ} → Good n ls → RoomNet n ends head next → Sheet n ls ends head next
-sheet-of g r = record {
-  some-mark = g .some-mark;
-  few-marks = omega (arith, g .few-marks);
-  few = omega (arith, g .few-lines);
-  good = g .good;
-  ends-at = r .ends-at;
-  chains = r .chains;
-}
+use Rattle.prepare.specs.Prepared.{Good, RoomLoops, BookPlanted, Orders, Started}
 
 -- lines by rising number, above k and below q
-rising-few : (q k : ℕ) (lines : List Line) → k < q → Rising lines → ((l : Line) → List·Memᴰ l lines → (k < l .number) × (l .number < q)) → k + length lines < q
+rising-few : (q k : ℕ) (lines : List Line) → k < q → Rising lines → ((l : Line) → List·Memᴰ l lines → (k < l .number) × (l .number < q))
+    → k + length lines < q
 rising-few q k [] h r f = omega arith
 rising-few q k (l ∷ ls) h (then above r) f =
     let w = f l (List·Memᴰ·head refl) in
@@ -67,7 +57,15 @@ module _ (n q : ℕ) (ends : List ℕ) (some-line : 0 < q) (lines : List Line) (
     started = record {
       going = going-start n lines close′ q r ends head next li td
           (queue-start close close′ (closing lines (tree (n - 1) lines)) (omega (arith, few-closing)) (put .places));
-      count-is = omega (arith, put .count, length-numbers (closing lines (tree (n - 1) lines)), loops-count (n - 1) lines placed (li .rising) apart, closing-count (n - 1) lines placed (li .rising) apart);
+      count-is =
+          omega (
+            arith,
+            put .count,
+            length-numbers (closing lines (tree (n - 1) lines)),
+            loops-count (n - 1) lines placed
+                (li .rising) apart,
+            closing-count (n - 1) lines placed (li .rising) apart,
+          );
       parts-are = omega (arith, td .count, roots);
     }
 
@@ -90,12 +88,11 @@ module _ {n q : ℕ} {ends head next best order rank sort close : List ℕ} (o :
     room = omega (arith, few-closing n q ends (o .some-line) (o .lines) (o .listed), o .closes);
   }
 
-  pub room-of : RoomLay n best order head next
-  room-of = record { some-mark = o .some-mark; bests = o .bests; orders = o .orders; below = o .below; chains = o .chains }
-
 -- what the order of the loops asks for, of a planted book
-pub orders-of : {n : ℕ} {ls : List ℤ} {ends head next best order rank sort close : List ℕ} → Good n ls → BookPlanted n ls ends best order → RoomChains n head next
-    → n ≤ length best → n ≤ length order → RoomLoops n ls rank sort close → Orders n (length ls / 5 + 1) ends head next best order rank sort close
+pub orders-of : {n : ℕ} {ls : List ℤ} {ends head next best order rank sort close : List ℕ} → Good n ls → BookPlanted n ls ends best order
+    → RoomChains n head next
+    → n ≤ length best → n ≤ length order → RoomLoops n ls rank sort close
+    → Orders n (length ls / 5 + 1) ends head next best order rank sort close
 orders-of {ls = ls} g p chains bests orders r = record {
   some-mark = g .some-mark;
   few-marks = g .few-marks;

@@ -29,8 +29,8 @@ growing best seg order = record { best = best; seg = seg; order = order }
 pub data Sprouted (n : ℕ) (head next ends : List ℕ) (g g′ : Growing) (k root r : ℕ) : Type 0 where
   by-line : (a : ℕ) → Turned n head next ends (g .best) (g .seg) (g′ .best) (g′ .seg) 0 a → (a ≡ 0 → ⊥) → r ≡ root
       → g′ .order ≡ set (g .order) k a → Sprouted n head next ends g g′ k root r
-  by-root : (a : ℕ) (best₁ seg₁ : List ℕ) → Turned n head next ends (g .best) (g .seg) best₁ seg₁ 0 a → a ≡ 0 → FirstFar best₁ n root r → r < n
-      → Relaxed n next ends (set best₁ r 0) seg₁ (g′ .best) (g′ .seg) (getD head r 0) 0 → g′ .order ≡ set (g .order) k r
+  by-root : (a : ℕ) (best₁ seg₁ : List ℕ) → Turned n head next ends (g .best) (g .seg) best₁ seg₁ 0 a → a ≡ 0 → FirstFar best₁ n root r
+      → r < n → Relaxed n next ends (set best₁ r 0) seg₁ (g′ .best) (g′ .seg) (getD head r 0) 0 → g′ .order ≡ set (g .order) k r
       → Sprouted n head next ends g g′ k root r
   ended : (a : ℕ) → Turned n head next ends (g .best) (g .seg) (g′ .best) (g′ .seg) 0 a → a ≡ 0 → FirstFar (g′ .best) n root r → r ≡ n
       → g′ .order ≡ g .order → Sprouted n head next ends g g′ k root r

@@ -21,7 +21,8 @@ sub-t24 c =
     let entry : tie.Start = search in
     let p = entry .pre in
     few-laid _ _ _ (p .some-line) (p .lines) (p .listed) _ _ _ _ _ _ (p .closes)
-    (after-closing-lines .closing-lines .ensures (p .lines) (p .listed) (p .holding)) (after-lay-tree .lay-tree .ensures _ (p .lines) (p .listed) (p .holding))
+    (after-closing-lines .closing-lines .ensures (p .lines) (p .listed) (p .holding))
+    (after-lay-tree .lay-tree .ensures _ (p .lines) (p .listed) (p .holding))
 
 same-length : tie.Need-same-length
 same-length c = search needs
@@ -44,7 +45,8 @@ returns c =
     let after-closing-lines : tie.After-closing-lines = search in
     let entry : tie.Start = search in
     let p = entry .pre in
-    λ lines li ho. started _ _ _ (p .some-line) lines li _ _ _ _ _ _ (p .closes) (after-closing-lines .closing-lines .ensures lines li ho) (after-lay-tree .lay-tree .ensures _ lines li ho)
+    λ lines li ho. started _ _ _ (p .some-line) lines li _ _ _ _ _ _ (p .closes) (after-closing-lines .closing-lines .ensures lines li ho)
+    (after-lay-tree .lay-tree .ensures _ lines li ho)
 
 pub order-loops-spec : {M : Type 1} → statement M
 order-loops-spec =
