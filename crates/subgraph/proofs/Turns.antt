@@ -25,7 +25,7 @@ use Rattle.chains.specs.Link.{RoomChains, Fits, Joined, Wider}
 use Rattle.chains.specs.Listed.{Listed}
 use Rattle.chains.proofs.Halves.{line-from, line-to}
 use Rattle.chains.proofs.Laws.{bounded-fits}
-use Rattle.search.specs.Front.{Two, Held, Pathed, Written}
+use Rattle.search.specs.Front.{RoomPath, Two, Held, Pathed, Written}
 use Rattle.subgraph.specs.Drawn.{TreeDrawn}
 use Rattle.subgraph.specs.Turn.{Taking, Takes, Took, Reached, Queue, empty, next-is, Going}
 use Rattle.subgraph.proofs.Only.{in-first, in-more, in-cases}
@@ -267,6 +267,22 @@ module _ (n : ℕ) (lines : List Line) (close : List ℕ) where
               notYet = g .reached .notYet c first;
               queue = q;
             }
+
+    -- its turn has what it asks for
+    pub next-taking : {q : ℕ} {ends : List ℕ} → Listed lines n q ends → (x : Next) → Taking lines (g .sub) (x .c) n q (getD close i 0) ends head next
+    next-taking li x = record { listed = li; drawn = g .drawn; isLine = x .isLine; notYet = x .notYet; its = sym (x .number) }
+
+    pub next-takes : {q : ℕ} {ends best seg out : List ℕ} → Listed lines n q ends → Bounded n ends → RoomPath n best seg out → Next
+        → Takes n (getD close i 0) ends head next best seg out
+    next-takes {q = q} li b room x = record {
+      bounded = b;
+      room = room;
+      q = q;
+      lines = lines;
+      sub = g .sub;
+      c = x .c;
+      taking = next-taking li x;
+    }
 
     pub going-next : {head′ next′ out out′ : List ℕ} {count : ℕ} (x : Next) → Took lines (g .sub) (x .c) n out head′ next′ out′ count
         → Going n (i + 1) lines close head′ next′
