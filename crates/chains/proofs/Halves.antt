@@ -1,9 +1,9 @@
 -- Laws of half lines, of what ends tells of them, and of chains. Assumes nothing.
 use Prim.Native.Nat.{ℕ, zero, suc, _+_, _*_, _≤_, _<_}
 use native.Mathlib.Omega.{arith}
-use mathlib.Core.Path.{_≡_, refl, sym, _∙_, ap, subst}
+use mathlib.Core.Path.{_≡_, refl, sym, ap, subst}
 use mathlib.Core.Logic.{_⊎_, inl, inr}
-use mathlib.Core.List.{List, [], _∷_, List·Memᴰ, List·Memᴰ·head, List·Memᴰ·tail}
+use mathlib.Core.List.{List, _∷_, List·Memᴰ, List·Memᴰ·head, List·Memᴰ·tail}
 use lib.ListN.{length, getD}
 use Rattle.network.specs.Standing.{Line}
 use Rattle.network.specs.Walk.{Ends, along, against}
@@ -129,7 +129,8 @@ chain-one (first p lt c) (no-half z) = absurd (omega arith)
 chain-one (first p lt c) (first q lt′ d) = ap suc (chain-one c d)
 
 -- from each half on it is a chain, and no longer
-chain-from : {next : List ℕ} {i h : ℕ} {hs : List ℕ} → Chain next i hs → List·Memᴰ h hs → (ks : List ℕ) × Chain next h ks × (length ks ≤ length hs)
+chain-from : {next : List ℕ} {i h : ℕ} {hs : List ℕ} → Chain next i hs → List·Memᴰ h hs
+    → (ks : List ℕ) × Chain next h ks × (length ks ≤ length hs)
 chain-from {next = next} (first {i = i} {hs = hs} p lt c) (List·Memᴰ·head e) =
     (i ∷ hs, subst (λ (x : ℕ). Chain next x (i ∷ hs)) (sym e) (first p lt c), omega arith)
 chain-from (first p lt c) (List·Memᴰ·tail m) = let w = chain-from c m in (w .0, w .1, omega (arith, w .2))

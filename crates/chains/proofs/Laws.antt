@@ -47,7 +47,8 @@ module _ (n : ℕ) (head next head′ next′ : List ℕ) (m h : ℕ) (room : Ro
   -- a chain without h stays as it is
   on-new : {i g : ℕ} → (On next i h → ⊥) → On next i g → On next′ i g
   on-new f (here p e) = here p e
-  on-new {i = i} {g = g} f (later p o) = later p (subst (λ (x : ℕ). On next′ x g) (sym (next-old i (λ e. f (here p e)))) (on-new (λ w. f (later p w)) o))
+  on-new {i = i} {g = g} f (later p o) =
+      later p (subst (λ (x : ℕ). On next′ x g) (sym (next-old i (λ e. f (here p e)))) (on-new (λ w. f (later p w)) o))
 
   on-old : {i g : ℕ} → (On next i h → ⊥) → On next′ i g → On next i g
   on-old f (here p e) = here p e
@@ -79,7 +80,12 @@ module _ (n : ℕ) (head next head′ next′ : List ℕ) (m h : ℕ) (room : Ro
         chained x lt (yes e) =
             let w = hs .chained m mok in
             subst (Chained next′) (sym (ap (λ (z : ℕ). getD head′ z 0) e ∙ head-new))
-            (record { nexts = nexts′; hs = h ∷ w .hs; chain = first low high (subst (λ (z : ℕ). Chain next′ z (w .hs)) (sym next-new) (chain-new behind (w .chain))) })
+            (record {
+              nexts = nexts′;
+              hs = h ∷ w .hs;
+              chain = first low high
+                  (subst (λ (z : ℕ). Chain next′ z (w .hs)) (sym next-new) (chain-new behind (w .chain)));
+            })
         chained x lt (no e) =
             let w = hs .chained x lt in
             subst (Chained next′) (sym (head-old x e)) (record { nexts = nexts′; hs = w .hs; chain = chain-new (off x lt) (w .chain) })
@@ -108,19 +114,11 @@ module _ (n : ℕ) (head next head′ next′ : List ℕ) (m h : ℕ) (room : Ro
 
 -- ---- both halves of a line
 
-module _ (sub sub′ : List Line) (l : Line) {n : ℕ} {ends head next head′ next′ : List ℕ} (sound : AllSound n sub) (s : Sound n l) (wd : Wider sub sub′ l)
+module _ (sub sub′ : List Line) (l : Line) {n : ℕ} {ends head next head′ next′ : List ℕ} (sound : AllSound n sub) (s : Sound n l)
+    (wd : Wider sub sub′ l)
     (isNew : (k : Line) → List·Memᴰ k sub → k .number ≡ l .number → ⊥)
     (from-is : markOf ends (l .number * 2 + 1) ≡ l .from) (to-is : markOf ends (l .number * 2) ≡ l .to) (room : RoomChains n head next)
     (jn : Joined ends head next head′ next′ (l .number)) (heads : Heads n head next) (ch : Chains sub n head next) where
-  abbrev f : ℕ
-  f = markOf ends (l .number * 2 + 1)
-
-  abbrev t : ℕ
-  t = markOf ends (l .number * 2)
-
-  abbrev H₀ : ℕ → ℕ → Type 0
-  H₀ = Leaves sub
-
   abbrev H₁ : ℕ → ℕ → Type 0
   H₁ = And (Leaves sub) (markOf ends (l .number * 2 + 1)) (l .number * 2)
 
@@ -201,7 +199,8 @@ draws-none room zeros = record {
 }
 
 -- what the chains hold goes by members alone
-pub draws-same : {a b : List Line} {n : ℕ} {head next : List ℕ} → ((l : Line) → List·Memᴰ l a → List·Memᴰ l b) → ((l : Line) → List·Memᴰ l b → List·Memᴰ l a)
+pub draws-same : {a b : List Line} {n : ℕ} {head next : List ℕ} → ((l : Line) → List·Memᴰ l a → List·Memᴰ l b)
+    → ((l : Line) → List·Memᴰ l b → List·Memᴰ l a)
     → Drawn a n head next → Drawn b n head next
 draws-same to from d = record {
   heads = d .heads;
@@ -219,7 +218,8 @@ bounded-fits b number lt = record {
   to-ok = b .mark-ok (number * 2) (omega arith);
 }
 
-pub zero-next : (xs : List ℕ) (i : ℕ) → i < length xs → ((j : ℕ) → j < i → getD xs j 0 ≡ 0) → (j : ℕ) → j < i + 1 → getD (set xs i 0) j 0 ≡ 0
+pub zero-next : (xs : List ℕ) (i : ℕ) → i < length xs → ((j : ℕ) → j < i → getD xs j 0 ≡ 0) → (j : ℕ) → j < i + 1
+    → getD (set xs i 0) j 0 ≡ 0
 zero-next xs i lt f j h = go (ℕ-discrete j i)
   where
     go : Dec (j ≡ i) → getD (set xs i 0) j 0 ≡ 0

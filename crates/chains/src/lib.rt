@@ -1,6 +1,6 @@
-// Chains of halves: every line of a subgraph stands twice, in the chain of each of its ends. A half is a line in one sense, by its number: twice
-// the line's number, one more against its sense. A chain has a mark's first half in head, and the half after each in next, by half; 0 ends it.
-// Of each half ends has the length of its line and the mark it leads to, length * HALVES + mark.
+// Chains of halves: every line of a subgraph stands twice, in the chain of each of its ends. A half is a line in one sense, by its number:
+// twice the line's number, one more against its sense. head has the first half of each mark's chain, next the half that follows each half;
+// 0 is no half. ends has of each half the length of its line and the mark that it leads to, length * HALVES + mark.
 ghost use mathlib.Core.Path.{_≡_};
 ghost use Prim.Native.Nat.{ℕ, _+_, _*_, _<_, _≤_};
 ghost use lib.ListN.{length, getD};
@@ -26,7 +26,8 @@ pub fn zero(a: &mut [u64], n: usize)
 
 // The half h goes in front of the chain of the mark m.
 fn link(head: &mut [u64], next: &mut [u64], m: usize, h: usize)
-    requires { ⌜ m < length (now head) ⌝ ∗ ⌜ h < length (now next) ⌝ }
+    requires { ⌜ m < length (now head) ⌝
+        ∗ ⌜ h < length (now next) ⌝ }
     ensures { λ _. ⌜ Linked (now (head .entry)) (now (next .entry)) (now (head .exit)) (now (next .exit)) m h ⌝ }
 {
     next[h] = head[m];
@@ -35,7 +36,8 @@ fn link(head: &mut [u64], next: &mut [u64], m: usize, h: usize)
 
 // The line of this number joins what the chains hold: each of its halves at the mark that it leaves, to which the other leads.
 pub fn join(ends: &[u64], head: &mut [u64], next: &mut [u64], n: usize, number: usize)
-    requires { ⌜ Fits n (now ends) number ⌝ ∗ ⌜ RoomChains n (now head) (now next) ⌝ }
+    requires { ⌜ Fits n (now ends) number ⌝
+        ∗ ⌜ RoomChains n (now head) (now next) ⌝ }
     ensures { λ _. ⌜ Joined (now (ends .entry)) (now (head .entry)) (now (next .entry)) (now (head .exit)) (now (next .exit)) number ⌝ }
 {
     let h = number * 2;

@@ -1,5 +1,5 @@
--- The tree's entries, read from its tables: `order` has the marks as they enter, `best` of each mark its distance and the line it came in by.
--- Assumes nothing.
+-- The tree's entries, read from its tables: `order` has the marks as they enter, `best` of each mark its distance and the line it came
+-- in by. Assumes nothing.
 use Prim.Native.Nat.{ℕ, _/_, _%_, _≤_, _<_}
 use mathlib.Core.Path.{_≡_}
 use mathlib.Core.List.{List}

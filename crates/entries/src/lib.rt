@@ -38,8 +38,11 @@ fn plant_in(
     b: usize,
     n: usize,
 )
-    requires { ⌜ Lines (now lines) b n ⌝ ∗ ⌜ b ≤ mostMarks ⌝ ∗ ⌜ RoomNet (b + 1) (now ends) (now head) (now next) ⌝
-        ∗ ⌜ RoomPlant (b + 1) (now best) (now seg) (now order) ⌝ ∗ ⌜ (b ≤ length (now marks)) × (b ≤ length (now came)) ⌝ }
+    requires { ⌜ Lines (now lines) b n ⌝
+        ∗ ⌜ b ≤ mostMarks ⌝
+        ∗ ⌜ RoomNet (b + 1) (now ends) (now head) (now next) ⌝
+        ∗ ⌜ RoomPlant (b + 1) (now best) (now seg) (now order) ⌝
+        ∗ ⌜ (b ≤ length (now marks)) × (b ≤ length (now came)) ⌝ }
     ensures { λ _. ⌜ Entered (now (marks .exit)) (now (came .exit)) (tree b (standing (now (lines .entry)))) ⌝
         ∗ ⌜ Growth (now (marks .exit)) (now (came .exit)) b n ⌝ }
 {
@@ -49,7 +52,9 @@ fn plant_in(
 
 // The tree of n lines on b marks.
 pub fn plant(lines: &[i64], marks: &mut [usize], came: &mut [usize], b: usize, n: usize)
-    requires { ⌜ Lines (now lines) b n ⌝ ∗ ⌜ b ≤ mostMarks ⌝ ∗ ⌜ (b ≤ length (now marks)) × (b ≤ length (now came)) ⌝ }
+    requires { ⌜ Lines (now lines) b n ⌝
+        ∗ ⌜ b ≤ mostMarks ⌝
+        ∗ ⌜ (b ≤ length (now marks)) × (b ≤ length (now came)) ⌝ }
     ensures { λ _. ⌜ Entered (now (marks .exit)) (now (came .exit)) (tree b (standing (now (lines .entry)))) ⌝
         ∗ ⌜ Growth (now (marks .exit)) (now (came .exit)) b n ⌝ }
 {

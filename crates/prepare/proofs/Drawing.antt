@@ -19,7 +19,7 @@ use Rattle.laws.specs.Range.{Between}
 use Rattle.book.specs.Good.{GoodLine}
 use Rattle.chains.specs.Chains.{Half, fore, aft, markOf, metresOf, Bounded, Told, Drawn, Sound, AllSound, halves, numberLimit}
 use Rattle.chains.specs.Link.{RoomChains, Fits, Joined, Wider}
-use Rattle.chains.proofs.Halves.{half-no, half-ok, told-mark, told-metres}
+use Rattle.chains.proofs.Halves.{half-no, told-mark}
 use Rattle.chains.proofs.Laws.{join-draws, draws-none}
 use Rattle.prepare.specs.Drawn.{Entry, endOf, Drew, withdrawn, drawn, Sheet, BookDrawn}
 
@@ -69,7 +69,9 @@ abbrev pub from-on : List ℤ → ℕ → List Line
 from-on ls j = standingFrom (suc j) (drop (5 * j) ls)
 
 abbrev pub lineAt : List ℤ → ℕ → Line
-lineAt ls j = line (suc j) (natAbs (getD ls (5 * j) (pos 0))) (natAbs (getD ls (suc (5 * j)) (pos 0))) (getD ls (suc (suc (5 * j))) (pos 0)) (natAbs (getD ls (suc (suc (suc (5 * j)))) (pos 0)))
+lineAt ls j =
+    line (suc j) (natAbs (getD ls (5 * j) (pos 0))) (natAbs (getD ls (suc (5 * j)) (pos 0))) (getD ls (suc (suc (5 * j))) (pos 0))
+    (natAbs (getD ls (suc (suc (suc (5 * j)))) (pos 0)))
 
 short-none : (k : ℕ) (xs : List ℤ) → length xs < 5 → standingFrom k xs ≡ []
 unfolding standingFrom
@@ -91,7 +93,8 @@ module _ (n : ℕ) (ls : List ℤ) where
     pub drawn : Drawn (standingFrom (suc j) (drop (5 * j) ls)) n head next
     pub told : Told (standingFrom (suc j) (drop (5 * j) ls)) ends
     pub numbered : (l : Line) → List·Memᴰ l (standingFrom (suc j) (drop (5 * j) ls)) → (j < l .number) × (l .number ≤ length ls / 5)
-    pub lineOf : (i : ℕ) → i < numberLimit → 0 < getD ends (i * 2) 0 → (l : Line) × List·Memᴰ l (standingFrom (suc j) (drop (5 * j) ls)) × (l .number ≡ i)
+    pub lineOf : (i : ℕ) → i < numberLimit → 0 < getD ends (i * 2) 0
+        → (l : Line) × List·Memᴰ l (standingFrom (suc j) (drop (5 * j) ls)) × (l .number ≡ i)
 
   pub draw-start : (ends head next : List ℕ) → 0 < n → halves ≤ length ends → RoomChains n head next
       → ((i : ℕ) → i < halves → getD ends i 0 ≡ 0) → ((i : ℕ) → i < n → getD head i 0 ≡ 0) → DrawingAt (length ls / 5) ends head next
@@ -112,7 +115,8 @@ module _ (n : ℕ) (ls : List ℤ) where
 
   -- ---- one line more
 
-  module _ (j : ℕ) (ends head next ends′ head′ next′ : List ℕ) (lt : suc j ≤ length ls / 5) (few : length ls / 5 + 1 < numberLimit) (few-marks : n ≤ halves)
+  module _ (j : ℕ) (ends head next ends′ head′ next′ : List ℕ) (lt : suc j ≤ length ls / 5) (few : length ls / 5 + 1 < numberLimit)
+      (few-marks : n ≤ halves)
       (pos-n : 0 < n) (room : RoomChains n head next) (good : GoodLine (n - 1) ls j) (d : DrawingAt (suc j) ends head next) where
     abbrev e : List ℤ
     e = take 5 (drop (j * 5) ls)
@@ -120,13 +124,17 @@ module _ (n : ℕ) (ls : List ℤ) where
     at-word : (k : ℕ) → k < 5 → (i : ℕ) → i ≡ j * 5 + k → getD (take 5 (drop (j * 5) ls)) k (pos 0) ≡ getD ls i (pos 0)
     at-word k h i q = word ls j k h ∙ ap (λ (x : ℕ). getD ls x (pos 0)) (sym q)
 
-    rest-is : (b : ℕ) → b ≡ suc (suc (suc (suc (suc (5 * j))))) → standingFrom (suc (suc j)) (drop b ls) ≡ standingFrom (suc (suc j)) (drop (5 * suc j) ls)
+    rest-is : (b : ℕ) → b ≡ suc (suc (suc (suc (suc (5 * j)))))
+        → standingFrom (suc (suc j)) (drop b ls) ≡ standingFrom (suc (suc j)) (drop (5 * suc j) ls)
     rest-is b q = let z : b ≡ 5 * suc j = omega arith in ap (λ (x : ℕ). standingFrom (suc (suc j)) (drop x ls)) z
 
-    clause : standingFrom (suc j) (drop (5 * j) ls) ≡ keep (getD (take 5 (drop (j * 5) ls)) 4 (pos 0)) (lineAt ls j) (standingFrom (suc (suc j)) (drop (5 * suc j) ls))
+    clause : standingFrom (suc j) (drop (5 * j) ls) ≡ keep (getD (take 5 (drop (j * 5) ls)) 4 (pos 0)) (lineAt ls j)
+        (standingFrom (suc (suc j)) (drop (5 * suc j) ls))
     clause = standing-clause (suc j) j ls (omega arith)
-        ∙ ap (λ (x : List Line). keep (getD ls (suc (suc (suc (suc (5 * j))))) (pos 0)) (lineAt ls j) x) (rest-is (suc (suc (suc (suc (suc (5 * j)))))) refl)
-        ∙ ap (λ (x : ℤ). keep x (lineAt ls j) (standingFrom (suc (suc j)) (drop (5 * suc j) ls))) (sym (at-word 4 (lit< tt) (suc (suc (suc (suc (5 * j))))) (omega arith)))
+        ∙ ap (λ (x : List Line). keep (getD ls (suc (suc (suc (suc (5 * j))))) (pos 0)) (lineAt ls j) x)
+        (rest-is (suc (suc (suc (suc (suc (5 * j)))))) refl)
+        ∙ ap (λ (x : ℤ). keep x (lineAt ls j) (standingFrom (suc (suc j)) (drop (5 * suc j) ls)))
+        (sym (at-word 4 (lit< tt) (suc (suc (suc (suc (5 * j))))) (omega arith)))
 
     -- a withdrawn line
     skipped : eqZ (getD (take 5 (drop (j * 5) ls)) 4 (pos 0)) (pos 0) ≡ true → DrawingAt j ends head next
@@ -140,7 +148,9 @@ module _ (n : ℕ) (ls : List ℤ) where
     }
       where
         same-lines : standingFrom (suc j) (drop (5 * j) ls) ≡ standingFrom (suc (suc j)) (drop (5 * suc j) ls)
-        same-lines = clause ∙ keep-out (getD (take 5 (drop (j * 5) ls)) 4 (pos 0)) (lineAt ls j) (standingFrom (suc (suc j)) (drop (5 * suc j) ls)) w
+        same-lines =
+            clause ∙ keep-out (getD (take 5 (drop (j * 5) ls)) 4 (pos 0)) (lineAt ls j)
+            (standingFrom (suc (suc j)) (drop (5 * suc j) ls)) w
 
     -- a standing line
     from-is : natAbs (getD (take 5 (drop (j * 5) ls)) 0 (pos 0)) ≡ lineAt ls j .from
@@ -164,7 +174,9 @@ module _ (n : ℕ) (ls : List ℤ) where
       from-high = omega (arith, from-is, g .from .high);
       to-low = omega (arith, to-is, g .to .low);
       to-high = omega (arith, to-is, g .to .high);
-      apart = λ z. apart-of (getD (take 5 (drop (j * 5) ls)) 0 (pos 0)) (getD (take 5 (drop (j * 5) ls)) 1 (pos 0)) (g .from) (g .to) (g .apart) (from-is ∙ z ∙ sym to-is);
+      apart =
+          λ z. apart-of (getD (take 5 (drop (j * 5) ls)) 0 (pos 0)) (getD (take 5 (drop (j * 5) ls)) 1 (pos 0)) (g .from) (g .to)
+          (g .apart) (from-is ∙ z ∙ sym to-is);
       long = omega (arith, length-is, g .long .low);
       short = omega (arith, length-is, g .long .high);
       numbered = omega arith;
@@ -184,25 +196,34 @@ module _ (n : ℕ) (ls : List ℤ) where
       new-from = endOf (take 5 (drop (j * 5) ls)) 0
 
       more-lines : standingFrom (suc j) (drop (5 * j) ls) ≡ lineAt ls j ∷ standingFrom (suc (suc j)) (drop (5 * suc j) ls)
-      more-lines = clause ∙ keep-in (getD (take 5 (drop (j * 5) ls)) 4 (pos 0)) (lineAt ls j) (standingFrom (suc (suc j)) (drop (5 * suc j) ls)) (g .standing) st
+      more-lines =
+          clause ∙ keep-in (getD (take 5 (drop (j * 5) ls)) 4 (pos 0)) (lineAt ls j) (standingFrom (suc (suc j)) (drop (5 * suc j) ls))
+          (g .standing) st
 
       ends-other : (h : ℕ) → (h ≡ suc j * 2 → ⊥) → (h ≡ suc j * 2 + 1 → ⊥) → getD ends′ h 0 ≡ getD ends h 0
-      ends-other h a b = rw en (getD-set-other (set ends (suc j * 2) new-to) (suc j * 2 + 1) h new-from 0 b ∙ getD-set-other ends (suc j * 2) h new-to 0 a)
+      ends-other h a b =
+          rw en (getD-set-other (set ends (suc j * 2) new-to) (suc j * 2 + 1) h new-from 0 b
+          ∙ getD-set-other ends (suc j * 2) h new-to 0 a)
 
       ends-to : getD ends′ (suc j * 2) 0 ≡ lineAt ls j .length * halves + lineAt ls j .to
       ends-to = rw en (getD-set-other (set ends (suc j * 2) new-to) (suc j * 2 + 1) (suc j * 2) new-from 0 (λ q. omega arith)
           ∙ getD-set-same ends (suc j * 2) new-to 0 (omega (arith, d .bounded .ends-at)) ∙ omega (arith, length-is, to-is))
 
       ends-from : getD ends′ (suc j * 2 + 1) 0 ≡ lineAt ls j .length * halves + lineAt ls j .from
-      ends-from = rw en (getD-set-same (set ends (suc j * 2) new-to) (suc j * 2 + 1) new-from 0 (simp length-set (omega (arith, d .bounded .ends-at)))
+      ends-from =
+          rw en (getD-set-same (set ends (suc j * 2) new-to) (suc j * 2 + 1) new-from 0
+          (simp length-set (omega (arith, d .bounded .ends-at)))
           ∙ omega (arith, length-is, from-is))
 
       told-new : (u v h : ℕ) → Half (lineAt ls j) u v h → getD ends′ h 0 ≡ lineAt ls j .length * halves + v
-      told-new u v h (fore p q z) = let w : h ≡ suc j * 2 = omega arith in ap (λ (x : ℕ). getD ends′ x 0) w ∙ ends-to ∙ ap (λ (x : ℕ). lineAt ls j .length * halves + x) q
-      told-new u v h (aft p q z) = let w : h ≡ suc j * 2 + 1 = omega arith in ap (λ (x : ℕ). getD ends′ x 0) w ∙ ends-from ∙ ap (λ (x : ℕ). lineAt ls j .length * halves + x) q
+      told-new u v h (fore p q z) = let w : h ≡ suc j * 2 = omega arith in ap (λ (x : ℕ). getD ends′ x 0) w ∙ ends-to
+          ∙ ap (λ (x : ℕ). lineAt ls j .length * halves + x) q
+      told-new u v h (aft p q z) = let w : h ≡ suc j * 2 + 1 = omega arith in ap (λ (x : ℕ). getD ends′ x 0) w ∙ ends-from
+          ∙ ap (λ (x : ℕ). lineAt ls j .length * halves + x) q
 
       ends-old : (l : Line) (u v h : ℕ) → List·Memᴰ l rest → Half l u v h → getD ends′ h 0 ≡ getD ends h 0
-      ends-old l u v h i hf = let num = d .numbered l i in let no = half-no hf in ends-other h (λ q. omega (arith, num .0, no .0)) (λ q. omega (arith, num .0, no .0))
+      ends-old l u v h i hf = let num = d .numbered l i in let no = half-no hf in ends-other h (λ q. omega (arith, num .0, no .0))
+          (λ q. omega (arith, num .0, no .0))
 
       along-it : Half (lineAt ls j) (lineAt ls j .from) (lineAt ls j .to) (suc j * 2)
       along-it = fore refl refl (omega arith)
@@ -226,7 +247,8 @@ module _ (n : ℕ) (ls : List ℤ) where
         };
         sound = rw more-lines (λ l i. sounds l i);
         drawn = rw more-lines (join-draws rest (lineAt ls j ∷ rest) (lineAt ls j) (d .sound) fresh wider
-            (λ k i q. omega (arith, d .numbered k i .0)) (told-mark ends′ fresh few-marks against-it ends-from) (told-mark ends′ fresh few-marks along-it ends-to)
+            (λ k i q. omega (arith, d .numbered k i .0)) (told-mark ends′ fresh few-marks against-it ends-from)
+            (told-mark ends′ fresh few-marks along-it ends-to)
             room jn (d .drawn .heads) (d .drawn .chains));
         told = rw more-lines (λ l u v h i hf. told l u v h i hf);
         numbered = rw more-lines (λ l i. numbered l i);
@@ -248,23 +270,27 @@ module _ (n : ℕ) (ls : List ℤ) where
           sounds l (List·Memᴰ·tail i) = d .sound l i
 
           told : (l : Line) (u v h : ℕ) → List·Memᴰ l (lineAt ls j ∷ rest) → Half l u v h → getD ends′ h 0 ≡ l .length * halves + v
-          told l u v h (List·Memᴰ·head q) hf = told-new u v h (subst (λ (z : Line). Half z u v h) q hf) ∙ ap (λ (z : Line). z .length * halves + v) (sym q)
+          told l u v h (List·Memᴰ·head q) hf =
+              told-new u v h (subst (λ (z : Line). Half z u v h) q hf) ∙ ap (λ (z : Line). z .length * halves + v) (sym q)
           told l u v h (List·Memᴰ·tail i) hf = ends-old l u v h i hf ∙ d .told l u v h i hf
 
           numbered : (l : Line) → List·Memᴰ l (lineAt ls j ∷ rest) → (j < l .number) × (l .number ≤ length ls / 5)
           numbered l (List·Memᴰ·head q) = (omega (arith, ap (λ (z : Line). z .number) q), omega (arith, ap (λ (z : Line). z .number) q))
           numbered l (List·Memᴰ·tail i) = (omega (arith, d .numbered l i .0), d .numbered l i .1)
 
-          lineOf : (i : ℕ) → i < numberLimit → 0 < getD ends′ (i * 2) 0 → Dec (i ≡ suc j) → (l : Line) × List·Memᴰ l (lineAt ls j ∷ rest) × (l .number ≡ i)
+          lineOf : (i : ℕ) → i < numberLimit → 0 < getD ends′ (i * 2) 0 → Dec (i ≡ suc j)
+              → (l : Line) × List·Memᴰ l (lineAt ls j ∷ rest) × (l .number ≡ i)
           lineOf i l h (yes q) = (lineAt ls j, List·Memᴰ·head refl, sym q)
           lineOf i l h (no q) =
-              let w = d .lineOf i l (omega (arith, h, ends-other (i * 2) (λ z. omega arith) (λ z. omega arith))) in (w .0, List·Memᴰ·tail (w .1), w .2)
+              let w = d .lineOf i l (omega (arith, h, ends-other (i * 2) (λ z. omega arith) (λ z. omega arith))) in
+              (w .0, List·Memᴰ·tail (w .1), w .2)
 
     pub draw-next : Drew (suc j) (take 5 (drop (j * 5) ls)) ends head next ends′ head′ next′ → DrawingAt j ends′ head′ next′
     draw-next (withdrawn w ei eh ex) = rw (ei, eh, ex) (skipped w)
     draw-next (drawn w ei jn) = stands w ei jn
 
-  pub draw-end : (j : ℕ) (ends head next : List ℕ) → length ls / 5 + 1 < numberLimit → n ≤ halves → j ≡ 0 → DrawingAt j ends head next → BookDrawn n ls ends head next
+  pub draw-end : (j : ℕ) (ends head next : List ℕ) → length ls / 5 + 1 < numberLimit → n ≤ halves → j ≡ 0 → DrawingAt j ends head next
+      → BookDrawn n ls ends head next
   draw-end j ends head next room few-marks z d = record {
     bounded = d .bounded;
     heads = d .drawn .heads;
@@ -318,7 +344,8 @@ module _ (n : ℕ) (ls : List ℤ) (j : ℕ) (ends head next ends₀ head₀ nex
     chains = room;
   }
 
-  pub draw-turn : (ends′ head′ next′ : List ℕ) → Drew j (take ((j - 1) * 5 + 5 - (j - 1) * 5) (drop ((j - 1) * 5) ls)) ends head next ends′ head′ next′
+  pub draw-turn : (ends′ head′ next′ : List ℕ) → Drew j
+      (take ((j - 1) * 5 + 5 - (j - 1) * 5) (drop ((j - 1) * 5) ls)) ends head next ends′ head′ next′
       → DrawingAt n ls (j - 1) ends′ head′ next′
   draw-turn ends′ head′ next′ dr =
       draw-next n ls (j - 1) ends head next ends′ head′ next′ (omega arith) (sh .few) (sh .few-marks) (sh .some-mark) room good-at
@@ -340,7 +367,8 @@ module _ {n number : ℕ} {e : List ℤ} {ends head next : List ℕ} (en : Entry
     from-ok = omega (
       arith,
       entry-short,
-      getD-set-same (set ends (number * 2) (l * halves + t)) (number * 2 + 1) (l * halves + f) 0 (simp length-set (omega (arith, en .ends-at, en .number-ok))),
+      getD-set-same (set ends (number * 2) (l * halves + t)) (number * 2 + 1) (l * halves + f) 0
+          (simp length-set (omega (arith, en .ends-at, en .number-ok))),
       en .few-marks,
     );
     to-ok = omega (

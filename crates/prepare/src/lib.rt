@@ -53,7 +53,9 @@ pub fn plant_book(
     order: &mut [u64],
     n: usize,
 )
-    requires { ⌜ Good n (now lines) ⌝ ∗ ⌜ RoomNet n (now ends) (now head) (now next) ⌝ ∗ ⌜ RoomPlant n (now best) (now seg) (now order) ⌝ }
+    requires { ⌜ Good n (now lines) ⌝
+        ∗ ⌜ RoomNet n (now ends) (now head) (now next) ⌝
+        ∗ ⌜ RoomPlant n (now best) (now seg) (now order) ⌝ }
     ensures { λ _. ⌜ BookPlanted n (now (lines .entry)) (now (ends .exit)) (now (best .exit)) (now (order .exit)) ⌝ }
 {
     draw_book(lines, ends, head, next, n);

@@ -1,5 +1,5 @@
 -- Where the least line at a mark leads to the mark that is asked for, it is the whole path: it is the first to enter. Assumes nothing.
-use Prim.Native.Nat.{ℕ, suc, _+_, _*_, _-_, _%_, _≤_, _<_}
+use Prim.Native.Nat.{ℕ, _+_, _*_, _-_, _%_, _≤_, _<_}
 use native.Mathlib.Omega.{arith}
 use native.Mathlib.Nat.{zero-add}
 use native.Mathlib.Decide.{ℕ-discrete}
@@ -118,7 +118,8 @@ module _ (n : ℕ) (head next ends : List ℕ) (r to s : ℕ) (two : Two n r to)
         hit (old p q) = never (sym q ∙ h) refl
 
     -- no candidate is before it
-    before : (k : Line) (t : ℕ) → List·Memᴰ k sub → score (entry r 0 none ∷ []) k ≡ some t → (nd .l .length < t) ⊎ ((nd .l .length ≡ t) × (nd .l .number ≤ k .number))
+    before : (k : Line) (t : ℕ) → List·Memᴰ k sub → score (entry r 0 none ∷ []) k ≡ some t
+        → (nd .l .length < t) ⊎ ((nd .l .length ≡ t) × (nd .l .number ≤ k .number))
     before k t i q = go (scored (entry r 0 none ∷ []) k t q)
       where
         go : Scored (entry r 0 none ∷ []) k t → (nd .l .length < t) ⊎ ((nd .l .length ≡ t) × (nd .l .number ≤ k .number))
@@ -127,9 +128,11 @@ module _ (n : ℕ) (head next ends : List ℕ) (r to s : ℕ) (two : Two n r to)
             let e = ends-half (sc .ends) in
             let has = has-on gv k (sc .near) (sc .away) (e .0) i (e .1) in
             let on : On next (getD head r 0) (has .h) = subst (λ (z : ℕ). On next (getD head z 0) (has .h)) (u .0) (has .on) in
-            cmp (has .h) (e .0) (ls .under (has .h) on) (has .sum) (omega (arith, sc .sum, u .1)) (half-no (e .1)) (half-low (gv .sound k i) (e .1)) (ℕ-discrete (nd .l .length) t)
+            cmp (has .h) (e .0) (ls .under (has .h) on) (has .sum) (omega (arith, sc .sum, u .1)) (half-no (e .1))
+            (half-low (gv .sound k i) (e .1)) (ℕ-discrete (nd .l .length) t)
           where
-            cmp : (j g : ℕ) → s ≤ sumOf ends j → sumOf ends j ≡ k .length * halves + g → t ≡ k .length → (2 * k .number ≤ g) × (g ≤ 2 * k .number + 1) → g < halves
+            cmp : (j g : ℕ) → s ≤ sumOf ends j → sumOf ends j ≡ k .length * halves + g → t ≡ k .length
+                → (2 * k .number ≤ g) × (g ≤ 2 * k .number + 1) → g < halves
                 → Dec (nd .l .length ≡ t) → (nd .l .length < t) ⊎ ((nd .l .length ≡ t) × (nd .l .number ≤ k .number))
             cmp j g a b c near w (yes z) = inr (z, omega (arith, sum .its, nd .sum, half-no half .0, near .1))
             cmp j g a b c near w (no z) = inl (omega (arith, sum .its, nd .sum))
@@ -141,7 +144,8 @@ module _ (n : ℕ) (head next ends : List ℕ) (r to s : ℕ) (two : Two n r to)
         ∙ step-some sub (r ∷ []) (entry r 0 none ∷ []) (candidate (nd .l .length) (nd .l))
         (lowest-is (entry r 0 none ∷ []) sub (gv .rising) (nd .l) (nd .l .length) (nd .isLine)
         (score-of (entry r 0 none ∷ []) (nd .l) r to 0 (half-ends half) root-in to-out ∙ ap some (zero-add (nd .l .length))) before)
-        ∙ ap (λ (z : ℕ). entry z (nd .l .length) (some (nd .l)) ∷ entry r 0 none ∷ []) (far-half (entry r 0 none ∷ []) (nd .l) r to (sum .h) 0 half root-in to-out)
+        ∙ ap (λ (z : ℕ). entry z (nd .l .length) (some (nd .l)) ∷ entry r 0 none ∷ [])
+        (far-half (entry r 0 none ∷ []) (nd .l) r to (sum .h) 0 half root-in to-out)
 
     to-in : distance (grow sub (r ∷ []) 2) to ≡ some (nd .l .length)
     to-in = ap (λ (t : Tree). distance t to) at-two ∙ hit (after (entry to (nd .l .length) (some (nd .l))) (entry r 0 none ∷ []) to)
@@ -167,7 +171,8 @@ module _ (n : ℕ) (head next ends : List ℕ) (r to s : ℕ) (two : Two n r to)
     way-back =
         ap (λ (t : Tree). lineage t to) at-two
         ∙ lineage-new (entry to (nd .l .length) (some (nd .l))) (entry r 0 none ∷ []) to refl
-        ∙ ap (λ (z : ℕ). back (nd .l) to ∷ lineage (entry r 0 none ∷ []) z) (other-half (nd .l) r to (sum .h) (gv .sound (nd .l) (nd .isLine)) half)
+        ∙ ap (λ (z : ℕ). back (nd .l) to ∷ lineage (entry r 0 none ∷ []) z)
+        (other-half (nd .l) r to (sum .h) (gv .sound (nd .l) (nd .isLine)) half)
         ∙ ap (λ (w : List Pass). back (nd .l) to ∷ w) (lineage-new (entry r 0 none) [] r refl)
 
     direct-is : codes (shortest (n - 1) sub to r) ≡ flip (s % halves) ∷ []
@@ -191,7 +196,8 @@ two-marks n r to two = go (ℕ-discrete r to)
     go (yes e) = absurd (two .apart e)
     go (no e) = omega (arith, two .r-ok, two .to-ok)
 
-pub direct-written : (n r to : ℕ) (ps : List Pass) (out : List ℕ) (h : ℕ) → Two n r to → codes ps ≡ h ∷ [] → Written n ps out (set out 0 h) 1
+pub direct-written : (n r to : ℕ) (ps : List Pass) (out : List ℕ) (h : ℕ) → Two n r to → codes ps ≡ h ∷ []
+    → Written n ps out (set out 0 h) 1
 unfolding codes
 direct-written n r to ps out h two e = record { places = ap (sets out 0) (sym e); count = count ps e; few = two-marks n r to two }
   where

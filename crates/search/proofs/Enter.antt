@@ -25,7 +25,8 @@ use Rattle.search.specs.Front as f
 -- ---- the lowest candidate, by what it is
 
 pub lowest-is : (es : Tree) (lines : List Line) → Rising lines → (l : Line) (s : ℕ) → List·Memᴰ l lines → score es l ≡ some s
-    → ((k : Line) (t : ℕ) → List·Memᴰ k lines → score es k ≡ some t → (s < t) ⊎ ((s ≡ t) × (l .number ≤ k .number))) → lowest es lines ≡ some (candidate s l)
+    → ((k : Line) (t : ℕ) → List·Memᴰ k lines → score es k ≡ some t → (s < t) ⊎ ((s ≡ t) × (l .number ≤ k .number)))
+    → lowest es lines ≡ some (candidate s l)
 lowest-is es lines ris l s m e f = go (lowest es lines) refl
   where
     go : (o : Option Candidate) → lowest es lines ≡ o → o ≡ some (candidate s l)
@@ -43,7 +44,8 @@ lowest-is es lines ris l s m e f = go (lowest es lines) refl
         pick (inl lt) = absurd (omega (arith, w .least l s m e))
         pick (inr (a, b)) = is (sym a) (lowest-first es lines ris c x l m (e ∙ ap some a)) b
 
-pub lowest-gone : (es : Tree) (lines : List Line) → ((k : Line) (t : ℕ) → List·Memᴰ k lines → score es k ≡ some t → ⊥) → lowest es lines ≡ none
+pub lowest-gone : (es : Tree) (lines : List Line) → ((k : Line) (t : ℕ) → List·Memᴰ k lines → score es k ≡ some t → ⊥)
+    → lowest es lines ≡ none
 lowest-gone es lines f = go (lowest es lines) refl
   where
     go : (o : Option Candidate) → lowest es lines ≡ o → o ≡ none
@@ -55,7 +57,8 @@ unfolding far
 far-half es l u v h d (fore p q e) a b = rw (p, a) q
 far-half es l u v h d (aft p q e) a b = rw (q, b)
 
-pub step-some : (lines : List Line) (roots : List ℕ) (es : Tree) (c : Candidate) → lowest es lines ≡ some c → step lines roots es ≡ entry (far es (c .line)) (c .score) (some (c .line)) ∷ es
+pub step-some : (lines : List Line) (roots : List ℕ) (es : Tree) (c : Candidate) → lowest es lines ≡ some c
+    → step lines roots es ≡ entry (far es (c .line)) (c .score) (some (c .line)) ∷ es
 unfolding step
 step-some lines roots es c h = rw h
 
@@ -79,7 +82,8 @@ module _ (sub : List Line) (n : ℕ) (es : Tree) (best seg ends : List ℕ) (ris
     (heap : Heap seg n) (fr : Front sub n es best seg ends Nothing)
     (near : (m d : ℕ) → distance es m ≡ some d → d ≤ 100000000) where
   -- each line with a score has a leaf no higher than its key
-  scored-under : (k : Line) (t : ℕ) → List·Memᴰ k sub → score es k ≡ some t → (h : ℕ) × (getD seg 1 0 ≤ t * halves + h) × (h ≤ 2 * k .number + 1) × (t * halves + h < limit) × (h < halves)
+  scored-under : (k : Line) (t : ℕ) → List·Memᴰ k sub → score es k ≡ some t
+      → (h : ℕ) × (getD seg 1 0 ≤ t * halves + h) × (h ≤ 2 * k .number + 1) × (t * halves + h < limit) × (h < halves)
   scored-under k t m e =
       let w = scored es k t e in
       let hh = ends-half (w .ends) in
@@ -88,8 +92,13 @@ module _ (sub : List Line) (n : ℕ) (es : Tree) (best seg ends : List ℕ) (ris
       let num = half-no (hh .1) in
       let o = fr .opened (w .away) (ok .1) (w .isOut) in
       let r = root-least seg n heap (w .away) (ok .1) in
-      let bound = go (fr .under k (w .near) (w .away) (hh .0) (w .d) m (hh .1) (w .isIn) (w .isOut)) in
-      (hh .0, omega (arith, o, r, bound, w .sum), num .1, omega (arith, w .sum, low, near (w .near) (w .d) (w .isIn), sound k m .short), low)
+      let bound = go (fr .under k (w .near) (w .away) (hh .0) (w .d) m (hh .1) (w .isIn) (w .isOut)) in (
+        hh .0,
+        omega (arith, o, r, bound, w .sum),
+        num .1,
+        omega (arith, w .sum, low, near (w .near) (w .d) (w .isIn), sound k m .short),
+        low,
+      )
     where
       go : {x y : ℕ} → ⊥ ⊎ (x ≤ y) → x ≤ y
       go (inl z) = absurd z
@@ -104,11 +113,13 @@ module _ (sub : List Line) (n : ℕ) (es : Tree) (best seg ends : List ℕ) (ris
       key : ℕ
       key = getD seg 1 0
 
-      made : (m : ℕ) → m < n → getD seg 1 0 ≡ getD best m 0 → distance es m ≡ none → Offer sub es best m → Pop sub n es best ends (getD seg 1 0)
+      made : (m : ℕ) → m < n → getD seg 1 0 ≡ getD best m 0 → distance es m ≡ none → Offer sub es best m
+          → Pop sub n es best ends (getD seg 1 0)
       made m ok e out o =
           let low : o .h < halves = half-low (sound (o .l) (o .isLine)) (o .half) in
           let hm : getD seg 1 0 % halves ≡ o .h = omega (arith, e, o .key) in
-          let tm : markOf ends (getD seg 1 0 % halves) ≡ m = ap (λ (z : ℕ). markOf ends z) hm ∙ marked (o .l) (o .u) m (o .h) (o .isLine) (o .half) in
+          let tm : markOf ends (getD seg 1 0 % halves) ≡ m = ap (λ (z : ℕ). markOf ends z) hm
+          ∙ marked (o .l) (o .u) m (o .h) (o .isLine) (o .half) in
           let sc : score es (o .l) ≡ some (o .d + o .l .length) = score-of es (o .l) (o .u) m (o .d) (half-ends (o .half)) (o .isIn) out in
           let num = half-no (o .half) in
           record {
@@ -122,10 +133,13 @@ module _ (sub : List Line) (n : ℕ) (es : Tree) (best seg ends : List ℕ) (ris
             small = rw tm ok;
             sum = omega (arith, e, o .key, hm);
             known = rw tm (sym e);
-            isLowest = lowest-is es sub ris (o .l) (o .d + o .l .length) (o .isLine) sc (λ k t i q. cmp k t (o .d + o .l .length) (o .h) low (num .0) (scored-under k t i q) (e ∙ o .key));
+            isLowest =
+                lowest-is es sub ris (o .l) (o .d + o .l .length) (o .isLine) sc
+                (λ k t i q. cmp k t (o .d + o .l .length) (o .h) low (num .0) (scored-under k t i q) (e ∙ o .key));
           }
         where
-          cmp : (k : Line) (t s h : ℕ) → h < halves → 2 * o .l .number ≤ h → (g : ℕ) × (getD seg 1 0 ≤ t * halves + g) × (g ≤ 2 * k .number + 1) × (t * halves + g < limit) × (g < halves)
+          cmp : (k : Line) (t s h : ℕ) → h < halves → 2 * o .l .number ≤ h
+              → (g : ℕ) × (getD seg 1 0 ≤ t * halves + g) × (g ≤ 2 * k .number + 1) × (t * halves + g < limit) × (g < halves)
               → getD seg 1 0 ≡ s * halves + h → (s < t) ⊎ ((s ≡ t) × (o .l .number ≤ k .number))
           cmp k t s h a b (g, c, i, j, w) e′ = dec (ℕ-discrete s t)
             where
@@ -133,7 +147,8 @@ module _ (sub : List Line) (n : ℕ) (es : Tree) (best seg ends : List ℕ) (ris
               dec (yes z) = inr (z, omega arith)
               dec (no z) = inl (omega arith)
 
-      hit : (m : ℕ) → m < n → getD seg 1 0 ≡ getD seg (n + m) 0 → (d : Option ℕ) → distance es m ≡ d → Pop sub n es best ends (getD seg 1 0)
+      hit : (m : ℕ) → m < n → getD seg 1 0 ≡ getD seg (n + m) 0 → (d : Option ℕ) → distance es m ≡ d
+          → Pop sub n es best ends (getD seg 1 0)
       hit m ok e (some d) x = absurd (omega (arith, fr .closed m d ok x))
       hit m ok e none x = pick (fr .offered m ok x)
         where
@@ -157,24 +172,28 @@ pub came-old : (e : Entry) (es : Tree) (m : ℕ) → (e .mark ≡ m → ⊥) →
 unfolding came
 came-old e es m h = rw (ne-eqb (e .mark) m h)
 
-pub by-old : (e : Entry) (es : Tree) (ends : List ℕ) (m d h : ℕ) → distance es (e .mark) ≡ none → (e .mark ≡ m → ⊥) → By es ends m d h → By (e ∷ es) ends m d h
+pub by-old : (e : Entry) (es : Tree) (ends : List ℕ) (m d h : ℕ) → distance es (e .mark) ≡ none → (e .mark ≡ m → ⊥) → By es ends m d h
+    → By (e ∷ es) ends m d h
 by-old e es ends m d h out x (f.root a b c) = f.root (came-old e es m x ∙ a) b c
 by-old e es ends m d h out x (f.line l u du a b c t i s) = f.line l u du (came-old e es m x ∙ a) b c t (keeps e es u du out i) s
 
 -- what the marks are known by stays, and the new one has its own
-pub keyed-enter : (es : Tree) (e : Entry) (best best′ ends : List ℕ) → distance es (e .mark) ≡ none → Keyed es best ends → Key (e ∷ es) best′ ends (e .mark) (e .dist)
+pub keyed-enter : (es : Tree) (e : Entry) (best best′ ends : List ℕ) → distance es (e .mark) ≡ none → Keyed es best ends
+    → Key (e ∷ es) best′ ends (e .mark) (e .dist)
     → ((m : ℕ) → (m ≡ e .mark → ⊥) → getD best′ m 0 ≡ getD best m 0) → Keyed (e ∷ es) best′ ends
 keyed-enter es e best best′ ends out held mine others m d h = go (after e es m)
   where
     go : After e es m → Key (e ∷ es) best′ ends m d
-    go (new p q) = subst (λ (z : ℕ). Key (e ∷ es) best′ ends z d) p (subst (λ (z : ℕ). Key (e ∷ es) best′ ends (e .mark) z) (same q h) mine)
+    go (new p q) =
+        subst (λ (z : ℕ). Key (e ∷ es) best′ ends z d) p (subst (λ (z : ℕ). Key (e ∷ es) best′ ends (e .mark) z) (same q h) mine)
     go (old p q) =
         let k = held m d (sym q ∙ h) in
         record { h = k .h; low = k .low; key = others m (λ z. p (sym z)) ∙ k .key; by = by-old e es ends m d (k .h) out p (k .by) }
 
 module _ (sub : List Line) (n : ℕ) (head next ends : List ℕ) (gv : Given sub n head next ends) (es : Tree) (e : Entry)
     (best seg best′ seg′ : List ℕ) (out : distance es (e .mark) ≡ none) (small : e .mark < n) where
-  pub front-enter : Front sub n es best seg ends Nothing → Key (e ∷ es) best′ ends (e .mark) (e .dist) → ((m : ℕ) → (m ≡ e .mark → ⊥) → getD best′ m 0 ≡ getD best m 0)
+  pub front-enter : Front sub n es best seg ends Nothing → Key (e ∷ es) best′ ends (e .mark) (e .dist)
+      → ((m : ℕ) → (m ≡ e .mark → ⊥) → getD best′ m 0 ≡ getD best m 0)
       → Changed seg seg′ n (e .mark) hp.far → Front sub n (e ∷ es) best′ seg′ ends (Rest next ends (e .mark) (getD head (e .mark) 0))
   front-enter fr mine others ch = record {
     inside = λ m d h. inside m d h (after e es m);
@@ -197,7 +216,8 @@ module _ (sub : List Line) (n : ℕ) (head next ends : List ℕ) (gv : Given sub
       opened m ok h (new p q) = never q h
       opened m ok h (old p q) = ch .others m ok (λ z. p (sym z)) ∙ fr .opened m ok (sym q ∙ h) ∙ sym (others m (λ z. p (sym z)))
 
-      lift : (m : ℕ) → (e .mark ≡ m → ⊥) → (getD best m 0 ≡ hp.far) ⊎ Offer sub es best m → (getD best′ m 0 ≡ hp.far) ⊎ Offer sub (e ∷ es) best′ m
+      lift : (m : ℕ) → (e .mark ≡ m → ⊥) → (getD best m 0 ≡ hp.far) ⊎ Offer sub es best m
+          → (getD best′ m 0 ≡ hp.far) ⊎ Offer sub (e ∷ es) best′ m
       lift m p (inl z) = inl (others m (λ z. p (sym z)) ∙ z)
       lift m p (inr o) = inr (record {
         l = o .l;
@@ -218,8 +238,10 @@ module _ (sub : List Line) (n : ℕ) (head next ends : List ℕ) (gv : Given sub
       bound p (inl z) = absurd z
       bound {v = v} p (inr z) = inr (omega (arith, z, others v (λ w. p (sym w))))
 
-      under : (l : Line) (u v h d : ℕ) → List·Memᴰ l sub → Half l u v h → distance (e ∷ es) u ≡ some d → distance (e ∷ es) v ≡ none → After e es u → After e es v
-          → (Rest next ends (e .mark) (getD head (e .mark) 0) u v (l .length * halves + h)) ⊎ (getD best′ v 0 ≤ (d + l .length) * halves + h)
+      under : (l : Line) (u v h d : ℕ) → List·Memᴰ l sub → Half l u v h → distance (e ∷ es) u ≡ some d → distance (e ∷ es) v ≡ none
+          → After e es u → After e es v
+          → (Rest next ends (e .mark) (getD head (e .mark) 0) u v (l .length * halves + h)) ⊎
+          (getD best′ v 0 ≤ (d + l .length) * halves + h)
       under l u v h d i j a b x (new p q) = never q b
       under l u v h d i j a b (new p q) (old p′ q′) =
           inl (sym p, subst (λ (z : ℕ). Has next ends (getD head z 0) v (l .length * halves + h)) (sym p) (has-on gv l u v h i j))
@@ -229,7 +251,8 @@ module _ (sub : List Line) (n : ℕ) (head next ends : List ℕ) (gv : Given sub
 
 module _ (sub : List Line) (n : ℕ) (head next ends : List ℕ) (gv : Given sub n head next ends) (es : Tree) (m dm : ℕ)
     (best seg best′ seg′ : List ℕ) (ok : m < n) (isIn : distance es m ≡ some dm)
-    (sound : AllSound n sub) (newest : (l : Line) (x h dx : ℕ) → List·Memᴰ l sub → Half l m x h → distance es x ≡ some dx → dx < dm + l .length)
+    (sound : AllSound n sub) (newest : (l : Line) (x h dx : ℕ) → List·Memᴰ l sub → Half l m x h → distance es x ≡ some dx
+    → dx < dm + l .length)
     (rx : Relaxed n next ends best seg best′ seg′ (getD head m 0) (dm * halves)) where
   pub front-relaxed : Front sub n es best seg ends (Rest next ends m (getD head m 0)) → Front sub n es best′ seg′ ends Nothing
   front-relaxed fr = record {
@@ -251,7 +274,8 @@ module _ (sub : List Line) (n : ℕ) (head next ends : List ℕ) (gv : Given sub
           let k = fr .keyed x d h in
           absurd (omega (arith, newest (nd .l) x j d (nd .isLine) hf h, val, lt, nd .sum, k .key, k .low))
 
-      opened : (x : ℕ) → x < n → distance es x ≡ none → Moved n next ends best seg best′ seg′ (getD head m 0) (dm * halves) x → getD seg′ (n + x) 0 ≡ getD best′ x 0
+      opened : (x : ℕ) → x < n → distance es x ≡ none → Moved n next ends best seg best′ seg′ (getD head m 0) (dm * halves) x
+          → getD seg′ (n + x) 0 ≡ getD best′ x 0
       opened x a h (still p q) = q ∙ fr .opened x a h ∙ sym p
       opened x a h (moved j on leads val lt s) = s
 

@@ -1,5 +1,5 @@
 -- Laws of `offer` and `relax`. Assumes nothing.
-use Prim.Native.Nat.{ℕ, suc, _+_, _*_, _-_, _≤_, _<_}
+use Prim.Native.Nat.{ℕ, _+_, _*_, _≤_, _<_}
 use native.Mathlib.Omega.{arith}
 use native.Mathlib.Decide.{ℕ-discrete}
 use mathlib.Core.Path.{_≡_, refl, sym, _∙_, ap, subst}
@@ -54,18 +54,32 @@ pub record Relaxing (n : ℕ) (next ends best seg best′ seg′ : List ℕ) (fi
   pub under : (j : ℕ) → On next first j → (On next i j) ⊎ (getD best′ (markOf ends j) 0 ≤ base + sumOf ends j)
   pub part : (j : ℕ) → On next i j → On next first j
 
-pub relax-start : (n : ℕ) (next ends best seg : List ℕ) (first base : ℕ) → Stage n best seg → Relaxing n next ends best seg best seg first base first
-relax-start n next ends best seg first base st = record { stage = st; each = λ m h. still refl refl; under = λ j o. inl o; part = λ j o. o }
+pub relax-start : (n : ℕ) (next ends best seg : List ℕ) (first base : ℕ) → Stage n best seg
+    → Relaxing n next ends best seg best seg first base first
+relax-start n next ends best seg first base st = record {
+  stage = st;
+  each = λ m h. still refl refl;
+  under = λ j o. inl o;
+  part = λ j o. o;
+}
 
-pub relax-end : (n : ℕ) (next ends best seg best′ seg′ : List ℕ) (first base i : ℕ) → Relaxing n next ends best seg best′ seg′ first base i → i ≤ 0
+pub relax-end : (n : ℕ) (next ends best seg best′ seg′ : List ℕ) (first base i : ℕ)
+    → Relaxing n next ends best seg best′ seg′ first base i → i ≤ 0
     → Relaxed n next ends best seg best′ seg′ first base
-relax-end n next ends best seg best′ seg′ first base i x z = record { stage = x .stage; each = x .each; under = λ j o. go j (x .under j o) }
+relax-end n next ends best seg best′ seg′ first base i x z = record {
+  stage = x .stage;
+  each = x .each;
+  under = λ j o. go j
+      (x .under j o);
+}
   where
-    go : (j : ℕ) → (On next i j) ⊎ (getD best′ (markOf ends j) 0 ≤ base + sumOf ends j) → getD best′ (markOf ends j) 0 ≤ base + sumOf ends j
+    go : (j : ℕ) → (On next i j) ⊎ (getD best′ (markOf ends j) 0 ≤ base + sumOf ends j)
+        → getD best′ (markOf ends j) 0 ≤ base + sumOf ends j
     go j (inl o) = on-zero (omega arith) o
     go j (inr h) = h
 
-module _ (n : ℕ) (next ends best seg b₁ s₁ b₂ s₂ : List ℕ) (first base i : ℕ) (x : Relaxing n next ends best seg b₁ s₁ first base i) (pos : 0 < i)
+module _ (n : ℕ) (next ends best seg b₁ s₁ b₂ s₂ : List ℕ) (first base i : ℕ) (x : Relaxing n next ends best seg b₁ s₁ first base i)
+    (pos : 0 < i)
     (lt : markOf ends i < n) (y : Offered n b₁ s₁ b₂ s₂ (markOf ends i) (base + sumOf ends i)) where
   each-next : (m : ℕ) → m < n → Moved n next ends best seg b₁ s₁ first base m → Offered n b₁ s₁ b₂ s₂ (markOf ends i) (base + sumOf ends i)
       → Moved n next ends best seg b₂ s₂ first base m
@@ -102,13 +116,15 @@ module _ (n : ℕ) (next ends best seg b₁ s₁ b₂ s₂ : List ℕ) (first ba
       hit j (inl e) = inr (rw e (offered-at n b₁ s₁ b₂ s₂ (markOf ends i) (base + sumOf ends i) (x .stage) lt y))
       hit j (inr o) = inl o
 
-      go : (j : ℕ) → (On next i j) ⊎ (getD b₁ (markOf ends j) 0 ≤ base + sumOf ends j) → (On next (getD next i 0) j) ⊎ (getD b₂ (markOf ends j) 0 ≤ base + sumOf ends j)
+      go : (j : ℕ) → (On next i j) ⊎ (getD b₁ (markOf ends j) 0 ≤ base + sumOf ends j)
+          → (On next (getD next i 0) j) ⊎ (getD b₂ (markOf ends j) 0 ≤ base + sumOf ends j)
       go j (inl o) = hit j (on-split o)
       go j (inr h) = inr (omega (arith, h, offered-le n b₁ s₁ b₂ s₂ (markOf ends i) (base + sumOf ends i) (x .stage) lt y (markOf ends j)))
 
 -- ---- stages of a search
 
-pub stage-start : (n r : ℕ) (best seg : List ℕ) → n ≤ leafLimit → r < n → n ≤ length best → 2 * n ≤ length seg → ((i : ℕ) → i < n → getD best i 0 ≡ far)
+pub stage-start : (n r : ℕ) (best seg : List ℕ) → n ≤ leafLimit → r < n → n ≤ length best → 2 * n ≤ length seg
+    → ((i : ℕ) → i < n → getD best i 0 ≡ far)
     → ((i : ℕ) → i < 2 * n → getD seg i 0 ≡ far) → Stage n (set best r 0) seg
 stage-start n r best seg few ok lb ls fb fs = record {
   heap = cleared seg n few (omega arith) ls fs;
@@ -126,7 +142,12 @@ stage-start n r best seg few ok lb ls fb fs = record {
     go m h (no e) = omega (arith, getD-set-other best r m 0 0 e, fb m h, fs (n + m) (omega arith))
 
 pub stage-close : (n m : ℕ) (best seg seg′ : List ℕ) → Stage n best seg → m < n → Changed seg seg′ n m far → Stage n best seg′
-stage-close n m best seg seg′ st lt ch = record { heap = ch .heap; places = st .places; over = λ x h. go x h (ℕ-discrete x m); tops = st .tops }
+stage-close n m best seg seg′ st lt ch = record {
+  heap = ch .heap;
+  places = st .places;
+  over = λ x h. go x h (ℕ-discrete x m);
+  tops = st .tops;
+}
   where
     go : (x : ℕ) → x < n → Dec (x ≡ m) → getD best x 0 ≤ getD seg′ (n + x) 0
     go x h (yes e) = omega (arith, ch .here, ap (λ (z : ℕ). getD seg′ (n + z) 0) e, st .tops x h)
@@ -134,7 +155,12 @@ stage-close n m best seg seg′ st lt ch = record { heap = ch .heap; places = st
 
 -- a mark's key falls to 0
 pub stage-set : (n r : ℕ) (best seg : List ℕ) → Stage n best seg → r < n → Stage n (set best r 0) seg
-stage-set n r best seg st ok = record { heap = st .heap; places = simp length-set (st .places); over = λ m h. go m h (ℕ-discrete m r); tops = λ m h. top m h (ℕ-discrete m r) }
+stage-set n r best seg st ok = record {
+  heap = st .heap;
+  places = simp length-set (st .places);
+  over = λ m h. go m h (ℕ-discrete m r);
+  tops = λ m h. top m h (ℕ-discrete m r);
+}
   where
     go : (m : ℕ) → m < n → Dec (m ≡ r) → getD (set best r 0) m 0 ≤ getD seg (n + m) 0
     go m h (yes e) = omega (arith, ap (λ (z : ℕ). getD (set best r 0) z 0) e, getD-set-same best r 0 0 (omega (arith, st .places)))

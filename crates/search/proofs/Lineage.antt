@@ -55,7 +55,8 @@ module _ (n : ℕ) (sub : List Line) (sound : AllSound n sub) (roots : List ℕ)
   root-came zero m d c h = never h refl
   root-came (suc k) m d c h = go c h (stepped sub roots (at k)) (root-came k m d)
     where
-      go : {es : Tree} → came es m ≡ none → distance es m ≡ some d → Stepped sub roots (at k) es → (came (at k) m ≡ none → distance (at k) m ≡ some d → List·Memᴰ m roots) → List·Memᴰ m roots
+      go : {es : Tree} → came es m ≡ none → distance es m ≡ some d → Stepped sub roots (at k) es
+          → (came (at k) m ≡ none → distance (at k) m ≡ some d → List·Memᴰ m roots) → List·Memᴰ m roots
       go c h (line {e = e} x) ih = hit (after e (at k) m)
         where
           hit : After e (at k) m → List·Memᴰ m roots
@@ -74,12 +75,15 @@ module _ (n : ℕ) (sub : List Line) (sound : AllSound n sub) (roots : List ℕ)
     pub isLine : List·Memᴰ l sub
     pub way : lineage es m ≡ back l m ∷ lineage es u
 
-  back-old : (e : Entry) (es : Tree) (l : Line) (m u : ℕ) → distance es (e .mark) ≡ none → (e .mark ≡ m → ⊥) → Back es l m u → Back (e ∷ es) l m u
+  back-old : (e : Entry) (es : Tree) (l : Line) (m u : ℕ) → distance es (e .mark) ≡ none → (e .mark ≡ m → ⊥) → Back es l m u
+      → Back (e ∷ es) l m u
   back-old e es l m u out d b = record {
     du = b .du;
     isIn = keeps e es u (b .du) out (b .isIn);
     isLine = b .isLine;
-    way = lineage-old e es m d ∙ b .way ∙ ap (λ (p : List Pass). back l m ∷ p) (sym (lineage-old e es u (λ z. never (b .isIn) (ap (distance es) (sym z) ∙ out))));
+    way =
+        lineage-old e es m d ∙ b .way ∙ ap (λ (p : List Pass). back l m ∷ p)
+        (sym (lineage-old e es u (λ z. never (b .isIn) (ap (distance es) (sym z) ∙ out))));
   }
 
   pub backed : (k : ℕ) (l : Line) (u m h : ℕ) → came (at k) m ≡ some l → Half l u m h → Back (at k) l m u
@@ -98,7 +102,8 @@ module _ (n : ℕ) (sub : List Line) (sound : AllSound n sub) (roots : List ℕ)
             isLine = mem;
             way = lineage-new e (at k) m p ∙ ap (λ (o : Option Line). viaOf o m (λ z. lineage (at k) z)) byl
                 ∙ ap (λ (z : ℕ). back l m ∷ lineage (at k) z) (other-half l u m h (sound l mem) j)
-                ∙ ap (λ (w : List Pass). back l m ∷ w) (sym (lineage-old e (at k) u (λ z. never inOld (ap (distance (at k)) (sym z) ∙ isNew x))));
+                ∙ ap (λ (w : List Pass). back l m ∷ w)
+                (sym (lineage-old e (at k) u (λ z. never inOld (ap (distance (at k)) (sym z) ∙ isNew x))));
           }
             where
               byl : e .by ≡ some l

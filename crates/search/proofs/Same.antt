@@ -35,8 +35,10 @@ pub record Runs (l : Line) (m u : ℕ) : Type 0 where
   pub ends : stop (back l m) ≡ u
 
 runs : {n : ℕ} (l : Line) (m u : ℕ) → Sound n l → Ends l u m → Runs l m u
-runs l m u s (walk.along p q) = let e : eqb (l .from) m ≡ false = ne-eqb (l .from) m (λ z. s .apart (z ∙ sym q)) in record { its = rw e; begins = rw e q; ends = rw e p }
-runs l m u s (walk.against p q) = let e : eqb (l .from) m ≡ true = eq-eqb (l .from) m q in record { its = rw e; begins = rw e q; ends = rw e p }
+runs l m u s (walk.along p q) = let e : eqb (l .from) m ≡ false = ne-eqb (l .from) m
+    (λ z. s .apart (z ∙ sym q)) in record { its = rw e; begins = rw e q; ends = rw e p }
+runs l m u s (walk.against p q) = let e : eqb (l .from) m ≡ true = eq-eqb
+    (l .from) m q in record { its = rw e; begins = rw e q; ends = rw e p }
 
 module _ (n : ℕ) (sub : List Line) (sound : AllSound n sub) (ris : Rising sub) (r : ℕ) where
   abbrev at : ℕ → Tree
@@ -78,24 +80,29 @@ module _ (n : ℕ) (sub : List Line) (sound : AllSound n sub) (ris : Rising sub)
       go (root {e = e} x i) ih = keeps e (at (j + k)) m d (x .out) ih
       go (gr.stop a b) ih = ih
 
-  early : (j k : ℕ) (b : ℕ) → b ≡ j + suc k → (last (at (suc k)) ≤ last (at b)) × ((w d : ℕ) → distance (at b) w ≡ some d → d < last (at (suc k)) → distance (at (suc k)) w ≡ some d)
+  early : (j k : ℕ) (b : ℕ) → b ≡ j + suc k → (last (at (suc k)) ≤ last (at b)) ×
+      ((w d : ℕ) → distance (at b) w ≡ some d → d < last (at (suc k)) → distance (at (suc k)) w ≡ some d)
   unfolding grow
   early zero k b e = let p : b ≡ suc k = omega arith in
       (omega (arith, ap (λ (z : ℕ). last (at z)) p), λ w d h lt. ap (λ (z : ℕ). distance (at z) w) (sym p) ∙ h)
   early (suc j) k b e = let p : b ≡ suc (j + suc k) = omega arith in
-      subst (λ (z : ℕ). (last (at (suc k)) ≤ last (at z)) × ((w d : ℕ) → distance (at z) w ≡ some d → d < last (at (suc k)) → distance (at (suc k)) w ≡ some d)) (sym p)
+      subst (λ (z : ℕ). (last (at (suc k)) ≤ last (at z)) ×
+      ((w d : ℕ) → distance (at z) w ≡ some d → d < last (at (suc k)) → distance (at (suc k)) w ≡ some d)) (sym p)
       (go (stepped sub (r ∷ []) (at (j + suc k))) (early j k (j + suc k) refl) (extends j (suc k) r 0 (root-in k) (j + suc k) refl))
     where
       c : ℕ
       c = j + suc k
 
       go : {es : Tree} → Stepped sub (r ∷ []) (at (j + suc k)) es
-          → (last (at (suc k)) ≤ last (at (j + suc k))) × ((w d : ℕ) → distance (at (j + suc k)) w ≡ some d → d < last (at (suc k)) → distance (at (suc k)) w ≡ some d)
+          → (last (at (suc k)) ≤ last (at (j + suc k))) ×
+          ((w d : ℕ) → distance (at (j + suc k)) w ≡ some d → d < last (at (suc k)) → distance (at (suc k)) w ≡ some d)
           → distance (at (j + suc k)) r ≡ some 0
           → (last (at (suc k)) ≤ last es) × ((w d : ℕ) → distance es w ≡ some d → d < last (at (suc k)) → distance (at (suc k)) w ≡ some d)
-      go (line {e = e} x) (a, f) ri = (omega (arith, a, rising sub (grown sub (r ∷ []) (j + suc k)) x), λ w d h lt. hit w d h lt (after e (at (j + suc k)) w))
+      go (line {e = e} x) (a, f) ri =
+          (omega (arith, a, rising sub (grown sub (r ∷ []) (j + suc k)) x), λ w d h lt. hit w d h lt (after e (at (j + suc k)) w))
         where
-          hit : (w d : ℕ) → distance (e ∷ at (j + suc k)) w ≡ some d → d < last (at (suc k)) → After e (at (j + suc k)) w → distance (at (suc k)) w ≡ some d
+          hit : (w d : ℕ) → distance (e ∷ at (j + suc k)) w ≡ some d → d < last (at (suc k)) → After e (at (j + suc k)) w
+              → distance (at (suc k)) w ≡ some d
           hit w d h lt (new p q) = absurd (omega (arith, same q h, lt, a, rising sub (grown sub (r ∷ []) (j + suc k)) x))
           hit w d h lt (old p q) = f w d (sym q ∙ h) lt
       go (root {e = e} x i) (a, f) ri = never ri (ap (distance (at (j + suc k))) (sym (List·Memᴰ·eq-of-singleton i)) ∙ x .out)
@@ -176,7 +183,9 @@ module _ (n : ℕ) (sub : List Line) (sound : AllSound n sub) (ris : Rising sub)
             hit (old z q) = sym q ∙ there
 
         sco : score (at k) (p .line) ≡ some (c .score)
-        sco = score-of (at k) (p .line) (stop p) (start p) (w .e) (turn (endsOf p)) inOld (ap (distance (at k)) (f .begins) ∙ farOut) ∙ ap some (w .sum ∙ isD)
+        sco =
+            score-of (at k) (p .line) (stop p) (start p) (w .e) (turn (endsOf p)) inOld (ap (distance (at k)) (f .begins) ∙ farOut)
+            ∙ ap some (w .sum ∙ isD)
 
     pub finds : descent (at b) (far (at k) (c .line)) sub ≡ some (back (c .line) (far (at k) (c .line)))
     finds = go (descent (at b) (far (at k) (c .line)) sub) refl
@@ -185,8 +194,11 @@ module _ (n : ℕ) (sub : List Line) (sound : AllSound n sub) (ris : Rising sub)
         memB = Memᴰ·cast (run .its) mem
 
         go : (o : Option Pass) → descent (at b) (far (at k) (c .line)) sub ≡ o → o ≡ some (back (c .line) (far (at k) (c .line)))
-        go none x = absurd (none-found (at b) (far (at k) (c .line)) sub x (back (c .line) (far (at k) (c .line))) memB (run .begins) leads)
-        go (some p) x = pick (first-found (at b) (far (at k) (c .line)) sub p ris long x (back (c .line) (far (at k) (c .line))) memB (run .begins) leads)
+        go none x =
+            absurd (none-found (at b) (far (at k) (c .line)) sub x (back (c .line) (far (at k) (c .line))) memB (run .begins) leads)
+        go (some p) x =
+            pick (first-found (at b) (far (at k) (c .line)) sub p ris long x (back (c .line) (far (at k) (c .line))) memB
+            (run .begins) leads)
             (not-lower p (found (at b) (far (at k) (c .line)) sub p x))
           where
             pick : (p .line .number < back (c .line) (far (at k) (c .line)) .line .number) ⊎ (p ≡ back (c .line) (far (at k) (c .line)))
@@ -197,24 +209,29 @@ module _ (n : ℕ) (sub : List Line) (sound : AllSound n sub) (ris : Rising sub)
 
     -- one mark more
     descend-new : ((u d f : ℕ) → distance (at k) u ≡ some d → d ≤ f → descend sub (at b) f u ≡ lineage (at k) u)
-        → (f : ℕ) → c .score ≤ f → descend sub (at b) f (far (at k) (c .line)) ≡ back (c .line) (far (at k) (c .line)) ∷ lineage (at k) (sc .near)
+        → (f : ℕ) → c .score ≤ f → descend sub (at b) f (far (at k) (c .line)) ≡ back (c .line) (far (at k) (c .line)) ∷ lineage (at k)
+        (sc .near)
     unfolding descend
     descend-new ih zero h = absurd (omega (arith, sc .sum, sound (c .line) mem .long))
     descend-new ih (suc f) h =
         ap (λ (o : Option Pass). onward o (λ z. descend sub (at b) f z)) finds
         ∙ ap (λ (z : ℕ). back (c .line) (far (at k) (c .line)) ∷ descend sub (at b) f z) (run .ends)
-        ∙ ap (λ (w : List Pass). back (c .line) (far (at k) (c .line)) ∷ w) (ih (sc .near) (sc .d) f (sc .isIn) (omega (arith, sc .sum, sound (c .line) mem .long)))
+        ∙ ap (λ (w : List Pass). back (c .line) (far (at k) (c .line)) ∷ w)
+        (ih (sc .near) (sc .d) f (sc .isIn) (omega (arith, sc .sum, sound (c .line) mem .long)))
 
     lineage-here : lineage (en ∷ at k) (far (at k) (c .line)) ≡ back (c .line) (far (at k) (c .line)) ∷ lineage (at k) (sc .near)
     lineage-here = lineage-new en (at k) (far (at k) (c .line)) refl
-        ∙ ap (λ (z : ℕ). back (c .line) (far (at k) (c .line)) ∷ lineage (at k) z) (sym (stop-back (eqb (c .line .from) (far (at k) (c .line))) (c .line)) ∙ run .ends)
+        ∙ ap (λ (z : ℕ). back (c .line) (far (at k) (c .line)) ∷ lineage (at k) z)
+        (sym (stop-back (eqb (c .line .from) (far (at k) (c .line))) (c .line)) ∙ run .ends)
 
     pub by-line : ((u d f : ℕ) → distance (at k) u ≡ some d → d ≤ f → descend sub (at b) f u ≡ lineage (at k) u)
         → (x d f : ℕ) → distance (en ∷ at k) x ≡ some d → d ≤ f → descend sub (at b) f x ≡ lineage (en ∷ at k) x
     by-line ih x d f h q = go (after en (at k) x)
       where
         go : After en (at k) x → descend sub (at b) f x ≡ lineage (en ∷ at k) x
-        go (new p s) = subst (λ (z : ℕ). descend sub (at b) f z ≡ lineage (en ∷ at k) z) p (descend-new ih f (omega (arith, same s h)) ∙ sym lineage-here)
+        go (new p s) =
+            subst (λ (z : ℕ). descend sub (at b) f z ≡ lineage (en ∷ at k) z) p
+            (descend-new ih f (omega (arith, same s h)) ∙ sym lineage-here)
         go (old p s) = ih x d f (sym s ∙ h) q ∙ sym (lineage-old en (at k) x p)
 
   -- ---- nothing leads down from the root
@@ -231,7 +248,8 @@ module _ (n : ℕ) (sub : List Line) (sound : AllSound n sub) (ris : Rising sub)
           let d = down-true (at b) p (w .leads) in
           absurd (omega (arith, d .sum, same (d .atStart) (ap (distance (at b)) (w .begins) ∙ h), sound (p .line) (w .isLine) .long))
 
-  by-root : (k b : ℕ) → suc k ≤ b → (e : Entry) → e .mark ≡ r → e .by ≡ none → ((u d f : ℕ) → distance (at k) u ≡ some d → d ≤ f → descend sub (at b) f u ≡ lineage (at k) u)
+  by-root : (k b : ℕ) → suc k ≤ b → (e : Entry) → e .mark ≡ r → e .by ≡ none
+      → ((u d f : ℕ) → distance (at k) u ≡ some d → d ≤ f → descend sub (at b) f u ≡ lineage (at k) u)
       → (x d f : ℕ) → distance (e ∷ at k) x ≡ some d → d ≤ f → descend sub (at b) f x ≡ lineage (e ∷ at k) x
   by-root k b le e er eb ih x d f h q = go (after e (at k) x)
     where

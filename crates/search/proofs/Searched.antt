@@ -25,12 +25,14 @@ use Rattle.search.proofs.Enter.{lowest-gone, far-half, step-some, Pop, 
 
 -- ---- distances stay small
 
-pub near : (n : ℕ) (sub : List Line) → AllSound n sub → (roots : List ℕ) (k m d : ℕ) → distance (grow sub roots k) m ≡ some d → d ≤ mostLength * k
+pub near : (n : ℕ) (sub : List Line) → AllSound n sub → (roots : List ℕ) (k m d : ℕ) → distance (grow sub roots k) m ≡ some d
+    → d ≤ mostLength * k
 unfolding grow distance
 near n sub sound roots zero m d h = never h refl
 near n sub sound roots (suc k) m d h = go h (stepped sub roots (grow sub roots k)) (near n sub sound roots k)
   where
-    go : {es : Tree} → distance es m ≡ some d → Stepped sub roots (grow sub roots k) es → ((m d : ℕ) → distance (grow sub roots k) m ≡ some d → d ≤ mostLength * k) → d ≤ mostLength * suc k
+    go : {es : Tree} → distance es m ≡ some d → Stepped sub roots (grow sub roots k) es
+        → ((m d : ℕ) → distance (grow sub roots k) m ≡ some d → d ≤ mostLength * k) → d ≤ mostLength * suc k
     go h (line {e = e} x) ih = hit (after e (grow sub roots k) m)
       where
         hit : After e (grow sub roots k) m → d ≤ mostLength * suc k
@@ -46,7 +48,8 @@ near n sub sound roots (suc k) m d h = go h (stepped sub roots (grow sub roots k
 -- ---- the mark that enters by a line is the farthest so far of its piece
 
 pub newest-line : (n : ℕ) (sub : List Line) → AllSound n sub → (roots : List ℕ) (k : ℕ) (e : Entry) → ByLine sub (grow sub roots k) e
-    → (l : Line) (x h dx : ℕ) → List·Memᴰ l sub → Half l (e .mark) x h → distance (e ∷ grow sub roots k) x ≡ some dx → dx < e .dist + l .length
+    → (l : Line) (x h dx : ℕ) → List·Memᴰ l sub → Half l (e .mark) x h → distance (e ∷ grow sub roots k) x ≡ some dx
+    → dx < e .dist + l .length
 newest-line n sub sound roots k e b l x h dx i j a = go (after e (grow sub roots k) x)
   where
     g : Grown sub (grow sub roots k)
@@ -55,7 +58,8 @@ newest-line n sub sound roots k e b l x h dx i j a = go (after e (grow sub roots
     go : After e (grow sub roots k) x → dx < e .dist + l .length
     go (new p q) = omega (arith, same q a, sound l i .long)
     go (old p q) =
-        let f = frontier sub g l x (e .mark) dx i (turn (half-ends j)) (sym q ∙ a) (ap (distance (grow sub roots k)) (b .itsMark) ∙ b .sc .isOut) in
+        let f = frontier sub g l x (e .mark) dx i (turn (half-ends j)) (sym q ∙ a)
+        (ap (distance (grow sub roots k)) (b .itsMark) ∙ b .sc .isOut) in
         omega (arith, f .0, rising sub g b, sound l i .long)
 
 module _ (sub : List Line) (n : ℕ) (head next ends : List ℕ) (gv : Given sub n head next ends) (r to : ℕ) where
@@ -78,9 +82,11 @@ module _ (sub : List Line) (n : ℕ) (head next ends : List ℕ) (gv : Given sub
       → Relaxed n next ends (set best r 0) seg best′ seg′ (getD head r 0) 0 → Searching 1 best′ seg′
   unfolding distance
   search-start best seg best′ seg′ few ok lb ls fb fs ne rx =
-      made (subst (λ (t : Tree). Front sub n t best′ seg′ ends Nothing × (distance t r ≡ some 0) × (distance t to ≡ none)) (sym at-one) (fr, ri, ou))
+      made (subst (λ (t : Tree). Front sub n t best′ seg′ ends Nothing × (distance t r ≡ some 0) × (distance t to ≡ none)) (sym at-one)
+      (fr, ri, ou))
     where
-      made : Front sub n (at 1) best′ seg′ ends Nothing × (distance (at 1) r ≡ some 0) × (distance (at 1) to ≡ none) → Searching 1 best′ seg′
+      made : Front sub n (at 1) best′ seg′ ends Nothing × (distance (at 1) r ≡ some 0) × (distance (at 1) to ≡ none)
+          → Searching 1 best′ seg′
       made (a, b, c) = record { front = a; rootIn = b; out = c }
 
       e : Entry
@@ -111,10 +117,18 @@ module _ (sub : List Line) (n : ℕ) (head next ends : List ℕ) (gv : Given sub
       }
 
       key : Key (entry r 0 none ∷ []) (set best r 0) ends r 0
-      key = record { h = 0; low = omega arith; key = getD-set-same best r 0 0 (omega arith); by = f.root (came-new (entry r 0 none) [] r refl) refl refl }
+      key = record {
+        h = 0;
+        low = omega arith;
+        key = getD-set-same best r 0 0 (omega arith);
+        by = f.root
+            (came-new (entry r 0 none) [] r refl) refl refl;
+      }
 
       fr₁ : Front sub n (entry r 0 none ∷ []) (set best r 0) seg ends (Rest next ends r (getD head r 0))
-      fr₁ = front-enter sub n head next ends gv [] (entry r 0 none) best seg (set best r 0) seg refl ok fr₀ key (λ m d. getD-set-other best r m 0 0 d)
+      fr₁ =
+          front-enter sub n head next ends gv [] (entry r 0 none) best seg (set best r 0) seg refl ok fr₀ key
+          (λ m d. getD-set-other best r m 0 0 d)
           (record { heap = cleared seg n few (omega arith) ls fs; here = fs (n + r) (omega arith); others = λ j a d. refl })
 
       newest : (l : Line) (x h dx : ℕ) → List·Memᴰ l sub → Half l r x h → distance (entry r 0 none ∷ []) x ≡ some dx → dx < 0 + l .length
@@ -177,7 +191,9 @@ module _ (sub : List Line) (n : ℕ) (head next ends : List ℕ) (gv : Given sub
         h = getD seg 1 0 % halves;
         low = omega arith;
         key = pop .known ∙ pop .sum;
-        by = f.line (pop .l) (pop .u) (pop .d) (came-new (entry mk (pop .d + pop .l .length) (some (pop .l))) (at k) mk refl) (pop .half) (omega arith)
+        by =
+            f.line (pop .l) (pop .u) (pop .d) (came-new (entry mk (pop .d + pop .l .length) (some (pop .l))) (at k) mk refl) (pop .half)
+            (omega arith)
             (mark-of gv (pop .l) mk (pop .u) (flip (getD seg 1 0 % halves)) (pop .isLine) (half-flip (pop .half)))
             (keeps (entry mk (pop .d + pop .l .length) (some (pop .l))) (at k) (pop .u) (pop .d) (pop .isOut) (pop .isIn)) refl;
       }
@@ -193,8 +209,10 @@ module _ (sub : List Line) (n : ℕ) (head next ends : List ℕ) (gv : Given sub
       pub search-found : {b : Bool} → k + 1 < n → mk ≡ to → b ≡ true → Outcome sub n best ends r to b
       search-found few t b = reached b (suc k) (pop .d + pop .l .length) (omega arith)
           (subst (λ (z : Tree). Keyed z best ends) (sym at-next)
-          (keyed-enter (at k) (entry mk (pop .d + pop .l .length) (some (pop .l))) best best ends (pop .isOut) (sr .front .keyed) key (λ m d. refl)))
-          (ap (λ (z : Tree). distance z to) at-next ∙ ap (distance (entry mk (pop .d + pop .l .length) (some (pop .l)) ∷ at k)) (sym t) ∙ there)
+          (keyed-enter (at k) (entry mk (pop .d + pop .l .length) (some (pop .l))) best best ends (pop .isOut) (sr .front .keyed) key
+          (λ m d. refl)))
+          (ap (λ (z : Tree). distance z to) at-next ∙ ap (distance (entry mk (pop .d + pop .l .length) (some (pop .l)) ∷ at k)) (sym t)
+          ∙ there)
 
       module _ (seg₁ : List ℕ) (ch : Changed seg seg₁ n mk hp.far) where
         fr₁ : Front sub n (entry mk (pop .d + pop .l .length) (some (pop .l)) ∷ at k) best seg₁ ends (Rest next ends mk (getD head mk 0))
@@ -202,11 +220,14 @@ module _ (sub : List Line) (n : ℕ) (head next ends : List ℕ) (gv : Given sub
             (pop .isOut) (pop .small) (sr .front) key (λ m d. refl) ch
 
         pub search-next : (best′ seg′ : List ℕ) → (mk ≡ to → ⊥)
-            → Relaxed n next ends best seg₁ best′ seg′ (getD head mk 0) (getD seg 1 0 - getD seg 1 0 % halves) → Searching (k + 1) best′ seg′
+            → Relaxed n next ends best seg₁ best′ seg′ (getD head mk 0) (getD seg 1 0 - getD seg 1 0 % halves)
+            → Searching (k + 1) best′ seg′
         search-next best′ seg′ ne rx = made
-            (subst (λ (z : Tree). Front sub n z best′ seg′ ends Nothing × (distance z r ≡ some 0) × (distance z to ≡ none)) (sym (ap at (add-one k) ∙ at-next)) (fr, ri, ou))
+            (subst (λ (z : Tree). Front sub n z best′ seg′ ends Nothing × (distance z r ≡ some 0) × (distance z to ≡ none))
+            (sym (ap at (add-one k) ∙ at-next)) (fr, ri, ou))
           where
-            made : Front sub n (at (k + 1)) best′ seg′ ends Nothing × (distance (at (k + 1)) r ≡ some 0) × (distance (at (k + 1)) to ≡ none) → Searching (k + 1) best′ seg′
+            made : Front sub n (at (k + 1)) best′ seg′ ends Nothing × (distance (at (k + 1)) r ≡ some 0) ×
+                (distance (at (k + 1)) to ≡ none) → Searching (k + 1) best′ seg′
             made (a, b, c) = record { front = a; rootIn = b; out = c }
 
             ri : distance (entry mk (pop .d + pop .l .length) (some (pop .l)) ∷ at k) r ≡ some 0
@@ -215,7 +236,8 @@ module _ (sub : List Line) (n : ℕ) (head next ends : List ℕ) (gv : Given sub
             ou : distance (entry mk (pop .d + pop .l .length) (some (pop .l)) ∷ at k) to ≡ none
             ou = hit (after (entry mk (pop .d + pop .l .length) (some (pop .l))) (at k) to)
               where
-                hit : After (entry mk (pop .d + pop .l .length) (some (pop .l))) (at k) to → distance (entry mk (pop .d + pop .l .length) (some (pop .l)) ∷ at k) to ≡ none
+                hit : After (entry mk (pop .d + pop .l .length) (some (pop .l))) (at k) to
+                    → distance (entry mk (pop .d + pop .l .length) (some (pop .l)) ∷ at k) to ≡ none
                 hit (new p q) = absurd (ne p)
                 hit (old p q) = q ∙ sr .out
 
@@ -223,7 +245,9 @@ module _ (sub : List Line) (n : ℕ) (head next ends : List ℕ) (gv : Given sub
             base = omega (arith, pop .sum)
 
             fr : Front sub n (entry mk (pop .d + pop .l .length) (some (pop .l)) ∷ at k) best′ seg′ ends Nothing
-            fr = front-relaxed sub n head next ends gv (entry mk (pop .d + pop .l .length) (some (pop .l)) ∷ at k) mk (pop .d + pop .l .length)
+            fr =
+                front-relaxed sub n head next ends gv (entry mk (pop .d + pop .l .length) (some (pop .l)) ∷ at k) mk
+                (pop .d + pop .l .length)
                 best seg₁ best′ seg′ (pop .small) there (gv .sound)
                 (newest-line n sub (gv .sound) (r ∷ []) k (entry mk (pop .d + pop .l .length) (some (pop .l))) by)
                 (subst (λ (z : ℕ). Relaxed n next ends best seg₁ best′ seg′ (getD head mk 0) z) base rx) fr₁
@@ -234,7 +258,9 @@ module _ (sub : List Line) (n : ℕ) (head next ends : List ℕ) (gv : Given sub
   -- ---- by what `begin` and `turn` say
 
   pub begun-searching : (best′ seg′ : List ℕ) → Two n r to → Begun n head next ends best′ seg′ r → Searching 1 best′ seg′
-  begun-searching best′ seg′ two b = search-start (b .best) (b .seg) best′ seg′ (b .room .few) (two .r-ok) (b .room .bests) (b .room .segs) (b .bests) (b .segs) (two .apart) (b .offered)
+  begun-searching best′ seg′ two b =
+      search-start (b .best) (b .seg) best′ seg′ (b .room .few) (two .r-ok) (b .room .bests) (b .room .segs) (b .bests) (b .segs)
+      (two .apart) (b .offered)
 
   module _ (k : ℕ) (best seg best′ seg′ : List ℕ) (a : ℕ) (st : Stage n best seg) (lt : k < leafLimit) (sr : Searching k best seg) where
     lead-low : top seg < limit → 0 < lead ends seg
@@ -251,7 +277,8 @@ module _ (sub : List Line) (n : ℕ) (head next ends : List ℕ) (gv : Given sub
     turned-none (nothing z l q q′) e w =
         subst (λ (x : List ℕ). Outcome sub n x ends r to false) (sym q) (search-none k best seg st sr lt l (omega arith) refl)
 
-    pub turned-found : Turned n head next ends best seg best′ seg′ to a → (a ≡ 0 → ⊥) → a ≡ to → k + 1 < n → Outcome sub n best′ ends r to true
+    pub turned-found : Turned n head next ends best seg best′ seg′ to a → (a ≡ 0 → ⊥) → a ≡ to → k + 1 < n
+        → Outcome sub n best′ ends r to true
     turned-found (more z l seg₁ ch ne rx) e t w = absurd (ne (sym z ∙ t))
     turned-found (found z l q p p′) e t w =
         subst (λ (x : List ℕ). Outcome sub n x ends r to true) (sym p) (search-found k best seg st sr lt l w q refl)

@@ -82,8 +82,10 @@ lead ends seg = markOf ends (top seg % halves)
 -- the mark that entered, or 0
 pub data Turned (n : ℕ) (head next ends best seg best′ seg′ : List ℕ) (to a : ℕ) : Type 0 where
   more : a ≡ lead ends seg → top seg < limit → (seg₁ : List ℕ) → Changed seg seg₁ n (lead ends seg) far → (lead ends seg ≡ to → ⊥)
-      → Relaxed n next ends best seg₁ best′ seg′ (getD head (lead ends seg) 0) (top seg - top seg % halves) → Turned n head next ends best seg best′ seg′ to a
-  found : a ≡ lead ends seg → top seg < limit → lead ends seg ≡ to → best′ ≡ best → seg′ ≡ seg → Turned n head next ends best seg best′ seg′ to a
+      → Relaxed n next ends best seg₁ best′ seg′ (getD head (lead ends seg) 0) (top seg - top seg % halves)
+      → Turned n head next ends best seg best′ seg′ to a
+  found : a ≡ lead ends seg → top seg < limit → lead ends seg ≡ to → best′ ≡ best → seg′ ≡ seg
+      → Turned n head next ends best seg best′ seg′ to a
   nothing : a ≡ 0 → limit ≤ top seg → best′ ≡ best → seg′ ≡ seg → Turned n head next ends best seg best′ seg′ to a
 
 -- ---- the line by which a mark came in, and the way back by such lines
@@ -124,7 +126,8 @@ lineage (e ∷ es) m = orPath (eqb (e .mark) m) (viaOf (e .by) m (λ u. lineage 
 
 pub data By (es : Tree) (ends : List ℕ) (m d h : ℕ) : Type 0 where
   root : came es m ≡ none → d ≡ 0 → h ≡ 0 → By es ends m d h
-  line : (l : Line) (u du : ℕ) → came es m ≡ some l → Half l u m h → h < halves → markOf ends (flip h) ≡ u → distance es u ≡ some du → d ≡ du + l .length → By es ends m d h
+  line : (l : Line) (u du : ℕ) → came es m ≡ some l → Half l u m h → h < halves → markOf ends (flip h) ≡ u
+      → distance es u ≡ some du → d ≡ du + l .length → By es ends m d h
 
 pub record Key (es : Tree) (best ends : List ℕ) (m d : ℕ) : Type 0 where
   pub h : ℕ
@@ -164,7 +167,8 @@ Rest next ends m i u v a = (u ≡ m) × Has next ends i v a
 -- ---- a search from r until `to` is in
 
 pub data Outcome (sub : List Line) (n : ℕ) (best ends : List ℕ) (r to : ℕ) (a : Bool) : Type 0 where
-  reached : a ≡ true → (k d : ℕ) → k < n → Keyed (grow sub (r ∷ []) k) best ends → distance (grow sub (r ∷ []) k) to ≡ some d → Outcome sub n best ends r to a
+  reached : a ≡ true → (k d : ℕ) → k < n → Keyed (grow sub (r ∷ []) k) best ends → distance (grow sub (r ∷ []) k) to ≡ some d
+      → Outcome sub n best ends r to a
   cut-off : a ≡ false → distance (grow sub (r ∷ []) (n - 1)) to ≡ none → Outcome sub n best ends r to a
 
 -- whatever lines the chains hold
@@ -173,8 +177,8 @@ Searched n head next ends best r to a = (sub : List Line) → Given sub n head n
 
 -- ---- the way back, written out
 
--- document 01: "A mark's way to its root is followed line by line, and the distance falls at each step." From the mark m the way goes by the
--- halves hs; each leads against the half by which its mark came in, to a mark that is nearer by the least length of a line
+-- document 01: "A mark's way to its root is followed line by line, and the distance falls at each step." From the mark m the way goes by
+-- the halves hs; each leads against the half by which its mark came in, to a mark that is nearer by the least length of a line
 pub data Way (best ends : List ℕ) : ℕ → List ℕ → Type 0 where
   rooted : {m : ℕ} → m < length best → getD best m 0 ≡ 0 → Way best ends m []
   onward : {m : ℕ} (g u : ℕ) {hs : List ℕ} → m < length best → 0 < getD best m 0 → g ≡ flip (getD best m 0 % halves) → u ≡ markOf ends g

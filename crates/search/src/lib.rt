@@ -1,16 +1,18 @@
-// A search by distance from one mark over chains of halves. A key is a distance and the half that leads there in one number, distance * HALVES + half,
-// so that one test compares distance and then line number.
+// A search by distance from one mark over chains of halves. A key is a distance and the half that leads there in one number,
+// distance * HALVES + half, so that one test compares distance and then line number.
 ghost use Prim.Native.Nat.{_+_, _*_, _<_, _≤_};
 ghost use Rattle.chains.specs.Chains.{Bounded, Chained, Heads};
 ghost use Rattle.search.specs.Direct.{LeastSum, Direct};
-ghost use Rattle.search.specs.Front.{limit, Stage, Offered, Relaxed, RoomSearch, RoomPath, Two, Begun, Turned, Searched, Leads, Walked, Held, Pathed};
+ghost use Rattle.search.specs.Front.{limit, Stage, Offered, Relaxed, RoomSearch, Two, Begun, Turned, Searched};
+ghost use Rattle.search.specs.Front.{RoomPath, Leads, Walked, Held, Pathed};
 
 // More than any key.
 const LIMIT: u64 = 1152921504606846976;
 
 // Mark o is offered the key k.
 fn offer(best: &mut [u64], seg: &mut [u64], n: usize, o: usize, k: u64)
-    requires { ⌜ Stage n (now best) (now seg) ⌝ ∗ ⌜ o < n ⌝ }
+    requires { ⌜ Stage n (now best) (now seg) ⌝
+        ∗ ⌜ o < n ⌝ }
     ensures { λ _. ⌜ Offered n (now (best .entry)) (now (seg .entry)) (now (best .exit)) (now (seg .exit)) o k ⌝ }
 {
     if k < best[o] {
@@ -29,7 +31,10 @@ pub fn relax(
     first: usize,
     base: u64,
 )
-    requires { ⌜ Bounded n (now ends) ⌝ ∗ ⌜ Chained (now next) first ⌝ ∗ ⌜ Stage n (now best) (now seg) ⌝ ∗ ⌜ base ≤ limit ⌝ }
+    requires { ⌜ Bounded n (now ends) ⌝
+        ∗ ⌜ Chained (now next) first ⌝
+        ∗ ⌜ Stage n (now best) (now seg) ⌝
+        ∗ ⌜ base ≤ limit ⌝ }
     ensures { λ _. ⌜ Relaxed n (now (next .entry)) (now (ends .entry)) (now (best .entry)) (now (seg .entry)) (now (best .exit))
         (now (seg .exit)) first base ⌝ }
 {
@@ -53,7 +58,10 @@ fn begin(
     n: usize,
     r: usize,
 )
-    requires { ⌜ Bounded n (now ends) ⌝ ∗ ⌜ Heads n (now head) (now next) ⌝ ∗ ⌜ RoomSearch n (now best) (now seg) ⌝ ∗ ⌜ r < n ⌝ }
+    requires { ⌜ Bounded n (now ends) ⌝
+        ∗ ⌜ Heads n (now head) (now next) ⌝
+        ∗ ⌜ RoomSearch n (now best) (now seg) ⌝
+        ∗ ⌜ r < n ⌝ }
     ensures { λ _. ⌜ Begun n (now (head .entry)) (now (next .entry)) (now (ends .entry)) (now (best .exit)) (now (seg .exit)) r ⌝ }
 {
     nearest::clear(best, n);
@@ -62,7 +70,8 @@ fn begin(
     relax(next, ends, best, seg, n, head[r] as usize, 0);
 }
 
-// The nearest open mark enters. Unless it is the mark to, it is open no more and its halves are offered. The answer is that mark, or 0 where none is open.
+// The nearest open mark enters. Unless it is the mark to, it is open no more and its halves are offered.
+// The answer is that mark, or 0 where none is open.
 pub fn turn(
     head: &[u64],
     next: &[u64],
@@ -72,7 +81,9 @@ pub fn turn(
     n: usize,
     to: usize,
 ) -> usize
-    requires { ⌜ Bounded n (now ends) ⌝ ∗ ⌜ Heads n (now head) (now next) ⌝ ∗ ⌜ Stage n (now best) (now seg) ⌝ }
+    requires { ⌜ Bounded n (now ends) ⌝
+        ∗ ⌜ Heads n (now head) (now next) ⌝
+        ∗ ⌜ Stage n (now best) (now seg) ⌝ }
     ensures { λ a. ⌜ Turned n (now (head .entry)) (now (next .entry)) (now (ends .entry)) (now (best .entry)) (now (seg .entry))
         (now (best .exit)) (now (seg .exit)) to a ⌝ }
 {
@@ -101,7 +112,10 @@ fn search(
     r: usize,
     to: usize,
 ) -> bool
-    requires { ⌜ Bounded n (now ends) ⌝ ∗ ⌜ Heads n (now head) (now next) ⌝ ∗ ⌜ RoomSearch n (now best) (now seg) ⌝ ∗ ⌜ Two n r to ⌝ }
+    requires { ⌜ Bounded n (now ends) ⌝
+        ∗ ⌜ Heads n (now head) (now next) ⌝
+        ∗ ⌜ RoomSearch n (now best) (now seg) ⌝
+        ∗ ⌜ Two n r to ⌝ }
     ensures { λ a. ⌜ Searched n (now (head .entry)) (now (next .entry)) (now (ends .entry)) (now (best .exit)) r to a ⌝ }
 {
     begin(head, next, ends, best, seg, n, r);
@@ -119,7 +133,8 @@ fn search(
     false
 }
 
-// The way from the mark m to its root, line by line, into out from place c on: the half of each line as it is run. The answer is where they end.
+// The way from the mark m to its root, line by line, into out from place c on: the half of each line as it is run.
+// The answer is where they end.
 fn way(ends: &[u64], best: &[u64], out: &mut [u16], c: usize, m: usize) -> usize
     requires { ⌜ Leads (now best) (now ends) (now out) c m ⌝ }
     ensures { λ a. ⌜ Walked (now (best .entry)) (now (ends .entry)) (now (out .entry)) (now (out .exit)) c m a ⌝ }
@@ -142,7 +157,8 @@ fn way(ends: &[u64], best: &[u64], out: &mut [u16], c: usize, m: usize) -> usize
 
 // The least sum of the halves on the chain from first on, or FAR.
 fn least_sum(next: &[u64], ends: &[u64], n: usize, first: usize) -> u64
-    requires { ⌜ Bounded n (now ends) ⌝ ∗ ⌜ Chained (now next) first ⌝ }
+    requires { ⌜ Bounded n (now ends) ⌝
+        ∗ ⌜ Chained (now next) first ⌝ }
     ensures { λ s. ⌜ LeastSum (now (next .entry)) (now (ends .entry)) first s ⌝ }
 {
     let mut s = nearest::FAR;
@@ -157,7 +173,9 @@ fn least_sum(next: &[u64], ends: &[u64], n: usize, first: usize) -> u64
 
 // The half of the least line at the mark r, if it leads to the mark to; else 0. It needs no search: nothing is nearer.
 fn direct_half(head: &[u64], next: &[u64], ends: &[u64], n: usize, r: usize, to: usize) -> u64
-    requires { ⌜ Bounded n (now ends) ⌝ ∗ ⌜ Heads n (now head) (now next) ⌝ ∗ ⌜ Two n r to ⌝ }
+    requires { ⌜ Bounded n (now ends) ⌝
+        ∗ ⌜ Heads n (now head) (now next) ⌝
+        ∗ ⌜ Two n r to ⌝ }
     ensures { λ h. ⌜ Direct n (now (head .entry)) (now (next .entry)) (now (ends .entry)) r to h ⌝ }
 {
     let s = least_sum(next, ends, n, head[r] as usize);
@@ -183,7 +201,9 @@ pub fn path(
     r: usize,
     to: usize,
 ) -> usize
-    requires { ⌜ Held n (now head) (now next) (now ends) ⌝ ∗ ⌜ RoomPath n (now best) (now seg) (now out) ⌝ ∗ ⌜ Two n r to ⌝ }
+    requires { ⌜ Held n (now head) (now next) (now ends) ⌝
+        ∗ ⌜ RoomPath n (now best) (now seg) (now out) ⌝
+        ∗ ⌜ Two n r to ⌝ }
     ensures { λ a. ⌜ Pathed n (now (head .entry)) (now (next .entry)) (now (ends .entry)) (now (out .entry)) (now (out .exit)) r to a ⌝ }
 {
     let h = direct_half(head, next, ends, n, r, to);

@@ -1,5 +1,5 @@
 -- Lines join the chains of a subgraph; the tree's are the first. Assumes nothing.
-use Prim.Native.Nat.{ℕ, zero, suc, _+_, _*_, _-_, _/_, _%_, _≤_, _<_}
+use Prim.Native.Nat.{ℕ, zero, suc, _+_, _-_, _/_, _%_, _≤_, _<_}
 use native.Mathlib.Omega.{arith}
 use native.Mathlib.Numerals.{add-one}
 use mathlib.Core.Path.{_≡_, refl, sym, _∙_, ap, subst}
@@ -30,11 +30,15 @@ use Rattle.subgraph.proofs.Only.{only-numbers}
 -- ---- a line of the book joins, by its number
 
 -- it is none of the lines that the chains hold
-pub line-joins : {n q : ℕ} {ends head next head′ next′ : List ℕ} (lines : List Line) → Listed lines n q ends → (l : Line) → List·Memᴰ l lines
-    → (sub sub′ : List Line) → ((k : Line) → List·Memᴰ k sub → List·Memᴰ k lines) → ((k : Line) → List·Memᴰ k sub → k .number ≡ l .number → ⊥)
-    → Wider sub sub′ l → RoomChains n head next → Joined ends head next head′ next′ (l .number) → Drawn sub n head next → Drawn sub′ n head′ next′
+pub line-joins : {n q : ℕ} {ends head next head′ next′ : List ℕ} (lines : List Line) → Listed lines n q ends → (l : Line)
+    → List·Memᴰ l lines
+    → (sub sub′ : List Line) → ((k : Line) → List·Memᴰ k sub → List·Memᴰ k lines)
+    → ((k : Line) → List·Memᴰ k sub → k .number ≡ l .number → ⊥)
+    → Wider sub sub′ l → RoomChains n head next → Joined ends head next head′ next′ (l .number) → Drawn sub n head next
+    → Drawn sub′ n head′ next′
 line-joins lines li l i sub sub′ part isNew wd room jn d =
-    join-draws sub sub′ l (λ k j. li .sound k (part k j)) (li .sound l i) wd isNew (line-from li l i) (line-to li l i) room jn (d .heads) (d .chains)
+    join-draws sub sub′ l (λ k j. li .sound k (part k j)) (li .sound l i) wd isNew (line-from li l i) (line-to li l i) room jn (d .heads)
+    (d .chains)
 
 -- ---- the tree's lines join, entry by entry
 
@@ -58,7 +62,8 @@ lines1-some : (o : Option Line) (ls : List Line) (l : Line) → o ≡ some l →
 lines1-some none ls l e = absurd (Option·none-ne-some l e)
 lines1-some (some k) ls l e = length-append ls (k ∷ [])
 
-module _ (n q : ℕ) (ends : List ℕ) (lines : List Line) (li : Listed lines n q ends) (best order : List ℕ) (ho : Holding (tree (n - 1) lines) best order ends) where
+module _ (n q : ℕ) (ends : List ℕ) (lines : List Line) (li : Listed lines n q ends) (best order : List ℕ)
+    (ho : Holding (tree (n - 1) lines) best order ends) where
   abbrev at : ℕ → Tree
   at k = grow lines (marks (n - 1)) k
 
@@ -87,7 +92,8 @@ module _ (n q : ℕ) (ends : List ℕ) (lines : List Line) (li : Listed lines n 
               hit (inl i) = ih i
               hit (inr i) = Memᴰ·cast (List·Memᴰ·eq-of-singleton i) (enters-line en j e)
 
-  module _ (k count r : ℕ) (head next head′ next′ : List ℕ) (few : k + 1 < n) (room : RoomChains n head next) (la : LayingAt k count head next) where
+  module _ (k count r : ℕ) (head next head′ next′ : List ℕ) (few : k + 1 < n) (room : RoomChains n head next)
+      (la : LayingAt k count head next) where
     abbrev en : Enters lines (at k) (at (suc k))
     en = enters-at n lines (li .sound) k few
 
@@ -97,7 +103,9 @@ module _ (n q : ℕ) (ends : List ℕ) (lines : List Line) (li : Listed lines n 
 
     key : Key (at (n - 1)) best ends (getD order k 0) (en .e .dist)
     unfolding tree mark
-    key = ho .keyed (getD order k 0) (en .e .dist) (later n lines (li .sound) (suc k) (n - 1) (getD order k 0) (en .e .dist) (omega arith) (in-at n lines (li .sound) (getD order k 0) mark))
+    key =
+        ho .keyed (getD order k 0) (en .e .dist) (later n lines (li .sound) (suc k) (n - 1) (getD order k 0) (en .e .dist) (omega arith)
+        (in-at n lines (li .sound) (getD order k 0) mark))
 
     root-stays : en .e .by ≡ none → treeLines (at (suc k)) ≡ treeLines (at k)
     unfolding treeLines
@@ -105,7 +113,8 @@ module _ (n q : ℕ) (ends : List ℕ) (lines : List Line) (li : Listed lines n 
 
     line-more : (l : Line) → en .e .by ≡ some l → Wider (treeLines (at k)) (treeLines (at (suc k))) l
     unfolding treeLines
-    line-more l e = subst (λ (t : Tree). Wider (treeLines (at k)) (treeLines t) l) (sym (en .next)) (tree-more (en .e .by) (treeLines (at k)) l e)
+    line-more l e =
+        subst (λ (t : Tree). Wider (treeLines (at k)) (treeLines t) l) (sym (en .next)) (tree-more (en .e .by) (treeLines (at k)) l e)
 
     line-count : (l : Line) → en .e .by ≡ some l → length (treeLines (at (suc k))) ≡ length (treeLines (at k)) + 1
     unfolding treeLines
@@ -122,7 +131,8 @@ module _ (n q : ℕ) (ends : List ℕ) (lines : List Line) (li : Listed lines n 
             let by : en .e .by ≡ some l = sym (came-of n lines (li .sound) (getD order k 0) mark) ∙ c in
             absurd (omega (arith, key .key, s, li .sound l (enters-line en l by) .long))
 
-    line-by : (getD best (getD order k 0) 0 ≡ 0 → ⊥) → (l : Line) × (en .e .by ≡ some l) × (getD best (getD order k 0) 0 % halves / 2 ≡ l .number)
+    line-by : (getD best (getD order k 0) 0 ≡ 0 → ⊥) → (l : Line) × (en .e .by ≡ some l) ×
+        (getD best (getD order k 0) 0 % halves / 2 ≡ l .number)
     unfolding mark
     line-by nz = go (key .by)
       where
@@ -130,7 +140,8 @@ module _ (n q : ℕ) (ends : List ℕ) (lines : List Line) (li : Listed lines n 
         num (fore p x z) = omega (arith, key .key, key .low)
         num (aft p x z) = omega (arith, key .key, key .low)
 
-        go : By (at (n - 1)) ends (getD order k 0) (en .e .dist) (key .h) → (l : Line) × (en .e .by ≡ some l) × (getD best (getD order k 0) 0 % halves / 2 ≡ l .number)
+        go : By (at (n - 1)) ends (getD order k 0) (en .e .dist) (key .h)
+            → (l : Line) × (en .e .by ≡ some l) × (getD best (getD order k 0) 0 % halves / 2 ≡ l .number)
         go (f.root c a b) = absurd (nz (omega (arith, key .key, a, b)))
         go (f.line l u du c hf lo t i s) = (l, sym (came-of n lines (li .sound) (getD order k 0) mark) ∙ c, num hf)
 
@@ -142,20 +153,25 @@ module _ (n q : ℕ) (ends : List ℕ) (lines : List Line) (li : Listed lines n 
         go (inr x) = Option·none-ne-some l (sym (x .its) ∙ e)
         go (inl x) =
             let own : l ≡ x .l = Option·some-injective _ _ (sym e ∙ x .its) in
-            let is : x .l ≡ j = unique lines (li .rising) (x .l) j (x .isLine) (tree-part k (omega arith) j m) (ap (λ (z : Line). z .number) (sym own) ∙ sym same) in
+            let is : x .l ≡ j = unique lines (li .rising) (x .l) j (x .isLine) (tree-part k (omega arith) j m)
+            (ap (λ (z : Line). z .number) (sym own) ∙ sym same) in
             let t = of-treeLines (at k) j m in
             ends-in lines (grown lines (marks (n - 1)) k) (t .0) (t .1) j (t .2) (x .sc .near) (x .sc .away)
             (subst (λ (z : Line). Ends z (x .sc .near) (x .sc .away)) is (x .sc .ends)) (x .sc .isOut)
 
     pub laid-next : Laid ends head next head′ next′ (getD best (getD order k 0) 0) r → LayingAt (k + 1) (count + r) head′ next′
     laid-next (stayed z e eh ex) =
-        let same-lines : treeLines (at (k + 1)) ≡ treeLines (at k) = ap (λ (j : ℕ). treeLines (at j)) (add-one k) ∙ root-stays (root-by z) in
+        let same-lines : treeLines (at (k + 1)) ≡ treeLines (at k) = ap (λ (j : ℕ). treeLines (at j)) (add-one k)
+        ∙ root-stays (root-by z) in
         record { drawn = rw (same-lines, eh, ex) (la .drawn); counted = rw same-lines (omega (arith, e, la .counted)) }
     laid-next (joined nz e jn) =
         let w = line-by nz in
-        let wd : Wider (treeLines (at k)) (treeLines (at (k + 1))) (w .0) = subst (λ (j : ℕ). Wider (treeLines (at k)) (treeLines (at j)) (w .0)) (sym (add-one k)) (line-more (w .0) (w .1)) in
+        let wd : Wider (treeLines (at k)) (treeLines (at (k + 1))) (w .0) = subst
+        (λ (j : ℕ). Wider (treeLines (at k)) (treeLines (at j)) (w .0)) (sym (add-one k)) (line-more (w .0) (w .1)) in
         record {
-          drawn = line-joins lines li (w .0) (enters-line en (w .0) (w .1)) (treeLines (at k)) (treeLines (at (k + 1))) (tree-part k (omega arith))
+          drawn =
+              line-joins lines li (w .0) (enters-line en (w .0) (w .1)) (treeLines (at k)) (treeLines (at (k + 1)))
+              (tree-part k (omega arith))
               (line-new (w .0) (w .1)) wd room (subst (Joined ends head next head′ next′) (w .2) jn) (la .drawn);
           counted = omega (arith, la .counted, line-count (w .0) (w .1), ap (λ (j : ℕ). length (treeLines (at j))) (add-one k));
         }
@@ -164,7 +180,8 @@ module _ (n q : ℕ) (ends : List ℕ) (lines : List Line) (li : Listed lines n 
   unfolding tree
   lay-end k count head next pos e la = record {
     drawn = draws-same
-        (λ l i. in-only (numbers (treeLines (at (n - 1)))) lines l (tree-part (n - 1) (omega arith) l i) (nos-isIn (treeLines (at (n - 1))) l i))
+        (λ l i. in-only (numbers (treeLines (at (n - 1)))) lines l (tree-part (n - 1) (omega arith) l i)
+        (nos-isIn (treeLines (at (n - 1))) l i))
         (λ l i. only-numbers lines (treeLines (at (n - 1))) (li .rising) (tree-part (n - 1) (omega arith)) l i)
         (subst (λ (j : ℕ). Drawn (treeLines (at j)) n head next) e (la .drawn));
     count = la .counted ∙ ap (λ (j : ℕ). length (treeLines (at j))) e;

@@ -33,7 +33,8 @@ in-cases n m ms h = go (eqb m n) refl h
     go false e h = inr h
 
 -- a line is known by its number
-pub only-numbers : (lines ls : List Line) → Rising lines → ((l : Line) → List·Memᴰ l ls → List·Memᴰ l lines) → (l : Line) → List·Memᴰ l (only (numbers ls) lines) → List·Memᴰ l ls
+pub only-numbers : (lines ls : List Line) → Rising lines → ((l : Line) → List·Memᴰ l ls → List·Memᴰ l lines) → (l : Line)
+    → List·Memᴰ l (only (numbers ls) lines) → List·Memᴰ l ls
 only-numbers lines ls ris sub l m =
     let w = of-only (numbers ls) lines l m in
     let k = isIn-numbers ls (l .number) (w .1) in

@@ -29,6 +29,6 @@ pub record TreeDrawn (lines : List Line) (n : ℕ) (head next : List ℕ) (r : �
   pub drawn : Drawn (only (numbers (treeLines (tree (n - 1) lines))) lines) n head next
   pub count : r ≡ length (treeLines (tree (n - 1) lines))
 
-abbrev pub TreeLaid : ℕ → ℕ → List ℕ → List ℕ → List ℕ → List ℕ → List ℕ → ℕ → Type 0
-TreeLaid n q ends best order head next r =
-    (lines : List Line) → Listed lines n q ends → Holding (tree (n - 1) lines) best order ends → TreeDrawn lines n head next r
+abbrev pub TreeLaid : ℕ → List ℕ → List ℕ → List ℕ → List ℕ → List ℕ → ℕ → Type 0
+TreeLaid n ends best order head next r =
+    (q : ℕ) (lines : List Line) → Listed lines n q ends → Holding (tree (n - 1) lines) best order ends → TreeDrawn lines n head next r

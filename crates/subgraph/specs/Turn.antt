@@ -1,6 +1,6 @@
--- One loop's turn, and how far the turns have come. Document 01, "Loops": "Closing lines are taken in their order. A loop runs its closing line
--- from its from end to its to end, then back by the shortest path in the subgraph .. A closing line whose path has one line is not added; any other is."
--- Assumes nothing.
+-- One loop's turn, and how far the turns have come. Document 01, "Loops": "Closing lines are taken in their order. A loop runs its closing
+-- line from its from end to its to end, then back by the shortest path in the subgraph .. A closing line whose path has one line is not
+-- added; any other is." Assumes nothing.
 use Prim.Native.Nat.{ℕ, suc, _-_}
 use mathlib.Core.Path.{_≡_}
 use mathlib.Core.Bool.{false}

@@ -1,5 +1,4 @@
 // The subgraph of the loops: the tree with the closing lines added so far.
-ghost use Prim.Native.Nat.{ℕ};
 ghost use Rattle.chains.specs.Chains.{Bounded};
 ghost use Rattle.chains.specs.Link.{RoomChains};
 ghost use Rattle.subgraph.specs.Drawn.{Laid, RoomLay, TreeLaid};
@@ -7,7 +6,8 @@ ghost use Rattle.subgraph.specs.Turn.{Takes, Taken};
 
 // The line by which a mark of this key came in joins, unless the mark is a root. The answer is the count of lines that joined.
 fn lay_mark(ends: &[u64], head: &mut [u64], next: &mut [u64], n: usize, key: u64) -> usize
-    requires { ⌜ Bounded n (now ends) ⌝ ∗ ⌜ RoomChains n (now head) (now next) ⌝ }
+    requires { ⌜ Bounded n (now ends) ⌝
+        ∗ ⌜ RoomChains n (now head) (now next) ⌝ }
     ensures { λ r. ⌜ Laid (now (ends .entry)) (now (head .entry)) (now (next .entry)) (now (head .exit)) (now (next .exit)) key r ⌝ }
 {
     if key == 0 {
@@ -26,8 +26,9 @@ pub fn lay_tree(
     next: &mut [u64],
     n: usize,
 ) -> usize
-    requires { ⌜ Bounded n (now ends) ⌝ ∗ ⌜ RoomLay n (now best) (now order) (now head) (now next) ⌝ }
-    ensures { λ r. ⌜ ((q : ℕ) → TreeLaid n q (now (ends .entry)) (now (best .entry)) (now (order .entry)) (now (head .exit)) (now (next .exit)) r) ⌝ }
+    requires { ⌜ Bounded n (now ends) ⌝
+        ∗ ⌜ RoomLay n (now best) (now order) (now head) (now next) ⌝ }
+    ensures { λ r. ⌜ TreeLaid n (now (ends .entry)) (now (best .entry)) (now (order .entry)) (now (head .exit)) (now (next .exit)) r ⌝ }
 {
     chains::zero(head, n);
     let mut count = 0;
@@ -39,8 +40,8 @@ pub fn lay_tree(
     count
 }
 
-// The turn of the closing line of this number: its path into out from place 0 on, run from its to end back to its from end; then it joins the
-// subgraph, unless the path has one line. The answer is the count of the path's lines.
+// The turn of the closing line of this number: its path into out from place 0 on, run from its to end back to its from end; then it joins
+// the subgraph, unless the path has one line. The answer is the count of the path's lines.
 pub fn take_loop(
     ends: &[u64],
     head: &mut [u64],
@@ -52,8 +53,8 @@ pub fn take_loop(
     number: usize,
 ) -> usize
     requires { ⌜ Takes n number (now ends) (now head) (now next) (now best) (now seg) (now out) ⌝ }
-    ensures { λ r. ⌜ Taken n number (now (ends .entry)) (now (head .entry)) (now (next .entry)) (now (out .entry)) (now (head .exit))
-        (now (next .exit)) (now (out .exit)) r ⌝ }
+    ensures { λ r. ⌜ Taken n number (now (ends .entry)) (now (head .entry)) (now (next .entry)) (now (out .entry))
+        (now (head .exit)) (now (next .exit)) (now (out .exit)) r ⌝ }
 {
     let h = number * 2;
     let from = (ends[h + 1] % chains::HALVES) as usize;

@@ -66,7 +66,8 @@ module _ (n : ℕ) (lines : List Line) (sound : AllSound n lines) where
 
   stays : (i k b m d : ℕ) → b ≡ i + k → distance (at k) m ≡ some d → distance (at b) m ≡ some d
   stays zero k b m d e h = let p : b ≡ k = omega arith in ap (λ (z : ℕ). distance (at z) m) p ∙ h
-  stays (suc i) k b m d e h = let p : b ≡ suc (i + k) = omega arith in ap (λ (z : ℕ). distance (at z) m) p ∙ step-keeps (i + k) m d (stays i k (i + k) m d refl h)
+  stays (suc i) k b m d e h = let p : b ≡ suc (i + k) = omega arith in ap (λ (z : ℕ). distance (at z) m) p
+      ∙ step-keeps (i + k) m d (stays i k (i + k) m d refl h)
 
   -- what is in stays in, at its distance
   pub later : (k b m d : ℕ) → k ≤ b → distance (at k) m ≡ some d → distance (at b) m ≡ some d
@@ -105,7 +106,9 @@ module _ (n : ℕ) (lines : List Line) (sound : AllSound n lines) where
   out-at m w = ap (distance (at (w .k))) (sym (w .isMark)) ∙ w .its .isNew
 
   pub in-at : (m : ℕ) (w : EntryOf m) → distance (at (suc (w .k))) m ≡ some (w .its .e .dist)
-  in-at m w = ap (λ (t : Tree). distance t m) (w .its .next) ∙ ap (distance (w .its .e ∷ at (w .k))) (sym (w .isMark)) ∙ entered (w .its .e) (at (w .k))
+  in-at m w =
+      ap (λ (t : Tree). distance t m) (w .its .next) ∙ ap (distance (w .its .e ∷ at (w .k))) (sym (w .isMark))
+      ∙ entered (w .its .e) (at (w .k))
 
   -- who is in when k marks are in entered before
   pub before : (m k d : ℕ) (w : EntryOf m) → distance (at k) m ≡ some d → w .k < k
@@ -139,13 +142,18 @@ module _ (n : ℕ) (lines : List Line) (sound : AllSound n lines) where
 
   -- the line by which a mark came in
   came-at : (i k b : ℕ) (e : Entry) → at (suc k) ≡ e ∷ at k → b ≡ i + suc k → b < n → came (at b) (e .mark) ≡ e .by
-  came-at zero k b e x q lt = let p : b ≡ suc k = omega arith in ap (λ (z : ℕ). came (at z) (e .mark)) p ∙ ap (λ (t : Tree). came t (e .mark)) x ∙ came-new e (at k) (e .mark) refl
+  came-at zero k b e x q lt = let p : b ≡ suc k = omega arith in ap (λ (z : ℕ). came (at z) (e .mark)) p
+      ∙ ap (λ (t : Tree). came t (e .mark)) x ∙ came-new e (at k) (e .mark) refl
   came-at (suc i) k b e x q lt =
       let p : b ≡ suc (i + suc k) = omega arith in
       let en = enters-at (i + suc k) (omega arith) in
-      let inside = later (suc k) (i + suc k) (e .mark) (e .dist) (omega arith) (ap (λ (t : Tree). distance t (e .mark)) x ∙ entered e (at k)) in
+      let inside = later (suc k) (i + suc k) (e .mark) (e .dist) (omega arith)
+      (ap (λ (t : Tree). distance t (e .mark)) x ∙ entered e (at k)) in
       ap (λ (z : ℕ). came (at z) (e .mark)) p ∙ ap (λ (t : Tree). came t (e .mark)) (en .next)
-      ∙ came-old (en .e) (at (i + suc k)) (e .mark) (λ z. never inside (ap (distance (at (i + suc k))) (sym z) ∙ en .isNew)) ∙ came-at i k (i + suc k) e x refl (omega arith)
+      ∙ came-old (en .e) (at (i + suc k)) (e .mark) (λ z. never inside (ap (distance (at (i + suc k))) (sym z) ∙ en .isNew))
+      ∙ came-at i k (i + suc k) e x refl (omega arith)
 
   pub came-of : (m : ℕ) (w : EntryOf m) → came (at (n - 1)) m ≡ w .its .e .by
-  came-of m w = ap (came (at (n - 1))) (sym (w .isMark)) ∙ came-at (n - 1 - suc (w .k)) (w .k) (n - 1) (w .its .e) (w .its .next) (omega (arith, w .few)) (omega (arith, w .few))
+  came-of m w =
+      ap (came (at (n - 1))) (sym (w .isMark)) ∙ came-at (n - 1 - suc (w .k)) (w .k) (n - 1) (w .its .e) (w .its .next)
+      (omega (arith, w .few)) (omega (arith, w .few))

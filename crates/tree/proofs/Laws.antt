@@ -26,11 +26,12 @@ use Rattle.search.specs.Front as f
 use Rattle.chains.proofs.Halves.{half-ends, half-flip, half-low-end, mark-of}
 use Rattle.search.proofs.Enter.{far-half, step-some, Pop, pop-none, pop-some, came-new, front-enter, front-relaxed}
 use Rattle.search.proofs.Searched.{near, newest-line, turned-any}
-use Rattle.tree.specs.Plant.{FirstFar, Sprouted, by-line, by-root, ended, Entered, none-yet, enters, Holding, Below}
+use Rattle.tree.specs.Plant.{FirstFar, growing, Sprouted, by-line, by-root, ended, Entered, none-yet, enters, Holding, Below}
 
 -- ---- the first mark that is out
 
-out-past : (es : Tree) (b : ℕ) (ms : List ℕ) → ((m : ℕ) → 0 < m → m ≤ b → distance es m ≡ none → ⊥) → firstOut es (upTo b ms) ≡ firstOut es ms
+out-past : (es : Tree) (b : ℕ) (ms : List ℕ) → ((m : ℕ) → 0 < m → m ≤ b → distance es m ≡ none → ⊥)
+    → firstOut es (upTo b ms) ≡ firstOut es ms
 unfolding upTo firstOut
 out-past es zero ms f = refl
 out-past es (suc b) ms f = out-past es b (suc b ∷ ms) (λ m l h. f m l (omega arith)) ∙ go (distance es (suc b)) refl
@@ -39,20 +40,25 @@ out-past es (suc b) ms f = out-past es b (suc b ∷ ms) (λ m l h. f m l (omega 
     go none e = absurd (f (suc b) (omega arith) (omega arith) e)
     go (some d) e = refl
 
-out-first : (es : Tree) (b : ℕ) (ms : List ℕ) (r : ℕ) → 0 < r → r ≤ b → distance es r ≡ none → ((m : ℕ) → 0 < m → m < r → distance es m ≡ none → ⊥)
+out-first : (es : Tree) (b : ℕ) (ms : List ℕ) (r : ℕ) → 0 < r → r ≤ b → distance es r ≡ none
+    → ((m : ℕ) → 0 < m → m < r → distance es m ≡ none → ⊥)
     → firstOut es (upTo b ms) ≡ some r
 unfolding upTo firstOut
 out-first es zero ms r l h o f = absurd (omega arith)
 out-first es (suc b) ms r l h o f = go (ℕ-discrete r (suc b)) (out-first es b (suc b ∷ ms) r l)
   where
-    go : Dec (r ≡ suc b) → (r ≤ b → distance es r ≡ none → ((m : ℕ) → 0 < m → m < r → distance es m ≡ none → ⊥) → firstOut es (upTo b (suc b ∷ ms)) ≡ some r)
+    go : Dec (r ≡ suc b) → (r ≤ b → distance es r ≡ none → ((m : ℕ) → 0 < m → m < r → distance es m ≡ none → ⊥) → firstOut es
+        (upTo b (suc b ∷ ms)) ≡ some r)
         → firstOut es (upTo b (suc b ∷ ms)) ≡ some r
-    go (yes e) ih = out-past es b (suc b ∷ ms) (λ m p q. f m p (omega arith)) ∙ ap (λ (x : Option ℕ). firstOf x (suc b) (firstOut es ms)) (ap (distance es) (sym e) ∙ o) ∙ ap some (sym e)
+    go (yes e) ih =
+        out-past es b (suc b ∷ ms) (λ m p q. f m p (omega arith))
+        ∙ ap (λ (x : Option ℕ). firstOf x (suc b) (firstOut es ms)) (ap (distance es) (sym e) ∙ o) ∙ ap some (sym e)
     go (no e) ih = ih (omega arith) o f
 
 -- ---- a step keeps what is in
 
-step-keeps : (lines : List Line) (roots : List ℕ) (k m d : ℕ) → distance (grow lines roots k) m ≡ some d → distance (grow lines roots (suc k)) m ≡ some d
+step-keeps : (lines : List Line) (roots : List ℕ) (k m d : ℕ) → distance (grow lines roots k) m ≡ some d
+    → distance (grow lines roots (suc k)) m ≡ some d
 unfolding grow
 step-keeps lines roots k m d h = go (stepped lines roots (grow lines roots k))
   where
@@ -76,7 +82,8 @@ entered-other k v h none-yet = none-yet
 entered-other {order = order} k v h (enters {es = es} a x) =
     enters (getD-set-other order k (length es) v 0 (λ e. omega arith) ∙ a) (entered-other k v (omega arith) x)
 
-pub entered-new : (order : List ℕ) (e : Entry) (es : Tree) (k v : ℕ) → length es ≡ k → k < length order → v ≡ e .mark → Entered order es → Entered (set order k v) (e ∷ es)
+pub entered-new : (order : List ℕ) (e : Entry) (es : Tree) (k v : ℕ) → length es ≡ k → k < length order → v ≡ e .mark → Entered order es
+    → Entered (set order k v) (e ∷ es)
 entered-new order e es k v h lt q x =
     enters (ap (λ (z : ℕ). getD (set order k v) z 0) h ∙ getD-set-same order k v 0 lt ∙ q) (entered-other k v (omega arith) x)
 
@@ -100,7 +107,8 @@ module _ (lines : List Line) (n : ℕ) (head next ends : List ℕ) (gv : Given l
     pub passed : (m : ℕ) → 0 < m → m < root → distance (grow lines (marks (n - 1)) k) m ≡ none → ⊥
     pub entered : Entered order (grow lines (marks (n - 1)) k)
 
-  pub plant-start : (best seg order : List ℕ) → ((i : ℕ) → i < n → getD best i 0 ≡ hp.far) → ((i : ℕ) → i < 2 * n → getD seg i 0 ≡ hp.far) → Planting 0 best seg order 1
+  pub plant-start : (best seg order : List ℕ) → ((i : ℕ) → i < n → getD best i 0 ≡ hp.far) → ((i : ℕ) → i < 2 * n → getD seg i 0 ≡ hp.far)
+      → Planting 0 best seg order 1
   unfolding grow distance
   plant-start best seg order fb fs = record {
     front = record {
@@ -116,7 +124,8 @@ module _ (lines : List Line) (n : ℕ) (head next ends : List ℕ) (gv : Given l
     entered = none-yet;
   }
 
-  module _ (k : ℕ) (best seg order : List ℕ) (root : ℕ) (st : Stage n best seg) (pl : Planting k best seg order root) (few : k < leafLimit) (le : k + 1 < n) (space : k < length order) where
+  module _ (k : ℕ) (best seg order : List ℕ) (root : ℕ) (st : Stage n best seg) (pl : Planting k best seg order root)
+      (few : k < leafLimit) (le : k + 1 < n) (space : k < length order) where
     small : (m d : ℕ) → distance (at k) m ≡ some d → d ≤ 100000000
     small m d h = omega (arith, near n lines (gv .sound) rts k m d h)
 
@@ -171,22 +180,28 @@ module _ (lines : List Line) (n : ℕ) (head next ends : List ℕ) (gv : Given l
           hit (old p q) = absurd (p refl)
 
       line-next : (seg₁ best′ seg′ : List ℕ) (v : ℕ) → v ≡ lead ends seg → Changed seg seg₁ n (lead ends seg) hp.far
-          → Relaxed n next ends best seg₁ best′ seg′ (getD head (lead ends seg) 0) (top seg - top seg % halves) → Planting (k + 1) best′ seg′ (set order k v) root
+          → Relaxed n next ends best seg₁ best′ seg′ (getD head (lead ends seg) 0) (top seg - top seg % halves)
+          → Planting (k + 1) best′ seg′ (set order k v) root
       line-next seg₁ best′ seg′ v q ch rx = record {
         front = subst (λ (z : Tree). Front lines n z best′ seg′ ends Nothing) (sym (ap at (add-one k) ∙ at-next)) fr;
         low = pl .low;
         passed = λ m a b. still-in m (pl .passed m a b);
-        entered = subst (λ (z : Tree). Entered (set order k v) z) (sym (ap at (add-one k) ∙ at-next)) (entered-new order en (at k) k v (sized k (omega arith)) space q (pl .entered));
+        entered =
+            subst (λ (z : Tree). Entered (set order k v) z) (sym (ap at (add-one k) ∙ at-next))
+            (entered-new order en (at k) k v (sized k (omega arith)) space q (pl .entered));
       }
         where
           base : top seg - top seg % halves ≡ (pop .d + pop .l .length) * halves
           base = omega (arith, pop .sum)
 
           fr : Front lines n (en ∷ at k) best′ seg′ ends Nothing
-          fr = front-relaxed lines n head next ends gv (en ∷ at k) (lead ends seg) (pop .d + pop .l .length) best seg₁ best′ seg′ (pop .small) there (gv .sound)
+          fr =
+              front-relaxed lines n head next ends gv (en ∷ at k) (lead ends seg) (pop .d + pop .l .length) best seg₁ best′ seg′
+              (pop .small) there (gv .sound)
               (newest-line n lines (gv .sound) rts k en by)
               (subst (λ (z : ℕ). Relaxed n next ends best seg₁ best′ seg′ (getD head (lead ends seg) 0) z) base rx)
-              (front-enter lines n head next ends gv (at k) en best seg best seg₁ (pop .isOut) (pop .small) (pl .front) key (λ m d. refl) ch)
+              (front-enter lines n head next ends gv (at k) en best seg best seg₁ (pop .isOut) (pop .small) (pl .front) key
+              (λ m d. refl) ch)
 
     -- ---- by a root, where nothing is left
 
@@ -199,7 +214,9 @@ module _ (lines : List Line) (n : ℕ) (head next ends : List ℕ) (gv : Given l
         where
           go : (getD best m 0 ≡ hp.far) ⊎ Offer lines (at k) best m → getD best m 0 ≡ hp.far
           go (inl z) = z
-          go (inr o) = never (score-of (at k) (o .l) (o .u) m (o .d) (half-ends (o .half)) (o .isIn) h) (lowest-none (at k) lines gone (o .l) (o .isLine))
+          go (inr o) =
+              never (score-of (at k) (o .l) (o .u) m (o .d) (half-ends (o .half)) (o .isIn) h)
+              (lowest-none (at k) lines gone (o .l) (o .isLine))
 
       far-out : (m : ℕ) → getD best m 0 ≡ hp.far → distance (at k) m ≡ none
       far-out m e = go (distance (at k) m) refl
@@ -215,14 +232,17 @@ module _ (lines : List Line) (n : ℕ) (head next ends : List ℕ) (gv : Given l
           go (yes e) = ff .before m (omega arith) b (out-far m (omega (arith, ff .high)) h)
           go (no e) = pl .passed m a (omega arith) h
 
-      root-next : (r : ℕ) (best′ seg′ : List ℕ) → FirstFar best n root r → r < n → Relaxed n next ends (set best r 0) seg best′ seg′ (getD head r 0) 0
+      root-next : (r : ℕ) (best′ seg′ : List ℕ) → FirstFar best n root r → r < n
+          → Relaxed n next ends (set best r 0) seg best′ seg′ (getD head r 0) 0
           → Planting (k + 1) best′ seg′ (set order k r) r
       unfolding grow step marks
       root-next r best′ seg′ ff lt rx = record {
         front = subst (λ (z : Tree). Front lines n z best′ seg′ ends Nothing) (sym (ap at (add-one k) ∙ at-next)) fr;
         low = omega (arith, pl .low, ff .low);
         passed = λ m a b. still-in m (all-in r ff m a b);
-        entered = subst (λ (z : Tree). Entered (set order k r) z) (sym (ap at (add-one k) ∙ at-next)) (entered-new order (entry r 0 none) (at k) k r (sized k (omega arith)) space refl (pl .entered));
+        entered =
+            subst (λ (z : Tree). Entered (set order k r) z) (sym (ap at (add-one k) ∙ at-next))
+            (entered-new order (entry r 0 none) (at k) k r (sized k (omega arith)) space refl (pl .entered));
       }
         where
           out : distance (at k) r ≡ none
@@ -233,10 +253,17 @@ module _ (lines : List Line) (n : ℕ) (head next ends : List ℕ) (gv : Given l
 
           at-next : at (suc k) ≡ entry r 0 none ∷ at k
           at-next = ap (λ (o : Option Candidate). tr.next (at k) o (firstOut (at k) rts)) gone
-              ∙ ap (λ (o : Option ℕ). tr.next (at k) none o) (out-first (at k) (n - 1) [] r (omega (arith, pl .low, ff .low)) (omega arith) out (all-in r ff))
+              ∙ ap (λ (o : Option ℕ). tr.next (at k) none o)
+              (out-first (at k) (n - 1) [] r (omega (arith, pl .low, ff .low)) (omega arith) out (all-in r ff))
 
           key : Key (entry r 0 none ∷ at k) (set best r 0) ends r 0
-          key = record { h = 0; low = omega arith; key = getD-set-same best r 0 0 (omega (arith, st .places)); by = f.root (came-new (entry r 0 none) (at k) r refl) refl refl }
+          key = record {
+            h = 0;
+            low = omega arith;
+            key = getD-set-same best r 0 0 (omega (arith, st .places));
+            by = f.root
+                (came-new (entry r 0 none) (at k) r refl) refl refl;
+          }
 
           ri : distance (entry r 0 none ∷ at k) r ≡ some 0
           ri = hit (after (entry r 0 none) (at k) r)
@@ -245,7 +272,8 @@ module _ (lines : List Line) (n : ℕ) (head next ends : List ℕ) (gv : Given l
               hit (new p q) = q
               hit (old p q) = absurd (p refl)
 
-          newest : (l : Line) (x h dx : ℕ) → List·Memᴰ l lines → Half l r x h → distance (entry r 0 none ∷ at k) x ≡ some dx → dx < 0 + l .length
+          newest : (l : Line) (x h dx : ℕ) → List·Memᴰ l lines → Half l r x h → distance (entry r 0 none ∷ at k) x ≡ some dx
+              → dx < 0 + l .length
           newest l x h dx i j a = hit (after (entry r 0 none) (at k) x)
             where
               hit : After (entry r 0 none) (at k) x → dx < 0 + l .length
@@ -253,7 +281,8 @@ module _ (lines : List Line) (n : ℕ) (head next ends : List ℕ) (gv : Given l
               hit (old p q) = never (score-of (at k) l x r dx (turn (half-ends j)) (sym q ∙ a) out) (lowest-none (at k) lines gone l i)
 
           fr : Front lines n (entry r 0 none ∷ at k) best′ seg′ ends Nothing
-          fr = front-relaxed lines n head next ends gv (entry r 0 none ∷ at k) r 0 (set best r 0) seg best′ seg′ lt ri (gv .sound) newest rx
+          fr =
+              front-relaxed lines n head next ends gv (entry r 0 none ∷ at k) r 0 (set best r 0) seg best′ seg′ lt ri (gv .sound) newest rx
               (front-enter lines n head next ends gv (at k) (entry r 0 none) best seg (set best r 0) seg out lt (pl .front) key
               (λ m d. getD-set-other best r m 0 0 d)
               (record { heap = st .heap; here = pl .front .opened r lt out ∙ ff .at lt; others = λ j a d. refl }))
@@ -271,9 +300,11 @@ module _ (lines : List Line) (n : ℕ) (head next ends : List ℕ) (gv : Given l
           at-next = ap (λ (o : Option Candidate). tr.next (at k) o (firstOut (at k) rts)) gone
               ∙ ap (λ (o : Option ℕ). tr.next (at k) none o) (out-past (at k) (n - 1) [] (λ m a b. all-in r ff m a (omega arith)))
 
-    pub sprouted-next : (best′ seg′ order′ : List ℕ) (r : ℕ) → Sprouted n head next ends best seg order best′ seg′ order′ k root r → Planting (k + 1) best′ seg′ order′ r
+    pub sprouted-next : (best′ seg′ order′ : List ℕ) (r : ℕ)
+        → Sprouted n head next ends (growing best seg order) (growing best′ seg′ order′) k root r → Planting (k + 1) best′ seg′ order′ r
     sprouted-next best′ seg′ order′ r (by-line a (more z lt seg₁ ch ne rx) e q o) =
-        subst (λ (x : List ℕ). Planting (k + 1) best′ seg′ x r) (sym o) (subst (λ (x : ℕ). Planting (k + 1) best′ seg′ (set order k a) x) (sym q) (line-next lt seg₁ best′ seg′ a z ch rx))
+        subst (λ (x : List ℕ). Planting (k + 1) best′ seg′ x r) (sym o)
+        (subst (λ (x : ℕ). Planting (k + 1) best′ seg′ (set order k a) x) (sym q) (line-next lt seg₁ best′ seg′ a z ch rx))
     sprouted-next best′ seg′ order′ r (by-line a (found z lt t q q₂) e q′ o) = absurd (e (z ∙ t))
     sprouted-next best′ seg′ order′ r (by-line a (nothing z lt q q′) e q″ o) = absurd (e z)
     sprouted-next best′ seg′ order′ r (by-root a best₁ seg₁ (more z lt s ch ne rx) e ff l x o) = absurd (ne (sym z ∙ e))
@@ -286,12 +317,17 @@ module _ (lines : List Line) (n : ℕ) (head next ends : List ℕ) (gv : Given l
     sprouted-next best′ seg′ order′ r (ended a (more z lt s ch ne rx) e ff l o) = absurd (ne (sym z ∙ e))
     sprouted-next best′ seg′ order′ r (ended a (found z lt t q q₂) e ff l o) = absurd (omega (arith, lead-low lt, t))
     sprouted-next best′ seg′ order′ r (ended a (nothing z lt q q′) e ff l o) =
-        subst (λ (y : List ℕ). Planting (k + 1) best′ seg′ y r) (sym o) (subst (λ (y : List ℕ). Planting (k + 1) y seg′ order r) (sym q) (subst (λ (y : List ℕ). Planting (k + 1) best y order r) (sym q′)
+        subst (λ (y : List ℕ). Planting (k + 1) best′ seg′ y r) (sym o)
+        (subst (λ (y : List ℕ). Planting (k + 1) y seg′ order r) (sym q)
+        (subst (λ (y : List ℕ). Planting (k + 1) best y order r) (sym q′)
         (end-next lt r (subst (λ (y : List ℕ). FirstFar y n root r) q ff) l)))
 
-  pub plant-end : (k : ℕ) (best seg order : List ℕ) (rt : ℕ) → Planting k best seg order rt → k ≡ n - 1 → Holding (tree (n - 1) lines) best order ends
+  pub plant-end : (k : ℕ) (best seg order : List ℕ) (rt : ℕ) → Planting k best seg order rt → k ≡ n - 1
+      → Holding (tree (n - 1) lines) best order ends
   unfolding tree
-  plant-end k best seg order rt pl e = subst (λ (z : ℕ). Holding (grow lines (marks (n - 1)) z) best order ends) e (record { keyed = pl .front .keyed; entered = pl .entered })
+  plant-end k best seg order rt pl e =
+      subst (λ (z : ℕ). Holding (grow lines (marks (n - 1)) z) best order ends) e
+      (record { keyed = pl .front .keyed; entered = pl .entered })
 
 -- ---- first_far
 
@@ -305,7 +341,8 @@ first-next best i j f g x a b e = go (ℕ-discrete x j)
 
 -- ---- sprout and plant
 
-pub stage-clear : (n : ℕ) (best seg : List ℕ) → n ≤ leafLimit → 0 < n → n ≤ length best → 2 * n ≤ length seg → ((i : ℕ) → i < n → getD best i 0 ≡ hp.far)
+pub stage-clear : (n : ℕ) (best seg : List ℕ) → n ≤ leafLimit → 0 < n → n ≤ length best → 2 * n ≤ length seg
+    → ((i : ℕ) → i < n → getD best i 0 ≡ hp.far)
     → ((i : ℕ) → i < 2 * n → getD seg i 0 ≡ hp.far) → Stage n best seg
 stage-clear n best seg few pos lb ls fb fs = record {
   heap = cleared seg n few pos ls fs;
@@ -315,12 +352,13 @@ stage-clear n best seg few pos lb ls fb fs = record {
 }
 
 module _ (n : ℕ) (head next ends best seg order best′ seg′ order′ : List ℕ) (k rt r : ℕ) where
-  pub sprouted-high : rt ≤ n → Sprouted n head next ends best seg order best′ seg′ order′ k rt r → r ≤ n
+  pub sprouted-high : rt ≤ n → Sprouted n head next ends (growing best seg order) (growing best′ seg′ order′) k rt r → r ≤ n
   sprouted-high h (by-line a t e q o) = omega arith
   sprouted-high h (by-root a b s t e ff l x o) = omega arith
   sprouted-high h (ended a t e ff q o) = omega arith
 
-  pub sprouted-below : Stage n best seg → Bounded n ends → Below n order → Sprouted n head next ends best seg order best′ seg′ order′ k rt r → Below n order′
+  pub sprouted-below : Stage n best seg → Bounded n ends → Below n order
+      → Sprouted n head next ends (growing best seg order) (growing best′ seg′ order′) k rt r → Below n order′
   sprouted-below st tp o (by-line a t e q z) m h = rw z (below-set n order k a (turned-low t) o m h)
     where
       turned-low : Turned n head next ends best seg best′ seg′ 0 a → a < n
@@ -330,7 +368,8 @@ module _ (n : ℕ) (head next ends best seg order best′ seg′ order′ : List
   sprouted-below st tp o (by-root a b s t e ff l x z) m h = rw z (below-set n order k r l o m h)
   sprouted-below st tp o (ended a t e ff q z) m h = rw z (o m h)
 
-  pub sprouted-stage : Stage n best seg → Bounded n ends → Sprouted n head next ends best seg order best′ seg′ order′ k rt r → Stage n best′ seg′
+  pub sprouted-stage : Stage n best seg → Bounded n ends → Sprouted n head next ends (growing best seg order)
+      (growing best′ seg′ order′) k rt r → Stage n best′ seg′
   sprouted-stage st tp (by-line a t e q o) = turned-any n head next ends best seg best′ seg′ 0 a st t
   sprouted-stage st tp (by-root a b s t e ff l x o) = x .stage
   sprouted-stage st tp (ended a t e ff q o) = turned-any n head next ends best seg best′ seg′ 0 a st t

@@ -16,15 +16,24 @@ pub record FirstFar (best : List ℕ) (n i r : ℕ) : Type 0 where
   pub before : (j : ℕ) → i ≤ j → j < r → getD best j 0 ≡ hp.far → ⊥
   pub at : r < n → getD best r 0 ≡ hp.far
 
+-- the tables of a tree as it grows
+pub record Growing : Type 0 where
+  pub best : List ℕ
+  pub seg : List ℕ
+  pub order : List ℕ
+
+abbrev pub growing : List ℕ → List ℕ → List ℕ → Growing
+growing best seg order = record { best = best; seg = seg; order = order }
+
 -- the mark that enters k-th stands at place k of order
-pub data Sprouted (n : ℕ) (head next ends best seg order best′ seg′ order′ : List ℕ) (k root r : ℕ) : Type 0 where
-  by-line : (a : ℕ) → Turned n head next ends best seg best′ seg′ 0 a → (a ≡ 0 → ⊥) → r ≡ root → order′ ≡ set order k a
-      → Sprouted n head next ends best seg order best′ seg′ order′ k root r
-  by-root : (a : ℕ) (best₁ seg₁ : List ℕ) → Turned n head next ends best seg best₁ seg₁ 0 a → a ≡ 0 → FirstFar best₁ n root r → r < n
-      → Relaxed n next ends (set best₁ r 0) seg₁ best′ seg′ (getD head r 0) 0 → order′ ≡ set order k r
-      → Sprouted n head next ends best seg order best′ seg′ order′ k root r
-  ended : (a : ℕ) → Turned n head next ends best seg best′ seg′ 0 a → a ≡ 0 → FirstFar best′ n root r → r ≡ n → order′ ≡ order
-      → Sprouted n head next ends best seg order best′ seg′ order′ k root r
+pub data Sprouted (n : ℕ) (head next ends : List ℕ) (g g′ : Growing) (k root r : ℕ) : Type 0 where
+  by-line : (a : ℕ) → Turned n head next ends (g .best) (g .seg) (g′ .best) (g′ .seg) 0 a → (a ≡ 0 → ⊥) → r ≡ root
+      → g′ .order ≡ set (g .order) k a → Sprouted n head next ends g g′ k root r
+  by-root : (a : ℕ) (best₁ seg₁ : List ℕ) → Turned n head next ends (g .best) (g .seg) best₁ seg₁ 0 a → a ≡ 0 → FirstFar best₁ n root r
+      → r < n → Relaxed n next ends (set best₁ r 0) seg₁ (g′ .best) (g′ .seg) (getD head r 0) 0 → g′ .order ≡ set (g .order) k r
+      → Sprouted n head next ends g g′ k root r
+  ended : (a : ℕ) → Turned n head next ends (g .best) (g .seg) (g′ .best) (g′ .seg) 0 a → a ≡ 0 → FirstFar (g′ .best) n root r → r ≡ n
+      → g′ .order ≡ g .order → Sprouted n head next ends g g′ k root r
 
 -- order has the marks of the tree as they entered
 pub data Entered (order : List ℕ) : Tree → Type 0 where

@@ -3,11 +3,12 @@ ghost use Prim.Native.Nat.{_+_, _*_, _<_, _≤_};
 ghost use lib.ListN.{length};
 ghost use Rattle.chains.specs.Chains.{Bounded, Heads};
 ghost use Rattle.search.specs.Front.{Stage};
-ghost use Rattle.tree.specs.Plant.{FirstFar, Sprouted, Planted, Below, RoomTree};
+ghost use Rattle.tree.specs.Plant.{FirstFar, growing, Sprouted, Planted, Below, RoomTree};
 
 // The first place from i on that holds FAR, or n.
 fn first_far(best: &[u64], n: usize, i: usize) -> usize
-    requires { ⌜ n ≤ length (now best) ⌝ ∗ ⌜ i ≤ n ⌝ }
+    requires { ⌜ n ≤ length (now best) ⌝
+        ∗ ⌜ i ≤ n ⌝ }
     ensures { λ r. ⌜ FirstFar (now (best .entry)) n i r ⌝ }
 {
     let mut j = i;
@@ -32,10 +33,13 @@ fn sprout(
     k: usize,
     root: usize,
 ) -> usize
-    requires { ⌜ Bounded n (now ends) ⌝ ∗ ⌜ Heads n (now head) (now next) ⌝ ∗ ⌜ Stage n (now best) (now seg) ⌝
+    requires { ⌜ Bounded n (now ends) ⌝
+        ∗ ⌜ Heads n (now head) (now next) ⌝
+        ∗ ⌜ Stage n (now best) (now seg) ⌝
         ∗ ⌜ (root ≤ n) × (k < length (now order)) ⌝ }
-    ensures { λ r. ⌜ Sprouted n (now (head .entry)) (now (next .entry)) (now (ends .entry)) (now (best .entry)) (now (seg .entry))
-        (now (order .entry)) (now (best .exit)) (now (seg .exit)) (now (order .exit)) k root r ⌝ }
+    ensures { λ r. ⌜ Sprouted n (now (head .entry)) (now (next .entry)) (now (ends .entry))
+        (growing (now (best .entry)) (now (seg .entry)) (now (order .entry)))
+        (growing (now (best .exit)) (now (seg .exit)) (now (order .exit))) k root r ⌝ }
 {
     let m = search::turn(head, next, ends, best, seg, n, 0);
     if m != 0 {
@@ -61,7 +65,9 @@ pub fn plant(
     order: &mut [u64],
     n: usize,
 )
-    requires { ⌜ Bounded n (now ends) ⌝ ∗ ⌜ Heads n (now head) (now next) ⌝ ∗ ⌜ RoomTree n (now best) (now seg) (now order) ⌝ }
+    requires { ⌜ Bounded n (now ends) ⌝
+        ∗ ⌜ Heads n (now head) (now next) ⌝
+        ∗ ⌜ RoomTree n (now best) (now seg) (now order) ⌝ }
     ensures { λ _. ⌜ Planted n (now (head .entry)) (now (next .entry)) (now (ends .entry)) (now (best .exit)) (now (order .exit)) ⌝
         ∗ ⌜ Below n (now (order .exit)) ⌝ }
 {

@@ -38,15 +38,19 @@ use Rattle.unchecked.proofs.Marking.{from-at, to-at}
 abbrev Came : Tree → Entry → Type 0
 Came es x = (came es (x .mark) ≡ x .by) × ((d : ℕ) × (distance es (x .mark) ≡ some d))
 
-came-on : (e : Entry) (es : Tree) → distance es (e .mark) ≡ none → (x : Entry) → List·Memᴰ x (e ∷ es) → (List·Memᴰ x es → Came es x) → Came (e ∷ es) x
+came-on : (e : Entry) (es : Tree) → distance es (e .mark) ≡ none → (x : Entry) → List·Memᴰ x (e ∷ es) → (List·Memᴰ x es → Came es x)
+    → Came (e ∷ es) x
 came-on e es out x (List·Memᴰ·head p) ih = subst (Came (e ∷ es)) (sym p) (came-new e es (e .mark) refl, hit (after e es (e .mark)))
   where
     hit : After e es (e .mark) → (d : ℕ) × (distance (e ∷ es) (e .mark) ≡ some d)
     hit (new q h) = (e .dist, h)
     hit (old q h) = absurd (q refl)
 came-on e es out x (List·Memᴰ·tail i) ih =
-    let k = ih i in
-    (came-old e es (x .mark) (λ z. never (k .1 .1) (ap (distance es) (sym z) ∙ out)) ∙ k .0, (k .1 .0, keeps e es (x .mark) (k .1 .0) out (k .1 .1)))
+    let k = ih i in (
+      came-old e es (x .mark) (λ z. never (k .1 .1) (ap (distance es) (sym z) ∙ out))
+          ∙ k .0,
+      (k .1 .0, keeps e es (x .mark) (k .1 .0) out (k .1 .1)),
+    )
 
 came-in : (lines : List Line) {es : Tree} → Grown lines es → (x : Entry) → List·Memᴰ x es → Came es x
 came-in lines empty x i = absurd (List·Memᴰ·not-nil i)
@@ -62,7 +66,8 @@ tests false true c h = absurd (false≢true h)
 tests false false true h = absurd (false≢true h)
 tests false false false h = (refl, refl, refl)
 
-module _ {n q : ℕ} {lines : List Line} {ends best order : List ℕ} (li : Listed lines n q ends) (ho : Holding (tree (n - 1) lines) best order ends) where
+module _ {n q : ℕ} {lines : List Line} {ends best order : List ℕ} (li : Listed lines n q ends)
+    (ho : Holding (tree (n - 1) lines) best order ends) where
   abbrev es : Tree
   es = tree (n - 1) lines
 
@@ -76,9 +81,11 @@ module _ {n q : ℕ} {lines : List Line} {ends best order : List ℕ} (li : List
       go : (d : ℕ) × (distance es m ≡ some d) × Key es best ends m d → (l : Line) × List·Memᴰ l (treeLines es) × (l .number ≡ k)
       go (d, at, ky) = by (ky .by) (entry-came es m d at)
         where
-          by : By es ends m d (ky .h) → (x : Entry) × List·Memᴰ x es × (x .mark ≡ m) × (x .by ≡ came es m) → (l : Line) × List·Memᴰ l (treeLines es) × (l .number ≡ k)
+          by : By es ends m d (ky .h) → (x : Entry) × List·Memᴰ x es × (x .mark ≡ m) × (x .by ≡ came es m)
+              → (l : Line) × List·Memᴰ l (treeLines es) × (l .number ≡ k)
           by (f.root c a b) x = absurd (omega (arith, ky .key, b))
-          by (f.line l u du c hf lo tp i s) (x, x-in, x-mark, x-by) = (l, in-treeLines es l (x, x-in, x-by ∙ c), omega (arith, ky .key, ky .low, half-no hf))
+          by (f.line l u du c hf lo tp i s) (x, x-in, x-mark, x-by) =
+              (l, in-treeLines es l (x, x-in, x-by ∙ c), omega (arith, ky .key, ky .low, half-no hf))
 
   -- so a closing line stands, and no end of it came in by it
   pub closing-closes : (c : Line) → List·Memᴰ c (closing lines es) → closesAt ends best (c .number) ≡ true
@@ -91,8 +98,10 @@ module _ {n q : ℕ} {lines : List Line} {ends best order : List ℕ} (li : List
       never-tree-line-and-closing-line (n - 1) lines (book-sound n lines ends best held) (w .0) c (w .1) m (sym (w .2))) in
       rw (
         ne-eqb (getD ends (c .number * 2) 0) 0 (λ z. omega (arith, line-metres li c stands, so .long)),
-        ne-eqb (lineIn best (markOf ends (c .number * 2))) (c .number) (other (c .to) (so .to-low, so .to-high) _ (to-at held c stands refl)),
-        ne-eqb (lineIn best (markOf ends (c .number * 2 + 1))) (c .number) (other (c .from) (so .from-low, so .from-high) _ (from-at held c stands refl)),
+        ne-eqb (lineIn best (markOf ends (c .number * 2))) (c .number)
+            (other (c .to) (so .to-low, so .to-high) _ (to-at held c stands refl)),
+        ne-eqb (lineIn best (markOf ends (c .number * 2 + 1))) (c .number)
+            (other (c .from) (so .from-low, so .from-high) _ (from-at held c stands refl)),
       )
 
   -- and a tree line is the one by which one of its ends came in
@@ -110,7 +119,8 @@ module _ {n q : ℕ} {lines : List Line} {ends best order : List ℕ} (li : List
 
           by : By es ends (x .mark) (k .1 .0) (ky .h) → (lineIn best (l .to) ≡ l .number) ⊎ (lineIn best (l .from) ≡ l .number)
           by (f.root c a b) = absurd (Option·none-ne-some l (sym c ∙ k .0 ∙ its))
-          by (f.line m u du c hf lo tp i s) = half (subst (λ (z : Line). Half z u (x .mark) (ky .h)) (Option·some-injective _ _ (sym c ∙ k .0 ∙ its)) hf)
+          by (f.line m u du c hf lo tp i s) =
+              half (subst (λ (z : Line). Half z u (x .mark) (ky .h)) (Option·some-injective _ _ (sym c ∙ k .0 ∙ its)) hf)
             where
               half : Half l u (x .mark) (ky .h) → (lineIn best (l .to) ≡ l .number) ⊎ (lineIn best (l .from) ≡ l .number)
               half (fore p z e) = inl (ap (lineIn best) z ∙ omega (arith, ky .key, ky .low))
@@ -119,11 +129,14 @@ module _ {n q : ℕ} {lines : List Line} {ends best order : List ℕ} (li : List
   -- so that a line that closes is a closing line
   pub closes-closing : (k : ℕ) → k < q → closesAt ends best k ≡ true → (c : Line) × List·Memᴰ c (closing lines es) × (c .number ≡ k)
   closes-closing k lt h =
-      let t = tests (eqb (getD ends (k * 2) 0) 0) (eqb (lineIn best (markOf ends (k * 2))) k) (eqb (lineIn best (markOf ends (k * 2 + 1))) k) h in
+      let t = tests (eqb (getD ends (k * 2) 0) 0) (eqb (lineIn best (markOf ends (k * 2))) k)
+      (eqb (lineIn best (markOf ends (k * 2 + 1))) k) h in
       let w = li .lineOf k lt (omega (arith, eqb-false (getD ends (k * 2) 0) 0 (t .0))) in
-      go (w .0) (w .1) (w .2) (eqb-false _ _ (t .1)) (eqb-false _ _ (t .2)) (tree-line-or-closing-line (n - 1) lines (book-sound n lines ends best held) (w .0) (w .1))
+      go (w .0) (w .1) (w .2) (eqb-false _ _ (t .1)) (eqb-false _ _ (t .2))
+      (tree-line-or-closing-line (n - 1) lines (book-sound n lines ends best held) (w .0) (w .1))
     where
-      go : (l : Line) → List·Memᴰ l lines → l .number ≡ k → (lineIn best (markOf ends (k * 2)) ≡ k → ⊥) → (lineIn best (markOf ends (k * 2 + 1)) ≡ k → ⊥)
+      go : (l : Line) → List·Memᴰ l lines → l .number ≡ k → (lineIn best (markOf ends (k * 2)) ≡ k → ⊥)
+          → (lineIn best (markOf ends (k * 2 + 1)) ≡ k → ⊥)
           → List·Memᴰ l (treeLines es) ⊎ List·Memᴰ l (closing lines es) → (c : Line) × List·Memᴰ c (closing lines es) × (c .number ≡ k)
       go l i e no-to no-from (inr c) = (l, c, e)
       go l i e no-to no-from (inl t) = absurd (neither (tree-line-came l t))
@@ -136,16 +149,24 @@ module _ {n q : ℕ} {lines : List Line} {ends best order : List ℕ} (li : List
 
 -- all that is marked is to be marked, and what the closing lines with numbers below `number` check is marked
 pub record SoFar (n : ℕ) (lines : List Line) (marked : List ℕ) (number : ℕ) : Type 0 where
-  pub sound : (j : ℕ) → j < numberLimit → isMarked marked j ≡ true → crossed (tree (n - 1) lines) j (closing lines (tree (n - 1) lines)) ≡ true
+  pub sound : (j : ℕ) → j < numberLimit → isMarked marked j ≡ true
+      → crossed (tree (n - 1) lines) j (closing lines (tree (n - 1) lines)) ≡ true
   pub complete : (c : Line) → List·Memᴰ c (closing lines (tree (n - 1) lines)) → c .number < number
       → (j : ℕ) → (eqb (c .number) j || crosses (tree (n - 1) lines) j c) ≡ true → isMarked marked j ≡ true
 
-module _ {n q : ℕ} {lines : List Line} {ends best order : List ℕ} (li : Listed lines n q ends) (ho : Holding (tree (n - 1) lines) best order ends) where
+module _ {n q : ℕ} {lines : List Line} {ends best order : List ℕ} (li : Listed lines n q ends)
+    (ho : Holding (tree (n - 1) lines) best order ends) where
   -- at the start nothing is marked
   pub start-so-far : {marked : List ℕ} → ((j : ℕ) → j < numberLimit → getD marked j 0 ≡ 0) → SoFar n lines marked 1
   start-so-far z = record {
     sound = λ j lt h. absurd (false≢true (sym (ap (λ (k : ℕ). eqb k checkedMark) (z j lt)) ∙ h));
-    complete = λ c m lt j h. absurd (omega (arith, lt, li .sound c (closing-line-stands (n - 1) lines (book-sound n lines ends best (tree-held li ho)) c m) .numbered));
+    complete =
+        λ c m lt j h. absurd (omega (
+          arith,
+          lt,
+          li .sound c
+              (closing-line-stands (n - 1) lines (book-sound n lines ends best (tree-held li ho)) c m) .numbered,
+        ));
   }
 
   module _ {marked marked′ : List ℕ} {number : ℕ} (lt : number < q) (w : SoFar n lines marked number) where
@@ -160,7 +181,11 @@ module _ {n q : ℕ} {lines : List Line} {ends best order : List ℕ} (li : List
             → (j : ℕ) → (eqb (c .number) j || crosses (tree (n - 1) lines) j c) ≡ true → isMarked marked j ≡ true
         go c m (yes z) less j x = absurd (false≢true (sym h ∙ ap (closesAt ends best) (sym z) ∙ closing-closes li ho c m))
         go c m (no z) less j x = w .complete c m (omega arith) j x
-    next-so-far (closing-line h lc) = record { sound = sound; complete = λ c m less j x. complete c m (ℕ-discrete (c .number) number) less j x }
+    next-so-far (closing-line h lc) = record {
+      sound = sound;
+      complete = λ c m less j x. complete c m
+          (ℕ-discrete (c .number) number) less j x;
+    }
       where
         k : (c : Line) × List·Memᴰ c (closing lines (tree (n - 1) lines)) × (c .number ≡ number)
         k = closes-closing li ho number lt h
@@ -171,25 +196,32 @@ module _ {n q : ℕ} {lines : List Line} {ends best order : List ℕ} (li : List
         now : (j : ℕ) → isMarked marked′ j ≡ (isMarked marked j || (eqb (k .0 .number) j || crosses (tree (n - 1) lines) j (k .0)))
         now j = lc n lines (tree-held li ho) (k .0) (stands (k .0) (k .1)) (k .2) j
 
-        sound : (j : ℕ) → j < numberLimit → isMarked marked′ j ≡ true → crossed (tree (n - 1) lines) j (closing lines (tree (n - 1) lines)) ≡ true
+        sound : (j : ℕ) → j < numberLimit → isMarked marked′ j ≡ true
+            → crossed (tree (n - 1) lines) j (closing lines (tree (n - 1) lines)) ≡ true
         sound j less x = go (or-true (isMarked marked j) (eqb (k .0 .number) j || crosses (tree (n - 1) lines) j (k .0)) (sym (now j) ∙ x))
           where
             go : (isMarked marked j ≡ true) ⊎ ((eqb (k .0 .number) j || crosses (tree (n - 1) lines) j (k .0)) ≡ true)
                 → crossed (tree (n - 1) lines) j (closing lines (tree (n - 1) lines)) ≡ true
             go (inl y) = w .sound j less y
-            go (inr y) = in-crossed (tree (n - 1) lines) j (closing lines (tree (n - 1) lines)) (k .0) (k .1) (checks-one (tree (n - 1) lines) j (k .0) y)
+            go (inr y) =
+                in-crossed (tree (n - 1) lines) j (closing lines (tree (n - 1) lines)) (k .0) (k .1)
+                (checks-one (tree (n - 1) lines) j (k .0) y)
 
         complete : (c : Line) → List·Memᴰ c (closing lines (tree (n - 1) lines)) → Dec (c .number ≡ number) → c .number < number + 1
             → (j : ℕ) → (eqb (c .number) j || crosses (tree (n - 1) lines) j c) ≡ true → isMarked marked′ j ≡ true
-        complete c m (no z) less j x = now j ∙ ap (λ (t : Bool). t || (eqb (k .0 .number) j || crosses (tree (n - 1) lines) j (k .0))) (w .complete c m (omega arith) j x)
+        complete c m (no z) less j x =
+            now j ∙ ap (λ (t : Bool). t || (eqb (k .0 .number) j || crosses (tree (n - 1) lines) j (k .0)))
+            (w .complete c m (omega arith) j x)
         complete c m (yes z) less j x =
             let same = unique lines (li .rising) c (k .0) (stands c m) (stands (k .0) (k .1)) (z ∙ sym (k .2)) in
-            now j ∙ or-right (isMarked marked j) _ (subst (λ (l : Line). (eqb (l .number) j || crosses (tree (n - 1) lines) j l) ≡ true) same x)
+            now j ∙ or-right (isMarked marked j) _
+            (subst (λ (l : Line). (eqb (l .number) j || crosses (tree (n - 1) lines) j l) ≡ true) same x)
 
   -- at the end marked is what is crossed
   pub all-so-far : {marked : List ℕ} {number : ℕ} → q ≤ number → SoFar n lines marked number
       → (j : ℕ) → j < numberLimit → isMarked marked j ≡ crossed (tree (n - 1) lines) j (closing lines (tree (n - 1) lines))
-  all-so-far {marked = marked} le w j lt = same-test (isMarked marked j) (crossed (tree (n - 1) lines) j (closing lines (tree (n - 1) lines))) (w .sound j lt)
+  all-so-far {marked = marked} le w j lt =
+      same-test (isMarked marked j) (crossed (tree (n - 1) lines) j (closing lines (tree (n - 1) lines))) (w .sound j lt)
       (λ h.
       let k = crossed-by (tree (n - 1) lines) j (closing lines (tree (n - 1) lines)) h in
       let stands = closing-line-stands (n - 1) lines (book-sound n lines ends best (tree-held li ho)) (k .0) (k .1) in

@@ -31,11 +31,13 @@ use Rattle.tree.proofs.Entries.{placed}
 use Rattle.unchecked.specs.Ways.{IsMark, TreeHeld, lineIn, nearerMark}
 
 -- the tables of the lines and the tree's keys hold the tree
-pub tree-held : {n q : ℕ} {lines : List Line} {ends best order : List ℕ} → Listed lines n q ends → Holding (tree (n - 1) lines) best order ends → TreeHeld n lines ends best
+pub tree-held : {n q : ℕ} {lines : List Line} {ends best order : List ℕ} → Listed lines n q ends
+    → Holding (tree (n - 1) lines) best order ends → TreeHeld n lines ends best
 tree-held li ho = record { rising = li .rising; sound = li .sound; few = li .few; told = li .told; keyed = ho .keyed }
 
 -- the mark that a half leads to
-pub held-mark : {n : ℕ} {lines : List Line} {ends best : List ℕ} → TreeHeld n lines ends best → (l : Line) (u v h : ℕ) → List·Memᴰ l lines → Half l u v h → markOf ends h ≡ v
+pub held-mark : {n : ℕ} {lines : List Line} {ends best : List ℕ} → TreeHeld n lines ends best → (l : Line) (u v h : ℕ) → List·Memᴰ l lines
+    → Half l u v h → markOf ends h ≡ v
 held-mark {ends = ends} t l u v h i hf = told-mark ends (t .sound l i) (t .few) hf (t .told l u v h i hf)
 
 -- the distance in the key of mark m
@@ -131,14 +133,17 @@ module _ (n : ℕ) (lines : List Line) (ends best : List ℕ) (t : TreeHeld n li
               way : (j : ℕ) → onWay es j m ≡ (eqb (l .number) j || onWay es j u)
               way j =
                   let w = onward lines (t .rising) (λ k z. t .sound k z .apart) grown-tree x x-in l its-line j in
-                  let is : w .nearer ≡ u = one-end l (w .nearer) u m (t .sound l isLine .apart) (ends-to x-mark (w .ends)) (half-ends hf) in
+                  let is : w .nearer ≡ u = one-end l (w .nearer) u m (t .sound l isLine .apart) (ends-to x-mark (w .ends))
+                  (half-ends hf) in
                   ap (onWay es j) (sym x-mark) ∙ w .way ∙ ap (λ (z : ℕ). eqb (l .number) j || onWay es j z) is
 
               clear : (v : ℕ) → IsMark n v → getD best v 0 < getD best m 0 → onWay es (l .number) v ≡ false
               clear v iv lt = not-in (onWay es (l .number) v) (λ on. no (key-at v iv) on)
                 where
                   no : (e : ℕ) × (distance es v ≡ some e) × Key es best ends v e → onWay es (l .number) v ≡ true → ⊥
-                  no (e, v-at, kv) on = hit (beyond lines (t .rising) (λ k z. t .sound k z .apart) (λ k z. omega (arith, t .sound k z .long)) grown-tree l x x-in its-line d (ap (distance es) x-mark ∙ at) v e v-at on)
+                  no (e, v-at, kv) on =
+                      hit (beyond lines (t .rising) (λ k z. t .sound k z .apart)
+                      (λ k z. omega (arith, t .sound k z .long)) grown-tree l x x-in its-line d (ap (distance es) x-mark ∙ at) v e v-at on)
                     where
                       hit : (v ≡ x .mark) ⊎ (d < e) → ⊥
                       hit (inl z) = omega (arith, ap (λ (k : ℕ). getD best k 0) (z ∙ x-mark))
@@ -158,7 +163,8 @@ module _ (n : ℕ) (lines : List Line) (ends best : List ℕ) (t : TreeHeld n li
       stands : (m d : ℕ) → distance es m ≡ some d → (l : Line) → came es m ≡ some l → List·Memᴰ l lines
       stands m d h l c = let x = entry-came es m d h in treeLine lines grown-tree (x .0) (x .1) l (x .3 ∙ c)
 
-      go : (d : ℕ) × (distance es a ≡ some d) × Key es best ends a d → (d : ℕ) × (distance es b ≡ some d) × Key es best ends b d → onWay es j a ≡ onWay es j b
+      go : (d : ℕ) × (distance es a ≡ some d) × Key es best ends a d → (d : ℕ) × (distance es b ≡ some d) × Key es best ends b d
+          → onWay es j a ≡ onWay es j b
       go (d, h, ka) (d′, h′, kb) = by (ka .by) (kb .by)
         where
           one-half : ka .h ≡ kb .h
@@ -166,7 +172,9 @@ module _ (n : ℕ) (lines : List Line) (ends best : List ℕ) (t : TreeHeld n li
 
           by : By es ends a d (ka .h) → By es ends b d′ (kb .h) → onWay es j a ≡ onWay es j b
           by (f.root c x y) (f.root c′ x′ y′) = root-of a d h c ∙ sym (root-of b d′ h′ c′)
-          by (f.root c x y) (f.line l u du c′ hf lo tp i s) = absurd (omega (arith, half-no hf, t .sound l (stands b d′ h′ l c′) .numbered))
+          by (f.root c x y) (f.line l u du c′ hf lo tp i s) =
+              absurd (omega (arith, half-no hf, t .sound l (stands b d′ h′ l c′) .numbered))
           by (f.line l u du c hf lo tp i s) (f.root c′ x y) = absurd (omega (arith, half-no hf, t .sound l (stands a d h l c) .numbered))
           by (f.line l u du c hf lo tp i s) (f.line l′ u′ du′ c′ hf′ lo′ tp′ i′ s′) =
-              ap (onWay es j) (sym (held-mark t l u a (ka .h) (stands a d h l c) hf) ∙ ap (λ (z : ℕ). markOf ends z) one-half ∙ held-mark t l′ u′ b (kb .h) (stands b d′ h′ l′ c′) hf′)
+              ap (onWay es j) (sym (held-mark t l u a (ka .h) (stands a d h l c) hf) ∙ ap (λ (z : ℕ). markOf ends z) one-half
+              ∙ held-mark t l′ u′ b (kb .h) (stands b d′ h′ l′ c′) hf′)

@@ -29,12 +29,14 @@ use Rattle.unchecked.proofs.Following.{tree-held, book-sound}
 -- one number of the list
 open-next : (ends marked : List ℕ) (q number : ℕ) → number < q
     → openFrom ends marked number (q - number)
-    ≡ cond (isOpen ends marked number) (number ∷ openFrom ends marked (number + 1) (q - (number + 1))) (openFrom ends marked (number + 1) (q - (number + 1)))
+    ≡ cond (isOpen ends marked number) (number ∷ openFrom ends marked (number + 1) (q - (number + 1)))
+    (openFrom ends marked (number + 1) (q - (number + 1)))
 unfolding openFrom
 open-next ends marked q number lt =
     let k : q - number ≡ suc (q - (number + 1)) = omega arith in
     ap (openFrom ends marked number) k
-    ∙ ap (λ (i : ℕ). cond (isOpen ends marked number) (number ∷ openFrom ends marked i (q - (number + 1))) (openFrom ends marked i (q - (number + 1)))) (sym (add-one number))
+    ∙ ap (λ (i : ℕ). cond (isOpen ends marked number) (number ∷ openFrom ends marked i (q - (number + 1)))
+    (openFrom ends marked i (q - (number + 1)))) (sym (add-one number))
 
 -- the numbers below `number` are written, c of them, and the others are to be written from place c on
 pub record Writing (ends marked : List ℕ) (q : ℕ) (out₀ out : List ℕ) (c number : ℕ) : Type 0 where
@@ -48,20 +50,30 @@ writing-start ends marked q out = record { places = refl; count = omega arith }
 module _ {ends marked : List ℕ} {q : ℕ} {out₀ out : List ℕ} {c number : ℕ} (w : Writing ends marked q out₀ out c number) where
   module _ (lt : number < q) where
     -- an open line's number is written
-    pub writing-open : {out′ : List ℕ} {c′ : ℕ} → isOpen ends marked number ≡ true → out′ ≡ set out c number → c′ ≡ c + 1 → Writing ends marked q out₀ out′ c′ (number + 1)
+    pub writing-open : {out′ : List ℕ} {c′ : ℕ} → isOpen ends marked number ≡ true → out′ ≡ set out c number → c′ ≡ c + 1
+        → Writing ends marked q out₀ out′ c′ (number + 1)
     writing-open {out′ = out′} {c′ = c′} h o d =
-        let e = open-next ends marked q number lt ∙ ap (λ (t : Bool). cond t (number ∷ openFrom ends marked (number + 1) (q - (number + 1))) (openFrom ends marked (number + 1) (q - (number + 1)))) h in
+        let e = open-next ends marked q number lt ∙ ap
+        (λ (t : Bool). cond t (number ∷ openFrom ends marked (number + 1) (q - (number + 1)))
+        (openFrom ends marked (number + 1) (q - (number + 1)))) h in
         record {
-          places = ap₂ (λ (x : List ℕ) (i : ℕ). sets x i (openFrom ends marked (number + 1) (q - (number + 1)))) o (d ∙ add-one c) ∙ sym (ap (sets out c) e) ∙ w .places;
+          places =
+              ap₂ (λ (x : List ℕ) (i : ℕ). sets x i (openFrom ends marked (number + 1) (q - (number + 1)))) o (d ∙ add-one c)
+              ∙ sym (ap (sets out c) e) ∙ w .places;
           count = omega (arith, w .count, ap length e);
         }
 
     -- any other is passed over
-    pub writing-shut : {out′ : List ℕ} {c′ : ℕ} → isOpen ends marked number ≡ false → out′ ≡ out → c′ ≡ c → Writing ends marked q out₀ out′ c′ (number + 1)
+    pub writing-shut : {out′ : List ℕ} {c′ : ℕ} → isOpen ends marked number ≡ false → out′ ≡ out → c′ ≡ c
+        → Writing ends marked q out₀ out′ c′ (number + 1)
     writing-shut {out′ = out′} {c′ = c′} h o d =
-        let e = open-next ends marked q number lt ∙ ap (λ (t : Bool). cond t (number ∷ openFrom ends marked (number + 1) (q - (number + 1))) (openFrom ends marked (number + 1) (q - (number + 1)))) h in
+        let e = open-next ends marked q number lt ∙ ap
+        (λ (t : Bool). cond t (number ∷ openFrom ends marked (number + 1) (q - (number + 1)))
+        (openFrom ends marked (number + 1) (q - (number + 1)))) h in
         record {
-          places = ap₂ (λ (x : List ℕ) (i : ℕ). sets x i (openFrom ends marked (number + 1) (q - (number + 1)))) o d ∙ sym (ap (sets out c) e) ∙ w .places;
+          places =
+              ap₂ (λ (x : List ℕ) (i : ℕ). sets x i (openFrom ends marked (number + 1) (q - (number + 1)))) o d ∙ sym (ap (sets out c) e)
+              ∙ w .places;
           count = omega (arith, w .count, ap length e);
         }
 
@@ -85,7 +97,8 @@ record Spells (ends marked : List ℕ) (ls : List Loop) (lines : List Line) (j k
 
 module _ (ends marked : List ℕ) (ls : List Loop) where
   -- no line has the number j: it is passed over
-  skip : (lines : List Line) (j k : ℕ) → Spells ends marked ls lines j (suc k) → ((l : Line) → List·Memᴰ l lines → l .number ≡ j → ⊥) → Spells ends marked ls lines (suc j) k
+  skip : (lines : List Line) (j k : ℕ) → Spells ends marked ls lines j (suc k) → ((l : Line) → List·Memᴰ l lines → l .number ≡ j → ⊥)
+      → Spells ends marked ls lines (suc j) k
   skip lines j k s no-line = record {
     rising = s .rising;
     within = λ l i. (omega (arith, s .within l i, no-line l i), omega (arith, s .within l i));
@@ -95,7 +108,8 @@ module _ (ends marked : List ℕ) (ls : List Loop) where
   }
 
   -- and it is not open
-  shut : (lines : List Line) (j k : ℕ) → Spells ends marked ls lines j (suc k) → ((l : Line) → List·Memᴰ l lines → l .number ≡ j → ⊥) → isOpen ends marked j ≡ false
+  shut : (lines : List Line) (j k : ℕ) → Spells ends marked ls lines j (suc k) → ((l : Line) → List·Memᴰ l lines → l .number ≡ j → ⊥)
+      → isOpen ends marked j ≡ false
   shut lines j k s no-line = go (ℕ-discrete (getD ends (j * 2) 0) 0)
     where
       go : Dec (getD ends (j * 2) 0 ≡ 0) → isOpen ends marked j ≡ false
@@ -103,7 +117,8 @@ module _ (ends marked : List ℕ) (ls : List Loop) where
       go (no z) = let l = s .lineOf j (omega arith) (omega arith) z in absurd (no-line (l .0) (l .1) (l .2))
 
   -- the first line has the number j: it is taken
-  take-first : (l : Line) (rest : List Line) (j k : ℕ) → Spells ends marked ls (l ∷ rest) j (suc k) → l .number ≡ j → Spells ends marked ls rest (suc j) k
+  take-first : (l : Line) (rest : List Line) (j k : ℕ) → Spells ends marked ls (l ∷ rest) j (suc k) → l .number ≡ j
+      → Spells ends marked ls rest (suc j) k
   take-first l rest j k s e = go (s .rising)
     where
       go : Rising (l ∷ rest) → Spells ends marked ls rest (suc j) k
@@ -120,25 +135,30 @@ module _ (ends marked : List ℕ) (ls : List Loop) where
           later i lt (m, List·Memᴰ·tail x, h) = (m, x, h)
 
   -- and it is open exactly if no loop checks it
-  first-open : (l : Line) (rest : List Line) (j k : ℕ) → Spells ends marked ls (l ∷ rest) j (suc k) → l .number ≡ j → isOpen ends marked j ≡ not (checked (l .number) ls)
+  first-open : (l : Line) (rest : List Line) (j k : ℕ) → Spells ends marked ls (l ∷ rest) j (suc k) → l .number ≡ j
+      → isOpen ends marked j ≡ not (checked (l .number) ls)
   first-open l rest j k s e =
       ap (isOpen ends marked) (sym e)
-      ∙ ap₂ (λ (a b : Bool). not a && not b) (ne-eqb (getD ends (l .number * 2) 0) 0 (s .standing l (List·Memᴰ·head refl))) (s .marks l (List·Memᴰ·head refl))
+      ∙ ap₂ (λ (a b : Bool). not a && not b) (ne-eqb (getD ends (l .number * 2) 0) 0 (s .standing l (List·Memᴰ·head refl)))
+      (s .marks l (List·Memᴰ·head refl))
 
   -- a number below the first line's is no line's
-  above-first : (l : Line) (rest : List Line) (j : ℕ) → Rising (l ∷ rest) → j < l .number → (m : Line) → List·Memᴰ m (l ∷ rest) → m .number ≡ j → ⊥
+  above-first : (l : Line) (rest : List Line) (j : ℕ) → Rising (l ∷ rest) → j < l .number → (m : Line) → List·Memᴰ m (l ∷ rest)
+      → m .number ≡ j → ⊥
   above-first l rest j (then above r) lt m (List·Memᴰ·head p) h = omega (arith, ap (λ (x : Line). x .number) p)
   above-first l rest j (then above r) lt m (List·Memᴰ·tail i) h = omega (arith, above m i)
 
   -- so the open numbers are those of the lines that no loop checks
-  open-is-unchecked : (k : ℕ) (lines : List Line) (j : ℕ) → Spells ends marked ls lines j k → openFrom ends marked j k ≡ notChecked ls lines
+  open-is-unchecked : (k : ℕ) (lines : List Line) (j : ℕ) → Spells ends marked ls lines j k
+      → openFrom ends marked j k ≡ notChecked ls lines
   unfolding openFrom notChecked
   open-is-unchecked zero [] j s = refl
   open-is-unchecked zero (l ∷ rest) j s = absurd (omega (arith, s .within l (List·Memᴰ·head refl)))
   open-is-unchecked (suc k) [] j s =
       let none-there : (l : Line) → List·Memᴰ l [] → l .number ≡ j → ⊥ = λ l i z. List·Memᴰ·not-nil i in
       rw (shut [] j k s none-there) (open-is-unchecked k [] (suc j) (skip [] j k s none-there))
-  open-is-unchecked (suc k) (l ∷ rest) j s = go (ℕ-discrete (l .number) j) (open-is-unchecked k rest (suc j)) (open-is-unchecked k (l ∷ rest) (suc j))
+  open-is-unchecked (suc k) (l ∷ rest) j s =
+      go (ℕ-discrete (l .number) j) (open-is-unchecked k rest (suc j)) (open-is-unchecked k (l ∷ rest) (suc j))
     where
       pick : (t : Bool) (n : ℕ) (xs ys : List ℕ) → n ≡ j → xs ≡ ys → cond (not t) (j ∷ xs) xs ≡ cond t ys (n ∷ ys)
       pick true n xs ys e h = h
@@ -151,15 +171,18 @@ module _ (ends marked : List ℕ) (ls : List Loop) where
           ≡ cond (checked (l .number) ls) (notChecked ls rest) (l .number ∷ notChecked ls rest)
       go (yes e) ih other =
           ap (λ (t : Bool). cond t (j ∷ openFrom ends marked (suc j) k) (openFrom ends marked (suc j) k)) (first-open l rest j k s e)
-          ∙ pick (checked (l .number) ls) (l .number) (openFrom ends marked (suc j) k) (notChecked ls rest) e (ih (take-first l rest j k s e))
+          ∙ pick (checked (l .number) ls) (l .number) (openFrom ends marked (suc j) k) (notChecked ls rest) e
+          (ih (take-first l rest j k s e))
       go (no d) ih other =
           let above = above-first l rest j (s .rising) (omega (arith, s .within l (List·Memᴰ·head refl))) in
-          ap (λ (t : Bool). cond t (j ∷ openFrom ends marked (suc j) k) (openFrom ends marked (suc j) k)) (shut (l ∷ rest) j k s above) ∙ other (skip (l ∷ rest) j k s above)
+          ap (λ (t : Bool). cond t (j ∷ openFrom ends marked (suc j) k) (openFrom ends marked (suc j) k)) (shut (l ∷ rest) j k s above)
+          ∙ other (skip (l ∷ rest) j k s above)
 
 -- ---- what the tables hold
 
 -- once the checked lines are marked, the open numbers that are written out are the list
-pub open-list : {n q : ℕ} {lines : List Line} {ends best order out out′ : List ℕ} {a : ℕ} (marked : List ℕ) → q ≤ numberLimit → Listed lines n q ends
+pub open-list : {n q : ℕ} {lines : List Line} {ends best order out out′ : List ℕ} {a : ℕ} (marked : List ℕ) → q ≤ numberLimit
+    → Listed lines n q ends
     → Holding (tree (n - 1) lines) best order ends → LinesChecked ends best marked q
     → Put (openFrom ends marked 1 (q - 1)) out out′ a → Put (notChecked (loops (n - 1) lines) lines) out out′ a
 open-list {n = n} {q = q} {lines = lines} {ends = ends} {best = best} {order = order} {out = out} {out′ = out′} {a = a} marked few li ho lc =
@@ -169,5 +192,7 @@ open-list {n = n} {q = q} {lines = lines} {ends = ends} {best = best} {order = o
       within = λ l i. (li .sound l i .numbered, omega (arith, li .numbered l i));
       standing = λ l i z. omega (arith, line-metres li l i, li .sound l i .long);
       lineOf = λ i a b z. li .lineOf i (omega arith) (omega arith);
-      marks = λ l i. lc n order lines li ho (l .number) (li .sound l i .number) ∙ sym (checked-is-crossed (n - 1) lines (book-sound n lines ends best (tree-held li ho)) l i);
+      marks =
+          λ l i. lc n order lines li ho (l .number) (li .sound l i .number)
+          ∙ sym (checked-is-crossed (n - 1) lines (book-sound n lines ends best (tree-held li ho)) l i);
     }))

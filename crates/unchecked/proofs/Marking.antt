@@ -23,12 +23,14 @@ use Rattle.unchecked.proofs.Following.{held-mark, distanceAt, Step, ste
 -- ---- one mark more
 
 -- marked are the lines that were, and line i
-marked-set : (marked : List ℕ) (i : ℕ) → i < length marked → (j : ℕ) → isMarked (set marked i checkedMark) j ≡ (isMarked marked j || eqb i j)
+marked-set : (marked : List ℕ) (i : ℕ) → i < length marked → (j : ℕ)
+    → isMarked (set marked i checkedMark) j ≡ (isMarked marked j || eqb i j)
 marked-set marked i lt j = go (ℕ-discrete j i)
   where
     go : Dec (j ≡ i) → isMarked (set marked i checkedMark) j ≡ (isMarked marked j || eqb i j)
     go (yes e) =
-        ap (λ (k : ℕ). isMarked (set marked i checkedMark) k) e ∙ ap (λ (k : ℕ). eqb k checkedMark) (getD-set-same marked i checkedMark 0 lt)
+        ap (λ (k : ℕ). isMarked (set marked i checkedMark) k) e
+        ∙ ap (λ (k : ℕ). eqb k checkedMark) (getD-set-same marked i checkedMark 0 lt)
         ∙ sym (or-right (isMarked marked j) (eqb i j) (eq-eqb i j (sym e)))
     go (no d) =
         ap (λ (k : ℕ). eqb k checkedMark) (getD-set-other marked i j checkedMark 0 d) ∙ sym (or-false (isMarked marked j))
@@ -116,7 +118,8 @@ module _ {ends best marked : List ℕ} {u v : ℕ} (p : Follows ends best marked
 
 -- ---- one closing line
 
-module _ {n : ℕ} {lines : List Line} {ends best : List ℕ} (t : TreeHeld n lines ends best) (c : Line) (isLine : List·Memᴰ c lines) {number : ℕ} (its : c .number ≡ number) where
+module _ {n : ℕ} {lines : List Line} {ends best : List ℕ} (t : TreeHeld n lines ends best) (c : Line)
+    (isLine : List·Memᴰ c lines) {number : ℕ} (its : c .number ≡ number) where
   -- its ends stand in ends
   pub from-at : markOf ends (number * 2 + 1) ≡ c .from
   from-at = held-mark t c (c .to) (c .from) (number * 2 + 1) isLine (aft refl refl (omega arith))
@@ -140,6 +143,8 @@ module _ {n : ℕ} {lines : List Line} {ends best : List ℕ} (t : TreeHeld n li
   unfolding crosses
   loop-checked marked marked′ room fo j =
       fo n lines t from-mark to-mark j
-      ∙ ap₂ (λ (x y : Bool). x || y) (marked-set marked number (omega (arith, small-number)) j ∙ ap (λ (k : ℕ). isMarked marked j || eqb k j) (sym its))
+      ∙ ap₂ (λ (x y : Bool). x || y) (marked-set marked number (omega (arith, small-number)) j ∙ ap
+      (λ (k : ℕ). isMarked marked j || eqb k j) (sym its))
       (ap₂ (λ (x y : ℕ). differ (onWay (tree (n - 1) lines) j x) (onWay (tree (n - 1) lines) j y)) from-at to-at)
-      ∙ or-assoc (isMarked marked j) (eqb (c .number) j) (differ (onWay (tree (n - 1) lines) j (c .from)) (onWay (tree (n - 1) lines) j (c .to)))
+      ∙ or-assoc (isMarked marked j) (eqb (c .number) j)
+      (differ (onWay (tree (n - 1) lines) j (c .from)) (onWay (tree (n - 1) lines) j (c .to)))

@@ -1,4 +1,5 @@
-// The lines that no loop checks, from the tree and its closing lines alone: no loop is worked out, and the closing lines are put in no order.
+// The lines that no loop checks, from the tree and its closing lines alone: no loop is worked out, and the closing lines are put
+// in no order.
 ghost use mathlib.Core.Path.{_≡_};
 ghost use Prim.Native.Nat.{_+_, _*_, _-_, _<_};
 ghost use lib.ListN.{length};
@@ -35,8 +36,8 @@ fn climb(ends: &[u64; HALVES], best: &[u64; MARKS], marked: &mut [u64; NUMBERS],
     (ends[(h / 2 * 4 + 1 - h) as usize] % chains::HALVES) as usize
 }
 
-// The lines on the way of the mark u or of the mark v, but not of both, are checked: the two ways are followed until they meet, always from
-// the farther mark. Document 01: "A mark's way to its root is followed line by line, and the distance falls at each step."
+// The lines on the way of the mark u or of the mark v, but not of both, are checked: the two ways are followed until they meet, always
+// from the farther mark. Document 01: "A mark's way to its root is followed line by line, and the distance falls at each step."
 fn follow(
     ends: &[u64; HALVES],
     best: &[u64; MARKS],
@@ -100,7 +101,8 @@ fn check_line(
     number: usize,
     q: usize,
 )
-    requires { ⌜ Closes (now ends) (now best) (now marked) q ⌝ ∗ ⌜ number < q ⌝ }
+    requires { ⌜ Closes (now ends) (now best) (now marked) q ⌝
+        ∗ ⌜ number < q ⌝ }
     ensures { λ _. ⌜ Passed (now (ends .entry)) (now (best .entry)) (now (marked .entry)) (now (marked .exit)) number ⌝ }
     ensures { λ _. ⌜ length (now (marked .exit)) ≡ length (now (marked .entry)) ⌝ }
 {
@@ -109,7 +111,8 @@ fn check_line(
     }
 }
 
-// Every line that is checked is marked, and no other: the closing lines, in whatever order, and the lines that they cross. Line numbers are below q.
+// Every line that is checked is marked, and no other: the closing lines, in whatever order, and the lines that they cross.
+// Line numbers are below q.
 fn check_lines(ends: &[u64; HALVES], best: &[u64; MARKS], marked: &mut [u64; NUMBERS], q: usize)
     requires { ⌜ Closes (now ends) (now best) (now marked) q ⌝ }
     ensures { λ _. ⌜ LinesChecked (now (ends .entry)) (now (best .entry)) (now (marked .exit)) q ⌝ }
@@ -124,7 +127,8 @@ fn check_lines(ends: &[u64; HALVES], best: &[u64; MARKS], marked: &mut [u64; NUM
 
 // The line of this number stands and is not marked.
 fn is_open(ends: &[u64], marked: &[u64], number: usize) -> bool
-    requires { ⌜ number * 2 < length (now ends) ⌝ ∗ ⌜ number < length (now marked) ⌝ }
+    requires { ⌜ number * 2 < length (now ends) ⌝
+        ∗ ⌜ number < length (now marked) ⌝ }
     ensures { λ r. ⌜ r ≡ isOpen (now (ends .entry)) (now (marked .entry)) number ⌝ }
 {
     if ends[number * 2] == 0 {
@@ -150,7 +154,8 @@ fn list_open(ends: &[u64], marked: &[u64], out: &mut [u64], q: usize) -> usize
     c
 }
 
-// The numbers of the standing lines that no loop checks, by rising number, into out from place 0 on, and how many there are. Line numbers are below q.
+// The numbers of the standing lines that no loop checks, by rising number, into out from place 0 on, and how many there are.
+// Line numbers are below q.
 fn not_checked(
     ends: &[u64; HALVES],
     best: &[u64; MARKS],
@@ -179,7 +184,9 @@ pub fn list_book(
     out: &mut [u64],
     n: usize,
 ) -> usize
-    requires { ⌜ Good n (now lines) ⌝ ∗ ⌜ RoomNet n (now ends) (now head) (now next) ⌝ ∗ ⌜ RoomPlant n (now best) (now seg) (now order) ⌝
+    requires { ⌜ Good n (now lines) ⌝
+        ∗ ⌜ RoomNet n (now ends) (now head) (now next) ⌝
+        ∗ ⌜ RoomPlant n (now best) (now seg) (now order) ⌝
         ∗ ⌜ RoomList (now lines) (now marked) (now out) ⌝ }
     ensures { λ a. ⌜ BookListed n (now (lines .entry)) (now (out .entry)) (now (out .exit)) a ⌝ }
 {

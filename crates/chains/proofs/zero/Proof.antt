@@ -28,7 +28,12 @@ loop-less : tie.Need-loop-less Inv-loop μ-loop
 loop-less c = omega arith
 
 loop-again : tie.Need-loop-again Inv-loop μ-loop
-loop-again c = (omega arith, simp length-set (c .before .loop .inv .1), zero-next (c .before .loop .a) (c .before .loop .i) (omega arith) (c .before .loop .inv .2))
+loop-again c = (
+  omega arith,
+  simp length-set (c .before .loop .inv .1),
+  zero-next (c .before .loop .a) (c .before .loop .i) (omega arith)
+      (c .before .loop .inv .2),
+)
 
 same-length : tie.Need-same-length Inv-loop μ-loop
 same-length c = omega arith

@@ -17,7 +17,8 @@ list-entries-requires c κs =
     let after-plant-book : tie.After-plant-book = search in
     let s : tie.Start = search in
     let p = after-plant-book .plant-book in
-    readable-of (s .args .b) _ _ _ _ _ _ _ (s .pre .1 .1 .1 .0) (p .kept .1 .1 .1 .1 .0) (p .kept .1 .1 .1 .1 .1 .1 .0) (s .pre .1 .1 .1 .1 .0) (s .pre .1 .1 .1 .1 .1) (p .ensures .below)
+    readable-of (s .args .b) _ _ _ _ _ _ _ (s .pre .1 .1 .1 .0) (p .kept .1 .1 .1 .1 .0) (p .kept .1 .1 .1 .1 .1 .1 .0)
+    (s .pre .1 .1 .1 .1 .0) (s .pre .1 .1 .1 .1 .1) (p .ensures .below)
 
 same-length : tie.Need-same-length
 same-length c = search needs
@@ -53,7 +54,8 @@ returns c =
     let l = after-list-entries .list-entries in
     let w = s .pre .1 .1 .1 .1 in (
       book-entered (s .args .lines .now) (s .args .b) (s .args .n) _ _ _ _ _ (s .pre .0) (p .ensures) (l .ensures),
-      book-growth (s .args .lines .now) (s .args .b) (s .args .n) _ _ _ _ _ (s .pre .0) (p .ensures) (l .ensures) (omega (arith, w .0, l .kept .1 .1 .0)) (omega (arith, w .1, l .kept .1 .1 .1 .0)),
+      book-growth (s .args .lines .now) (s .args .b) (s .args .n) _ _ _ _ _ (s .pre .0) (p .ensures) (l .ensures)
+          (omega (arith, w .0, l .kept .1 .1 .0)) (omega (arith, w .1, l .kept .1 .1 .1 .0)),
     )
 
 pub plant-in-spec : {M : Type 1} → statement M

@@ -8,7 +8,8 @@ use Rattle.prepare.proofs.draw_book.Tie as tie
 
 abbrev Inv-loop : tie.InvT-loop
 Inv-loop lines ends₀ head₀ next₀ n j₀ ends head next j =
-    (j ≤ length lines / 5) × (length ends ≡ length ends₀) × (length head ≡ length head₀) × (length next ≡ length next₀) × DrawingAt n lines j ends head next
+    (j ≤ length lines / 5) × (length ends ≡ length ends₀) × (length head ≡ length head₀) ×
+    (length next ≡ length next₀) × DrawingAt n lines j ends head next
 
 abbrev μ-loop : tie.MeasureT-loop
 μ-loop lines ends₀ head₀ next₀ n j₀ ends head next j = j
@@ -28,8 +29,14 @@ loop-holds c =
     let after-zero : tie.After-zero Inv-loop μ-loop = search in
     let entry : tie.Start Inv-loop μ-loop = search in
     let p = entry .pre in
-    let z = c .before .before .zero2 in
-    (omega arith, refl, refl, refl, draw-start _ _ (after-zero .zero .last .0) (z .last .0) _ (p .some-mark) (omega (arith, p .ends-at)) (record { heads = omega (arith, p .chains .heads); nexts = p .chains .nexts }) (after-zero .zero .ensures) (z .ensures))
+    let z = c .before .before .zero2 in (
+      omega arith,
+      refl,
+      refl,
+      refl,
+      draw-start _ _ (after-zero .zero .last .0) (z .last .0) _ (p .some-mark) (omega (arith, p .ends-at))
+          (record { heads = omega (arith, p .chains .heads); nexts = p .chains .nexts }) (after-zero .zero .ensures) (z .ensures),
+    )
 
 sub-at : tie.Need-sub-at Inv-loop μ-loop
 sub-at c = omega arith
@@ -57,7 +64,8 @@ draw-line-requires c κs =
     let at-loop : tie.At-loop Inv-loop μ-loop = search in
     let entry : tie.Start Inv-loop μ-loop = search in
     let v = at-loop .loop .inv in
-    entry-asked _ _ _ _ _ _ _ _ _ (omega arith) (v .0) (entry .pre) (record { heads = omega (arith, v .2, entry .pre .chains .heads); nexts = omega (arith, v .3, entry .pre .chains .nexts) }) (v .4)
+    entry-asked _ _ _ _ _ _ _ _ _ (omega arith) (v .0) (entry .pre)
+    (record { heads = omega (arith, v .2, entry .pre .chains .heads); nexts = omega (arith, v .3, entry .pre .chains .nexts) }) (v .4)
 
 sub-j : tie.Need-sub-j Inv-loop μ-loop
 sub-j c = omega arith
@@ -70,8 +78,15 @@ loop-again c =
     let after-draw-line : tie.After-draw-line Inv-loop μ-loop = search in
     let at-loop : tie.At-loop Inv-loop μ-loop = search in
     let entry : tie.Start Inv-loop μ-loop = search in
-    let v = at-loop .loop .inv in
-    (omega arith, omega arith, omega arith, omega arith, draw-turn _ _ _ _ _ _ _ _ _ (omega arith) (v .0) (entry .pre) (record { heads = omega (arith, v .2, entry .pre .chains .heads); nexts = omega (arith, v .3, entry .pre .chains .nexts) }) (v .4) _ _ _ (after-draw-line .draw-line .ensures))
+    let v = at-loop .loop .inv in (
+      omega arith,
+      omega arith,
+      omega arith,
+      omega arith,
+      draw-turn _ _ _ _ _ _ _ _ _ (omega arith) (v .0) (entry .pre)
+          (record { heads = omega (arith, v .2, entry .pre .chains .heads); nexts = omega (arith, v .3, entry .pre .chains .nexts) })
+          (v .4) _ _ _ (after-draw-line .draw-line .ensures),
+    )
 
 same-length : tie.Need-same-length Inv-loop μ-loop
 same-length c = omega arith

@@ -48,7 +48,13 @@ mul-ends c =
     let after-index2 : tie.After-index2 = search in
     let after-index : tie.After-index = search in
     let entry : tie.Start = search in
-    omega (arith, entry-short (entry .pre) (after-index .index .result) (after-index2 .index2 .result) (after-index3 .index3 .result) (after-index .index .ensures ∙ search needs) (after-index2 .index2 .ensures ∙ search needs) (after-index3 .index3 .ensures ∙ search needs), entry .pre .few-marks)
+    omega (
+      arith,
+      entry-short (entry .pre) (after-index .index .result) (after-index2 .index2 .result) (after-index3 .index3 .result)
+          (after-index .index .ensures ∙ search needs) (after-index2 .index2 .ensures ∙ search needs)
+          (after-index3 .index3 .ensures ∙ search needs),
+      entry .pre .few-marks,
+    )
 
 add-ends : tie.Need-add-ends
 add-ends c =
@@ -56,7 +62,13 @@ add-ends c =
     let after-index2 : tie.After-index2 = search in
     let after-index : tie.After-index = search in
     let entry : tie.Start = search in
-    omega (arith, entry-short (entry .pre) (after-index .index .result) (after-index2 .index2 .result) (after-index3 .index3 .result) (after-index .index .ensures ∙ search needs) (after-index2 .index2 .ensures ∙ search needs) (after-index3 .index3 .ensures ∙ search needs), entry .pre .few-marks)
+    omega (
+      arith,
+      entry-short (entry .pre) (after-index .index .result) (after-index2 .index2 .result) (after-index3 .index3 .result)
+          (after-index .index .ensures ∙ search needs) (after-index2 .index2 .ensures ∙ search needs)
+          (after-index3 .index3 .ensures ∙ search needs),
+      entry .pre .few-marks,
+    )
 
 mul-ends-2 : tie.Need-mul-ends-2
 mul-ends-2 c = search needs
@@ -73,7 +85,13 @@ mul-ends-4 c =
     let after-index2 : tie.After-index2 = search in
     let after-index : tie.After-index = search in
     let entry : tie.Start = search in
-    omega (arith, entry-short (entry .pre) (after-index .index .result) (after-index2 .index2 .result) (after-index3 .index3 .result) (after-index .index .ensures ∙ search needs) (after-index2 .index2 .ensures ∙ search needs) (after-index3 .index3 .ensures ∙ search needs), entry .pre .few-marks)
+    omega (
+      arith,
+      entry-short (entry .pre) (after-index .index .result) (after-index2 .index2 .result) (after-index3 .index3 .result)
+          (after-index .index .ensures ∙ search needs) (after-index2 .index2 .ensures ∙ search needs)
+          (after-index3 .index3 .ensures ∙ search needs),
+      entry .pre .few-marks,
+    )
 
 add-ends-2 : tie.Need-add-ends-2
 add-ends-2 c =
@@ -81,7 +99,13 @@ add-ends-2 c =
     let after-index2 : tie.After-index2 = search in
     let after-index : tie.After-index = search in
     let entry : tie.Start = search in
-    omega (arith, entry-short (entry .pre) (after-index .index .result) (after-index2 .index2 .result) (after-index3 .index3 .result) (after-index .index .ensures ∙ search needs) (after-index2 .index2 .ensures ∙ search needs) (after-index3 .index3 .ensures ∙ search needs), entry .pre .few-marks)
+    omega (
+      arith,
+      entry-short (entry .pre) (after-index .index .result) (after-index2 .index2 .result) (after-index3 .index3 .result)
+          (after-index .index .ensures ∙ search needs) (after-index2 .index2 .ensures ∙ search needs)
+          (after-index3 .index3 .ensures ∙ search needs),
+      entry .pre .few-marks,
+    )
 
 mul-ends-5 : tie.Need-mul-ends-5
 mul-ends-5 c = search needs
@@ -102,8 +126,12 @@ join-requires c κs =
     let after-index3 : tie.After-index3 = search in
     let after-index2 : tie.After-index2 = search in
     let after-index : tie.After-index = search in
-    let entry : tie.Start = search in
-    (entry-fits (entry .pre) (after-index .index .result) (after-index2 .index2 .result) (after-index3 .index3 .result) (after-index .index .ensures ∙ search needs) (after-index2 .index2 .ensures ∙ search needs) (after-index3 .index3 .ensures ∙ search needs), entry .pre .chains)
+    let entry : tie.Start = search in (
+      entry-fits (entry .pre) (after-index .index .result) (after-index2 .index2 .result) (after-index3 .index3 .result)
+          (after-index .index .ensures ∙ search needs) (after-index2 .index2 .ensures ∙ search needs)
+          (after-index3 .index3 .ensures ∙ search needs),
+      entry .pre .chains,
+    )
 
 same-length : tie.Need-same-length
 same-length c = search needs
@@ -123,7 +151,10 @@ returns-2 c =
     let else1 : tie.Else1 = search in
     let after-same : tie.After-same = search in
     let entry : tie.Start = search in
-    drew-is (entry .pre) (after-index .index .result) (after-index2 .index2 .result) (after-index3 .index3 .result) (after-index .index .ensures ∙ search needs) (after-index2 .index2 .ensures ∙ search needs) (after-index3 .index3 .ensures ∙ search needs) (sym (after-same .same .ensures ∙ search needs) ∙ else1 .if1 .left) (after-join .join .ensures)
+    drew-is (entry .pre) (after-index .index .result) (after-index2 .index2 .result) (after-index3 .index3 .result)
+    (after-index .index .ensures ∙ search needs) (after-index2 .index2 .ensures ∙ search needs)
+    (after-index3 .index3 .ensures ∙ search needs) (sym (after-same .same .ensures ∙ search needs) ∙ else1 .if1 .left)
+    (after-join .join .ensures)
 
 pub draw-line-spec : {M : Type 1} → statement M
 draw-line-spec =

@@ -1,4 +1,3 @@
-use Rattle.prepare.proofs.Preparing.{sheet-of}
 use borrow.Author.Needs.{needs}
 use Rattle.prepare.proofs.plant_book.Statement.{statement}
 use Rattle.prepare.proofs.plant_book.Tie as tie
@@ -11,8 +10,17 @@ plant-requires c κs =
     let after-draw-book : tie.After-draw-book = search in
     let entry : tie.Start = search in
     let p = entry .pre in
-    let d = after-draw-book .draw-book .ensures in
-    (d .bounded, (d .heads, record { room = record { few = p .0 .few-marks; bests = p .1 .1 .bests; segs = p .1 .1 .segs }; some-mark = p .0 .some-mark; orders = p .1 .1 .orders }))
+    let d = after-draw-book .draw-book .ensures in (
+      d .bounded,
+      (
+        d .heads,
+        record {
+          room = record { few = p .0 .few-marks; bests = p .1 .1 .bests; segs = p .1 .1 .segs };
+          some-mark = p .0 .some-mark;
+          orders = p .1 .1 .orders;
+        },
+      ),
+    )
 
 same-length : tie.Need-same-length
 same-length c = search needs

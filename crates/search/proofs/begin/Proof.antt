@@ -33,8 +33,18 @@ relax-requires c κs =
     let entry : tie.Start = search in
     let p = entry .pre in
     let a = after-clear .clear .ensures in
-    let b = after-clear2 .clear2 .ensures in
-    (p .0, (p .1 .0 .chained _ (p .1 .1 .1), (stage-start _ _ (after-clear .clear .last .0) (after-clear2 .clear2 .last .0) (p .1 .1 .0 .few) (p .1 .1 .1) (omega (arith, a .0, p .1 .1 .0 .bests)) (omega (arith, b .0, p .1 .1 .0 .segs)) (a .1) (λ i h. b .1 i (omega arith)), omega arith)))
+    let b = after-clear2 .clear2 .ensures in (
+      p .0,
+      (
+        p .1 .0 .chained _ (p .1 .1 .1),
+        (
+          stage-start _ _ (after-clear .clear .last .0) (after-clear2 .clear2 .last .0)
+              (p .1 .1 .0 .few) (p .1 .1 .1) (omega (arith, a .0, p .1 .1 .0 .bests)) (omega (arith, b .0, p .1 .1 .0 .segs)) (a .1)
+              (λ i h. b .1 i (omega arith)),
+          omega arith,
+        ),
+      ),
+    )
 
 same-length : tie.Need-same-length
 same-length c =
@@ -57,7 +67,12 @@ returns c =
     record {
       best = after-clear .clear .last .0;
       seg = after-clear2 .clear2 .last .0;
-      room = record { few = p .1 .1 .0 .few; bests = omega (arith, a .0, p .1 .1 .0 .bests); segs = omega (arith, b .0, p .1 .1 .0 .segs) };
+      room = record {
+        few = p .1 .1 .0 .few;
+        bests = omega (arith, a .0, p .1 .1 .0 .bests);
+        segs = omega
+            (arith, b .0, p .1 .1 .0 .segs);
+      };
       bests = a .1;
       segs = λ i h. b .1 i (omega arith);
       offered = after-relax .relax .ensures;

@@ -1,7 +1,6 @@
-use Prim.Native.Nat.{_<_}
 use mathlib.Core.List.{List}
 use Prim.Native.Nat.{ℕ}
-use Rattle.chains.specs.Chains.{Chain, halves}
+use Rattle.chains.specs.Chains.{Chain}
 use Rattle.chains.proofs.Halves.{stepsLeft, steps-fall, chain-low, chain-rest}
 use Rattle.search.proofs.Direct.{Least, least-start, least-turn, least-end}
 use borrow.Author.Needs.{needs}
@@ -62,8 +61,11 @@ loop-less c =
 
 loop-again : tie.Need-loop-again Inv-loop μ-loop
 loop-again c =
-    let at-loop : tie.At-loop Inv-loop μ-loop = search in
-    (chain-rest (at-loop .loop .inv .0 .1) (omega arith), least-turn _ _ _ _ _ _ (at-loop .loop .inv .1) (omega arith) (c .before .lesser .ensures))
+    let at-loop : tie.At-loop Inv-loop μ-loop = search in (
+      chain-rest (at-loop .loop .inv .0 .1) (omega arith),
+      least-turn _ _ _ _ _ _ (at-loop .loop .inv .1) (omega arith)
+          (c .before .lesser .ensures),
+    )
 
 returns : tie.Need-returns Inv-loop μ-loop
 returns c = least-end _ _ _ _ _ (c .before .loop .inv .1) (omega arith)

@@ -42,7 +42,8 @@ way-requires c κs =
     let entry : tie.Start = search in
     let p = entry .pre in
     let g = p .0 .given in
-    path-leads _ _ _ _ _ g _ _ _ (p .1 .1 .r-ok) (omega (arith, p .1 .0 .room .bests)) (after-search .search .ensures (p .0 .sub) g) (c .before .before .if2 .taken) _ (p .0 .bounded .ends-at) (p .1 .0 .outs)
+    path-leads _ _ _ _ _ g _ _ _ (p .1 .1 .r-ok) (omega (arith, p .1 .0 .room .bests)) (after-search .search .ensures (p .0 .sub) g)
+    (c .before .before .if2 .taken) _ (p .0 .bounded .ends-at) (p .1 .0 .outs)
 
 same-length-2 : tie.Need-same-length-2
 same-length-2 c = search needs
@@ -60,7 +61,8 @@ returns-2 c =
     let after-direct-half : tie.After-direct-half = search in
     let entry : tie.Start = search in
     let p = entry .pre in
-    λ sub g. path-walked sub _ _ _ _ g _ _ _ (p .1 .1 .r-ok) (omega (arith, c, p .1 .0 .room .bests)) (after-search .search .ensures sub g) (then2 .if2 .taken) _ _ _ (c .before .before .way .ensures)
+    λ sub g. path-walked sub _ _ _ _ g _ _ _ (p .1 .1 .r-ok) (omega (arith, c, p .1 .0 .room .bests))
+    (after-search .search .ensures sub g) (then2 .if2 .taken) _ _ _ (c .before .before .way .ensures)
 
 same-length-5 : tie.Need-same-length-5
 same-length-5 c = search needs
@@ -73,7 +75,8 @@ returns-3 c =
     let after-search : tie.After-search = search in
     let entry : tie.Start = search in
     let p = entry .pre in
-    λ sub g. path-cut sub _ _ _ _ g _ _ _ (p .1 .1 .r-ok) (omega (arith, p .1 .0 .room .bests)) (after-search .search .ensures sub g) (c .if2 .left) _
+    λ sub g. path-cut sub _ _ _ _ g _ _ _ (p .1 .1 .r-ok) (omega (arith, p .1 .0 .room .bests)) (after-search .search .ensures sub g)
+    (c .if2 .left) _
 
 pub path-spec : {M : Type 1} → statement M
 path-spec =

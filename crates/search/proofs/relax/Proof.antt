@@ -11,7 +11,9 @@ use Rattle.search.proofs.relax.Statement.{statement}
 use Rattle.search.proofs.relax.Tie as tie
 
 abbrev Inv-loop : tie.InvT-loop
-Inv-loop next ends best₀ seg₀ n first base h₀ best seg h = ((hs : List ℕ) × Chain next h hs) × Relaxing n next ends best₀ seg₀ best seg first base h × (length best ≡ length best₀) × (length seg ≡ length seg₀)
+Inv-loop next ends best₀ seg₀ n first base h₀ best seg h =
+    ((hs : List ℕ) × Chain next h hs) × Relaxing n next ends best₀ seg₀ best seg first base h × (length best ≡ length best₀) ×
+    (length seg ≡ length seg₀)
 
 abbrev μ-loop : tie.MeasureT-loop
 μ-loop next ends best₀ seg₀ n first base h₀ best seg h = stepsLeft next h
@@ -77,8 +79,12 @@ loop-again c =
     let at-loop : tie.At-loop Inv-loop μ-loop = search in
     let entry : tie.Start Inv-loop μ-loop = search in
     let v = at-loop .loop .inv in
-    let lt = entry .pre .0 .mark-ok (at-loop .loop .h) (chain-low (v .0 .1)) in
-    (chain-rest (v .0 .1) (omega arith), relax-turn _ _ _ _ _ _ _ _ _ _ _ _ (v .1) (omega arith) lt (after-offer .offer .ensures), omega arith, omega arith)
+    let lt = entry .pre .0 .mark-ok (at-loop .loop .h) (chain-low (v .0 .1)) in (
+      chain-rest (v .0 .1) (omega arith),
+      relax-turn _ _ _ _ _ _ _ _ _ _ _ _ (v .1) (omega arith) lt (after-offer .offer .ensures),
+      omega arith,
+      omega arith,
+    )
 
 same-length : tie.Need-same-length Inv-loop μ-loop
 same-length c = omega arith

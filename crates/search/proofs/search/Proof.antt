@@ -11,7 +11,9 @@ use Rattle.search.proofs.search.Statement.{statement}
 use Rattle.search.proofs.search.Tie as tie
 
 abbrev Inv-loop : tie.InvT-loop
-Inv-loop head next ends best₀ seg₀ n r to k₀ best seg k = (0 < k) × (k < n) × Stage n best seg × (length best ≡ length best₀) × (length seg ≡ length seg₀) × ((sub : List Line) (g : Given sub n head next ends) → Searching sub n head next ends g r to k best seg)
+Inv-loop head next ends best₀ seg₀ n r to k₀ best seg k =
+    (0 < k) × (k < n) × Stage n best seg × (length best ≡ length best₀) × (length seg ≡ length seg₀) ×
+    ((sub : List Line) (g : Given sub n head next ends) → Searching sub n head next ends g r to k best seg)
 
 abbrev μ-loop : tie.MeasureT-loop
 μ-loop head next ends best₀ seg₀ n r to k₀ best seg k = n - k
@@ -26,8 +28,14 @@ loop-holds c =
     let after-begin : tie.After-begin Inv-loop μ-loop = search in
     let entry : tie.Start Inv-loop μ-loop = search in
     let p = entry .pre in
-    let b = after-begin .begin .ensures in
-    (omega arith, omega (arith, p .1 .1 .1 .r-ok, p .1 .1 .1 .to-ok, p .1 .1 .1 .apart), b .offered .stage, refl, refl, λ sub g. begun-searching sub _ _ _ _ g _ _ _ _ (p .1 .1 .1) b)
+    let b = after-begin .begin .ensures in (
+      omega arith,
+      omega (arith, p .1 .1 .1 .r-ok, p .1 .1 .1 .to-ok, p .1 .1 .1 .apart),
+      b .offered .stage,
+      refl,
+      refl,
+      λ sub g. begun-searching sub _ _ _ _ g _ _ _ _ (p .1 .1 .1) b,
+    )
 
 add-loop : tie.Need-add-loop Inv-loop μ-loop
 add-loop c = omega arith
@@ -49,7 +57,8 @@ returns c =
     let at-loop : tie.At-loop Inv-loop μ-loop = search in
     let after-begin : tie.After-begin Inv-loop μ-loop = search in
     let entry : tie.Start Inv-loop μ-loop = search in
-    λ sub g. turned-none sub _ _ _ _ g _ _ _ _ _ _ _ _ (at-loop .loop .inv .2) (omega (arith, entry .pre .1 .1 .0 .few)) (at-loop .loop .inv .5 sub g) (after-turn .turn .ensures) (omega arith) (omega arith)
+    λ sub g. turned-none sub _ _ _ _ g _ _ _ _ _ _ _ _ (at-loop .loop .inv .2) (omega (arith, entry .pre .1 .1 .0 .few))
+    (at-loop .loop .inv .5 sub g) (after-turn .turn .ensures) (omega arith) (omega arith)
 
 same-length-3 : tie.Need-same-length-3 Inv-loop μ-loop
 same-length-3 c = omega arith
@@ -63,7 +72,8 @@ returns-2 c =
     let at-loop : tie.At-loop Inv-loop μ-loop = search in
     let after-begin : tie.After-begin Inv-loop μ-loop = search in
     let entry : tie.Start Inv-loop μ-loop = search in
-    λ sub g. turned-found sub _ _ _ _ g _ _ _ _ _ _ _ _ (at-loop .loop .inv .2) (omega (arith, entry .pre .1 .1 .0 .few)) (at-loop .loop .inv .5 sub g) (after-turn .turn .ensures) (λ e. omega arith) (omega arith) (omega arith)
+    λ sub g. turned-found sub _ _ _ _ g _ _ _ _ _ _ _ _ (at-loop .loop .inv .2) (omega (arith, entry .pre .1 .1 .0 .few))
+    (at-loop .loop .inv .5 sub g) (after-turn .turn .ensures) (λ e. omega arith) (omega arith) (omega arith)
 
 add-k : tie.Need-add-k Inv-loop μ-loop
 add-k c = omega arith
@@ -82,7 +92,8 @@ loop-again c =
       turned-any _ _ _ _ _ _ _ _ _ _ (at-loop .loop .inv .2) (after-turn .turn .ensures),
       omega (arith, c),
       omega arith,
-      λ sub g. turned-more sub _ _ _ _ g _ _ _ _ _ _ _ _ (at-loop .loop .inv .2) (omega (arith, entry .pre .1 .1 .0 .few)) (at-loop .loop .inv .5 sub g) (after-turn .turn .ensures) (λ e. omega arith) (λ e. omega arith),
+      λ sub g. turned-more sub _ _ _ _ g _ _ _ _ _ _ _ _ (at-loop .loop .inv .2) (omega (arith, entry .pre .1 .1 .0 .few))
+          (at-loop .loop .inv .5 sub g) (after-turn .turn .ensures) (λ e. omega arith) (λ e. omega arith),
     )
 
 same-length-5 : tie.Need-same-length-5 Inv-loop μ-loop

@@ -15,7 +15,8 @@ use Rattle.subgraph.proofs.lay_tree.Tie as tie
 abbrev Inv-loop : tie.InvT-loop
 Inv-loop ends best order head₀ next₀ n count₀ k₀ head next count k =
     (k < n) × (count ≤ k) × (length head ≡ length head₀) × (length next ≡ length next₀)
-    × ((q : ℕ) (lines : List Line) (li : Listed lines n q ends) (ho : Holding (tree (n - 1) lines) best order ends) → LayingAt n q ends lines li best order ho k count head next)
+    × ((q : ℕ) (lines : List Line) (li : Listed lines n q ends) (ho : Holding (tree (n - 1) lines) best order ends)
+    → LayingAt n q ends lines li best order ho k count head next)
 
 abbrev μ-loop : tie.MeasureT-loop
 μ-loop ends best order head₀ next₀ n count₀ k₀ head next count k = n - k
@@ -27,8 +28,14 @@ loop-holds : tie.Need-loop-holds Inv-loop μ-loop
 loop-holds c =
     let entry : tie.Start Inv-loop μ-loop = search in
     let p = entry .pre .1 in
-    let z = c .before .before .zero .ensures in
-    (p .some-mark, omega arith, refl, refl, λ q lines li ho. lay-start _ _ _ lines li _ _ ho _ _ (record { heads = omega (arith, p .chains .heads); nexts = p .chains .nexts }) z)
+    let z = c .before .before .zero .ensures in (
+      p .some-mark,
+      omega arith,
+      refl,
+      refl,
+      λ q lines li ho. lay-start _ _ _ lines li _ _ ho _ _
+          (record { heads = omega (arith, p .chains .heads); nexts = p .chains .nexts }) z,
+    )
 
 add-loop : tie.Need-add-loop Inv-loop μ-loop
 add-loop c = search needs
@@ -57,8 +64,14 @@ lay-mark-requires : tie.Need-lay-mark-requires Inv-loop μ-loop
 lay-mark-requires c κs =
     let at-loop : tie.At-loop Inv-loop μ-loop = search in
     let entry : tie.Start Inv-loop μ-loop = search in
-    let v = at-loop .loop .inv in
-    (entry .pre .0, record { heads = omega (arith, v .2, entry .pre .1 .chains .heads); nexts = omega (arith, v .3, entry .pre .1 .chains .nexts) })
+    let v = at-loop .loop .inv in (
+      entry .pre .0,
+      record {
+        heads = omega (arith, v .2, entry .pre .1 .chains .heads);
+        nexts = omega
+            (arith, v .3, entry .pre .1 .chains .nexts);
+      },
+    )
 
 add-count : tie.Need-add-count Inv-loop μ-loop
 add-count c =
@@ -83,7 +96,12 @@ loop-again c =
       omega (arith, laid-high e, v),
       omega arith,
       omega arith,
-      λ q lines li ho. laid-next _ _ _ lines li _ _ ho _ _ _ _ _ _ _ (omega arith) (record { heads = omega (arith, v .2, entry .pre .1 .chains .heads); nexts = omega (arith, v .3, entry .pre .1 .chains .nexts) }) (v .4 q lines li ho) e,
+      λ q lines li ho. laid-next _ _ _ lines li _ _ ho _ _ _ _ _ _ _ (omega arith)
+          (record {
+            heads = omega (arith, v .2, entry .pre .1 .chains .heads);
+            nexts = omega
+                (arith, v .3, entry .pre .1 .chains .nexts);
+          }) (v .4 q lines li ho) e,
     )
 
 same-length : tie.Need-same-length Inv-loop μ-loop

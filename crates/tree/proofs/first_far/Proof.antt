@@ -23,7 +23,12 @@ shared-slice-read-if1 : tie.Need-shared-slice-read-if1 Inv-loop μ-loop
 shared-slice-read-if1 c = omega arith
 
 returns : tie.Need-returns Inv-loop μ-loop
-returns c = let v = c .before .before .before .loop .inv in record { low = omega arith; high = omega arith; before = v .2; at = λ h. omega arith }
+returns c = let v = c .before .before .before .loop .inv in record {
+  low = omega arith;
+  high = omega arith;
+  before = v .2;
+  at = λ h. omega arith;
+}
 
 add-j : tie.Need-add-j Inv-loop μ-loop
 add-j c = omega arith
@@ -33,11 +38,21 @@ loop-less c = omega arith
 
 loop-again : tie.Need-loop-again Inv-loop μ-loop
 loop-again c =
-    let entry : tie.Start Inv-loop μ-loop = search in
-    (omega arith, omega arith, first-next (entry .args .best .now) (entry .args .i) (c .before .before .before .loop .j) (c .before .before .before .loop .inv .2) (λ e. omega arith))
+    let entry : tie.Start Inv-loop μ-loop = search in (
+      omega arith,
+      omega arith,
+      first-next (entry .args .best .now) (entry .args .i) (c .before .before .before .loop .j)
+          (c .before .before .before .loop .inv .2) (λ e. omega arith),
+    )
 
 returns-2 : tie.Need-returns-2 Inv-loop μ-loop
-returns-2 c = let v = c .before .loop .inv in record { low = omega arith; high = omega arith; before = v .2; at = λ h. absurd (omega arith) }
+returns-2 c = let v = c .before .loop .inv in record {
+  low = omega arith;
+  high = omega arith;
+  before = v .2;
+  at = λ h. absurd
+      (omega arith);
+}
 
 pub first-far-spec : {M : Type 1} → statement M
 first-far-spec =

@@ -13,7 +13,10 @@ use Rattle.tree.proofs.plant.Statement.{statement}
 use Rattle.tree.proofs.plant.Tie as tie
 
 abbrev Inv-loop : tie.InvT-loop
-Inv-loop head next ends best₀ seg₀ order₀ n root₀ k₀ best seg order root k = (k < n) × (root ≤ n) × Stage n best seg × (length best ≡ length best₀) × (length seg ≡ length seg₀) × (length order ≡ length order₀) × Below n order × ((lines : List Line) (g : Given lines n head next ends) → Planting lines n head next ends g k best seg order root)
+Inv-loop head next ends best₀ seg₀ order₀ n root₀ k₀ best seg order root k =
+    (k < n) × (root ≤ n) × Stage n best seg × (length best ≡ length best₀) × (length seg ≡ length seg₀) ×
+    (length order ≡ length order₀) × Below n order ×
+    ((lines : List Line) (g : Given lines n head next ends) → Planting lines n head next ends g k best seg order root)
 
 abbrev μ-loop : tie.MeasureT-loop
 μ-loop head next ends best₀ seg₀ order₀ n root₀ k₀ best seg order root k = n - k
@@ -41,12 +44,14 @@ loop-holds c =
     let b = c .before .before .clear2 .ensures in (
       p .some-mark,
       omega (arith, p .some-mark),
-      stage-clear _ (after-clear .clear .last .0) (c .before .before .clear2 .last .0) (p .room .few) (p .some-mark) (omega (arith, a .0, p .room .bests)) (omega (arith, b .0, p .room .segs)) (a .1) (λ i h. b .1 i (omega arith)),
+      stage-clear _ (after-clear .clear .last .0) (c .before .before .clear2 .last .0) (p .room .few) (p .some-mark)
+          (omega (arith, a .0, p .room .bests)) (omega (arith, b .0, p .room .segs)) (a .1) (λ i h. b .1 i (omega arith)),
       refl,
       refl,
       refl,
       λ k h. omega (arith, z k h),
-      λ lines g. plant-start lines _ _ _ _ g (after-clear .clear .last .0) (c .before .before .clear2 .last .0) _ (a .1) (λ i h. b .1 i (omega arith)),
+      λ lines g. plant-start lines _ _ _ _ g (after-clear .clear .last .0) (c .before .before .clear2 .last .0) _ (a .1)
+          (λ i h. b .1 i (omega arith)),
     )
 
 add-loop : tie.Need-add-loop Inv-loop μ-loop
@@ -81,7 +86,8 @@ loop-again c =
       omega arith,
       omega arith,
       sprouted-below _ _ _ _ _ _ _ _ _ _ _ _ _ (v .2) (p .0) (v .6) e,
-      λ lines g. sprouted-next lines _ _ _ _ g _ _ _ _ _ (v .2) (v .7 lines g) (omega (arith, p .1 .1 .room .few)) (omega arith) (omega (arith, v, p .1 .1 .orders)) _ _ _ _ e,
+      λ lines g. sprouted-next lines _ _ _ _ g _ _ _ _ _ (v .2) (v .7 lines g) (omega (arith, p .1 .1 .room .few)) (omega arith)
+          (omega (arith, v, p .1 .1 .orders)) _ _ _ _ e,
     )
 
 same-length : tie.Need-same-length Inv-loop μ-loop

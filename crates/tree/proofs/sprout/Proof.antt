@@ -84,7 +84,8 @@ returns-2 c =
     let after-relax : tie.After-relax = search in
     let after-first-far : tie.After-first-far = search in
     let after-turn : tie.After-turn = search in
-    by-root (after-turn .turn .result) (after-turn .turn .last .1 .1 .1 .0) (after-turn .turn .last .1 .1 .1 .1 .0) (after-turn .turn .ensures) (omega arith) (after-first-far .first-far .ensures) (omega arith) (after-relax .relax .ensures) refl
+    by-root (after-turn .turn .result) (after-turn .turn .last .1 .1 .1 .0) (after-turn .turn .last .1 .1 .1 .1 .0)
+    (after-turn .turn .ensures) (omega arith) (after-first-far .first-far .ensures) (omega arith) (after-relax .relax .ensures) refl
 
 same-length-7 : tie.Need-same-length-7
 same-length-7 c = search needs

@@ -27,7 +27,8 @@ check-loop-requires c κs =
     let entry : tie.Start = search in
     let p = entry .pre .0 in
     let held = tree-held (p .listed) (p .holding) in
-    let k = closes-closing (p .listed) (p .holding) (entry .args .number) (entry .pre .1) (sym (after-closes .closes .ensures) ∙ closing .if1 .taken) in
+    let k = closes-closing (p .listed) (p .holding) (entry .args .number) (entry .pre .1)
+    (sym (after-closes .closes .ensures) ∙ closing .if1 .taken) in
     record {
       marks = p .marks;
       n = p .n;

@@ -46,7 +46,12 @@ loop-again : tie.Need-loop-again Inv-loop μ-loop
 loop-again c =
     let v = c .before .before .before .loop .inv in
     let o = c .before .is-open .ensures in
-    ⊎-elim (λ w. (omega (arith, w .2), ap length (w .1) ∙ simp length-set (v .1), writing-open (v .2) (omega arith) (sym o ∙ w .0 .taken) (w .1) (w .2)))
+    ⊎-elim (λ w. (
+      omega (arith, w .2),
+      ap length (w .1) ∙ simp length-set (v .1),
+      writing-open (v .2) (omega arith) (sym o ∙ w .0 .taken)
+          (w .1) (w .2),
+    ))
     (λ w. (omega (arith, w .2), ap length (w .1) ∙ v .1, writing-shut (v .2) (omega arith) (sym o ∙ w .0 .left) (w .1) (w .2)))
     (c .if1 .came)
 

@@ -18,7 +18,8 @@ returns c =
     let after-list-open : tie.After-list-open = search in
     let after-check-lines : tie.After-check-lines = search in
     let entry : tie.Start = search in
-    λ n order lines li ho. open-list _ (entry .pre .closes .few) li ho (after-check-lines .check-lines .ensures) (after-list-open .list-open .ensures)
+    λ n order lines li ho. open-list _ (entry .pre .closes .few) li ho (after-check-lines .check-lines .ensures)
+    (after-list-open .list-open .ensures)
 
 pub not-checked-spec : {M : Type 1} → statement M
 not-checked-spec =

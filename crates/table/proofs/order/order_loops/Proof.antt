@@ -21,7 +21,8 @@ sub-t18 c =
     let entry : tie.Start = search in
     let p = entry .pre in
     few-laid _ _ _ (p .some-line) (p .lines) (p .listed) _ _ _ _ _ _ (p .closes)
-    (after-closing-lines .closing-lines .ensures (p .lines) (p .listed) (p .holding)) (after-lay-tree .lay-tree .ensures _ (p .lines) (p .listed) (p .holding))
+    (after-closing-lines .closing-lines .ensures (p .lines) (p .listed) (p .holding))
+    (after-lay-tree .lay-tree .ensures _ (p .lines) (p .listed) (p .holding))
 
 same-length : tie.Need-same-length
 same-length c = search needs
