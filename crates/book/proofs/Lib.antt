@@ -1,4 +1,5 @@
 pub mod Made
+pub mod Places
 pub mod Lines
 pub mod Goods
 pub mod Passing

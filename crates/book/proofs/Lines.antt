@@ -3,29 +3,28 @@
 use mathlib.Core.Path.{_≡_, _∙_}
 use mathlib.Core.Bool.{true, false}
 use mathlib.Core.List.{List}
-use Prim.Native.Nat.{ℕ, _*_, _<_}
+use Prim.Native.Nat.{ℕ}
 use lib.Dec.{lit<}
-use lib.ListN.{getD, take, drop}
-use lib.Seq.{getD-take, getD-drop}
-use lib.IntN.{ℤ, pos}
-use Rattle.book.specs.Line.{lineWords, field, fromAt, toAt, differenceAt, lengthAt, standingAt, lineOf, entryOf, lineBad}
+use lib.IntN.{ℤ}
+use Rattle.book.specs.Line.{fromField, toField, differenceField, lengthField, standingField}
+use Rattle.book.specs.Line.{fromAt, toAt, differenceAt, lengthAt, standingAt, entryAt, lineOf, entryOf, lineBad}
 use Rattle.book.specs.declared.line.Line.{Line}
 use Rattle.book.specs.declared.line.MadeLine.{MadeLine}
 use Rattle.book.specs.declared.line.MadeLine.the-variants.{Good, Refused}
 use Rattle.book.proofs.Made.{line-made, no-line}
-
--- the five numbers of the line at place i
-abbrev pub entryAt : List ℤ → ℕ → List ℤ
-entryAt lines i = take lineWords (drop (i * lineWords) lines)
-
-word : (lines : List ℤ) (i k : ℕ) → k < 5 → getD (entryAt lines i) k (pos 0) ≡ field k lines i
-word lines i k h = rw (getD-take, getD-drop)
+use Rattle.book.proofs.Places.{entry-field}
 
 pub entry-line : (b : ℤ) (lines : List ℤ) (i : ℕ)
     → entryOf b (entryAt lines i) ≡ lineOf b (fromAt lines i) (toAt lines i) (differenceAt lines i) (lengthAt lines i) (standingAt lines i)
 unfolding entryOf
 entry-line b lines i =
-    rw (word lines i 0 (lit< tt), word lines i 1 (lit< tt), word lines i 2 (lit< tt), word lines i 3 (lit< tt), word lines i 4 (lit< tt))
+    rw (
+      entry-field lines i fromField (lit< tt),
+      entry-field lines i toField (lit< tt),
+      entry-field lines i differenceField (lit< tt),
+      entry-field lines i lengthField (lit< tt),
+      entry-field lines i standingField (lit< tt),
+    )
 
 -- what was made of the line at place i tells whether it has a fault
 module _ (b : ℤ) (lines : List ℤ) (i : ℕ) (m : MadeLine) (e : m ≡ entryOf b (entryAt lines i)) where

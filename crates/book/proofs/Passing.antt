@@ -2,7 +2,7 @@
 use mathlib.Core.Path.{_≡_, _∙_, ap}
 use mathlib.Core.Bool.{Bool, false, cond}
 use mathlib.Core.List.{List}
-use Prim.Native.Nat.{ℕ, _/_, _%_}
+use Prim.Native.Nat.{ℕ, _%_}
 use native.Mathlib.Omega.{arith}
 use lib.ListN.{length}
 use lib.IntN.{ℤ, pos}
@@ -10,14 +10,16 @@ use borrow.Author.Tests.{eq-eqb, le-ltb}
 use Rattle.laws.specs.Tests.{outN, eqZ}
 use Rattle.book.specs.Limits.{leastMarks, mostMarks, leastLines, mostLines, leastHeld, mostHeld, leastTolerance, mostTolerance, mostDifference, mostHeldHeight}
 use Rattle.book.specs.Height.{heldHeightOut}
-use Rattle.book.specs.Held.{markAt, heightAt, heldOut, heldBefore, heldBad, firstBadHeld}
-use Rattle.book.specs.Line.{fromAt, toAt, differenceAt, lengthAt, standingAt, lineAt, differenceOut, lineFault, lineOf, entryOf, lineBad, firstBadLine}
+use Rattle.book.specs.Held.{heldWords, heldCount, markAt, heightAt, heldOut, heldBefore, heldBad, firstBadHeld}
+use Rattle.book.specs.Line.{lineWords, fromAt, toAt, differenceAt, lengthAt, standingAt, lineAt, entryAt, lineCount}
+use Rattle.book.specs.Line.{differenceOut, lineFault, lineOf, entryOf, lineBad, firstBadLine}
 use Rattle.book.specs.Test.{bookOut, torn, testOf}
 use Rattle.book.specs.Good.{GoodLine, GoodHeld, GoodBook}
 use Rattle.book.specs.declared.Book.{Book}
 use Rattle.book.specs.declared.Tested.the-variants.{Good}
 use Rattle.book.specs.declared.line.MadeLine.the-variants as made
-use Rattle.book.proofs.Lines.{entryAt, entry-line}
+use Rattle.book.proofs.Places.{count-of}
+use Rattle.book.proofs.Lines.{entry-line}
 use Rattle.laws.proofs.FirstBad.{none-first, none-any}
 use Rattle.laws.proofs.Inside.{inside, between-inside, size-inside, apart-eqZ}
 
@@ -38,8 +40,8 @@ pub good-passes : (k : Book) (b t : ℤ) (held lines : List ℤ) → GoodBook k 
 unfolding testOf torn bookOut outN firstBadHeld firstBadLine
 good-passes k b t held lines g =
     rw (
-      eq-eqb (length held % 2) 0 (omega (arith, g .whole-held)),
-      eq-eqb (length lines % 5) 0 (omega (arith, g .whole-lines)),
+      eq-eqb (length held % heldWords) 0 (omega (arith, g .whole-held)),
+      eq-eqb (length lines % lineWords) 0 (omega (arith, g .whole-lines)),
       h,
       n,
       g .marks,
@@ -54,11 +56,11 @@ good-passes k b t held lines g =
       none-first (lineBad (pos (k .marks)) lines) (k .lines) (λ i l. line-passes (k .marks) lines i (g .each-line i l)),
     )
   where
-    h : length held / 2 ≡ k .held
+    h : heldCount held ≡ k .held
     h = omega (arith, g .whole-held)
 
-    n : length lines / 5 ≡ k .lines
-    n = omega (arith, g .whole-lines)
+    n : lineCount lines ≡ k .lines
+    n = count-of lines (k .lines) (g .whole-lines)
 
 -- the line at place i is made of its entry
 pub line-is-made : (b : ℕ) (lines : List ℤ) (i : ℕ) → GoodLine b lines i → entryOf (pos b) (entryAt lines i) ≡ made.Good (lineAt lines i)

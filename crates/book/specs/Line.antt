@@ -5,7 +5,7 @@ use mathlib.Core.Bool.{Bool, _||_, cond}
 use mathlib.Core.List.{List}
 use Prim.Native.Nat.{ℕ, _+_, _*_, _/_}
 use lib.Dec.{ltb}
-use lib.ListN.{length, getD}
+use lib.ListN.{length, getD, take, drop}
 use lib.IntN.{ℤ, pos, negℤ}
 use Rattle.laws.specs.Tests.{outZ, eqZ}
 use Rattle.laws.specs.Scan.{firstBad}
@@ -34,9 +34,13 @@ lengthField = 3
 abbrev pub standingField : ℕ
 standingField = 4
 
--- number k of the line at place i, counted from 0
+-- where number k of the line at place i stands; both are counted from 0
+abbrev pub place : ℕ → ℕ → ℕ
+place i k = i * lineWords + k
+
+-- number k of the line at place i
 abbrev pub field : ℕ → List ℤ → ℕ → ℤ
-field k lines i = getD lines (i * lineWords + k) (pos 0)
+field k lines i = getD lines (place i k) (pos 0)
 
 abbrev pub fromAt : List ℤ → ℕ → ℤ
 fromAt = field fromField
@@ -63,6 +67,10 @@ lineAt lines i =
       length = lengthAt lines i;
       standing = standingAt lines i;
     }
+
+-- the entry of the line at place i: its numbers alone
+abbrev pub entryAt : List ℤ → ℕ → List ℤ
+entryAt lines i = take lineWords (drop (i * lineWords) lines)
 
 -- how many lines a slice holds
 abbrev pub lineCount : List ℤ → ℕ
@@ -91,10 +99,10 @@ lineOf b f t d l s =
     (Refused 7 (lineFault b f t d l s))
     (Good (record { from = f; to = t; difference = d; length = l; standing = s }))
 
--- the line that the five numbers of an entry make
+-- the line that an entry makes
 unfoldable pub entryOf : ℤ → List ℤ → MadeLine
 unfolding lineOf
-entryOf b e = lineOf b (getD e 0 (pos 0)) (getD e 1 (pos 0)) (getD e 2 (pos 0)) (getD e 3 (pos 0)) (getD e 4 (pos 0))
+entryOf b e = lineOf b (fromAt e 0) (toAt e 0) (differenceAt e 0) (lengthAt e 0) (standingAt e 0)
 
 -- the line at place i has a fault
 unfoldable pub lineBad : ℤ → List ℤ → ℕ → Bool

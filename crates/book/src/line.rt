@@ -2,7 +2,7 @@
 ghost use mathlib.Core.Path.{_≡_};
 ghost use mathlib.Core.Bool.{cond};
 ghost use lib.ListN.{length};
-ghost use Rattle.book.specs.Line.{differenceOut, lineFault, lineOf, entryOf, firstBadLine};
+ghost use Rattle.book.specs.Line.{lineWords, differenceOut, lineFault, lineOf, entryOf, firstBadLine};
 
 // A line, withdrawn (standing 0) or not (1).
 pub struct Line {
@@ -102,7 +102,7 @@ impl Line {
 
 // The line that an entry of a lent slice makes.
 pub fn line_of(e: &[i64], b: i64) -> MadeLine
-    requires { ⌜ length (now e) ≡ 5 ⌝ }
+    requires { ⌜ length (now e) ≡ lineWords ⌝ }
     ensures { λ r. ⌜ r ≡ entryOf b (now (e .entry)) ⌝ }
 {
     Line::new(

@@ -1,12 +1,14 @@
 -- The listed entries are those of the tree. Assumes nothing.
-use Prim.Native.Nat.{ℕ, zero, suc, _+_, _-_, _/_, _≤_, _<_}
+use Prim.Native.Nat.{ℕ, zero, suc, _+_, _-_, _≤_, _<_}
 use mathlib.Core.Path.{_≡_, refl, sym, _∙_, ap, subst}
 use mathlib.Core.List.{List, _∷_}
 use native.Mathlib.Omega.{arith}
 use lib.ListN.{length, getD, set, length-set}
 use lib.IntN.{ℤ}
 use Rattle.book.specs.Limits.{mostMarks}
+use Rattle.book.specs.Line.{lineCount}
 use Rattle.book.specs.Good.{GoodLine}
+use Rattle.book.proofs.Places.{count-of}
 use Rattle.network.specs.Standing.{Line, standing}
 use Rattle.network.specs.Tree.{Tree, grow, marks, tree}
 use Rattle.network.proofs.Grown.{Stepped, line, root, stop, stepped}
@@ -26,11 +28,7 @@ use Rattle.entries.specs.Entries.{lineIn, Readable, Listed, Listing}
 -- the marks and their lines, one by one
 module _ (best order marks₀ came₀ : List ℕ) where
   pub listing-none : Listing best order marks₀ came₀ marks₀ came₀ 0
-  listing-none = record {
-    listed = record { mark = λ j l. absurd (omega arith); line = λ j l. absurd (omega arith) };
-    marked = refl;
-    cames = refl;
-  }
+  listing-none = record { listed = record { mark = λ j l. absurd (omega arith); line = λ j l. absurd (omega arith) }; marked = refl; cames = refl }
 
   module _ (ms cs : List ℕ) (k : ℕ) (g : Listing best order marks₀ came₀ ms cs k) where
     pub listing-next : (m c : ℕ) → k < length marks₀ → k < length came₀ → m ≡ getD order k 0 → c ≡ lineIn best (getD order k 0)
@@ -50,7 +48,7 @@ module _ (best order marks₀ came₀ : List ℕ) where
 -- a tested book is a good one to the search
 pub good-of : (lines : List ℤ) (b n : ℕ) → Lines lines b n → b ≤ mostMarks → Good (b + 1) lines
 good-of lines b n g few =
-    let e : length lines / 5 ≡ n = omega (arith, g .whole) in
+    let e : lineCount lines ≡ n = count-of lines n (g .whole) in
     let m : b + 1 - 1 ≡ b = omega arith in
     record {
       some-mark = omega arith;
@@ -68,8 +66,7 @@ module _ (lines : List ℤ) (b n : ℕ) (g : Lines lines b n) (few : b ≤ mostM
   room-plant best seg order hb hs ho = record { bests = omega arith; segs = omega arith; orders = omega arith }
 
 -- the planted tables can be read
-pub readable-of : (b : ℕ) (best seg order ms cs best′ order′ : List ℕ) → RoomPlant (b + 1) best seg order → length best′ ≡ length best
-    → length order′ ≡ length order → b ≤ length ms → b ≤ length cs → Below (b + 1) order′ → Readable best′ order′ ms cs b
+pub readable-of : (b : ℕ) (best seg order ms cs best′ order′ : List ℕ) → RoomPlant (b + 1) best seg order → length best′ ≡ length best → length order′ ≡ length order → b ≤ length ms → b ≤ length cs → Below (b + 1) order′ → Readable best′ order′ ms cs b
 readable-of b best seg order ms cs best′ order′ s eb eo lm lc low = record {
   orders = omega (arith, s .orders);
   marked = lm;
@@ -77,8 +74,7 @@ readable-of b best seg order ms cs best′ order′ s eb eo lm lc low = record {
   keys = λ k l. omega (arith, s .bests, low k (omega arith));
 }
 
-module _ (n q : ℕ) (lines : List Line) (ends best order ms cs : List ℕ) (li : ch.Listed lines n q ends)
-    (ho : Holding (tree (n - 1) lines) best order ends)
+module _ (n q : ℕ) (lines : List Line) (ends best order ms cs : List ℕ) (li : ch.Listed lines n q ends) (ho : Holding (tree (n - 1) lines) best order ends)
     (lo : Listed best order ms cs (n - 1)) where
   abbrev at : ℕ → Tree
   at k = grow lines (marks (n - 1)) k
@@ -96,9 +92,7 @@ module _ (n q : ℕ) (lines : List Line) (ends best order ms cs : List ℕ) (li 
 
     key : Key (at (n - 1)) best ends (getD order k 0) (en .e .dist)
     unfolding tree mark
-    key =
-        ho .keyed (getD order k 0) (en .e .dist) (later n lines (li .sound) (suc k) (n - 1) (getD order k 0) (en .e .dist) (omega arith)
-        (in-at n lines (li .sound) (getD order k 0) mark))
+    key = ho .keyed (getD order k 0) (en .e .dist) (later n lines (li .sound) (suc k) (n - 1) (getD order k 0) (en .e .dist) (omega arith) (in-at n lines (li .sound) (getD order k 0) mark))
 
     number-of : {l : Line} {u : ℕ} → Half l u (getD order k 0) (key .h) → lineIn best (getD order k 0) ≡ l .number
     number-of (fore p x z) = omega (arith, key .key, key .low)
@@ -119,8 +113,7 @@ module _ (n q : ℕ) (lines : List Line) (ends best order ms cs : List ℕ) (li 
         go (f.root c a b) =
             let z : lineIn best (getD order k 0) ≡ 0 = omega (arith, key .key) in
             by-root listed (sym (came-of n lines (li .sound) (getD order k 0) mark) ∙ c) (its-line ∙ z) r
-        go (f.line l u du c hf low t i s) =
-            by-line listed l (sym (came-of n lines (li .sound) (getD order k 0) mark) ∙ c) (its-line ∙ number-of hf) r
+        go (f.line l u du c hf low t i s) = by-line listed l (sym (came-of n lines (li .sound) (getD order k 0) mark) ∙ c) (its-line ∙ number-of hf) r
 
     -- its line is one of the book's
     line-low : 0 < q → getD cs k 0 < q
@@ -129,8 +122,7 @@ module _ (n q : ℕ) (lines : List Line) (ends best order ms cs : List ℕ) (li 
       where
         go : By (at (n - 1)) ends (getD order k 0) (en .e .dist) (key .h) → lineIn best (getD order k 0) < q
         go (f.root c a b) = let z : lineIn best (getD order k 0) ≡ 0 = omega (arith, key .key) in rw z pos
-        go (f.line l u du c hf low t i s) =
-            rw (number-of hf) (li .numbered l (enters-line en l (sym (came-of n lines (li .sound) (getD order k 0) mark) ∙ c)))
+        go (f.line l u du c hf low t i s) = rw (number-of hf) (li .numbered l (enters-line en l (sym (came-of n lines (li .sound) (getD order k 0) mark) ∙ c)))
 
     -- and it is a mark of the book
     mark-in : (0 < en .e .mark) × (en .e .mark ≤ n - 1)
@@ -169,20 +161,20 @@ module _ (n q : ℕ) (lines : List Line) (ends best order ms cs : List ℕ) (li 
   }
 
 -- the same, of a planted book
-module _ (lines : List ℤ) (b n : ℕ) (ends best order ms cs : List ℕ) (good : Lines lines b n)
-    (p : BookPlanted (b + 1) lines ends best order) (lo : Listed best order ms cs b) where
+module _ (lines : List ℤ) (b n : ℕ) (ends best order ms cs : List ℕ) (good : Lines lines b n) (p : BookPlanted (b + 1) lines ends best order) (lo : Listed best order ms cs b) where
   marks-are : b + 1 - 1 ≡ b
   marks-are = omega arith
+
+  all-listed : Listed best order ms cs (b + 1 - 1)
+  all-listed = subst (Listed best order ms cs) (sym marks-are) lo
 
   pub book-entered : Entered ms cs (tree b (standing lines))
   book-entered =
       subst (λ (x : ℕ). Entered ms cs (tree x (standing lines))) marks-are
-      (tree-entered (b + 1) (length lines / 5 + 1) (standing lines) ends best order ms cs (p .listed) (p .holding)
-      (subst (Listed best order ms cs) (sym marks-are) lo) (omega arith))
+      (tree-entered (b + 1) (lineCount lines + 1) (standing lines) ends best order ms cs (p .listed) (p .holding) all-listed (omega arith))
 
   pub book-growth : b ≤ length ms → b ≤ length cs → Growth ms cs b n
   book-growth lm lc =
-      let e : length lines / 5 + 1 - 1 ≡ n = omega (arith, good .whole) in
+      let e : lineCount lines + 1 - 1 ≡ n = omega (arith, good .whole) in
       subst (λ (x : ℕ). Growth ms cs x n) marks-are (subst (Growth ms cs (b + 1 - 1)) e
-      (tree-growth (b + 1) (length lines / 5 + 1) (standing lines) ends best order ms cs (p .listed) (p .holding)
-      (subst (Listed best order ms cs) (sym marks-are) lo) (omega arith) (omega arith) (omega arith)))
+      (tree-growth (b + 1) (lineCount lines + 1) (standing lines) ends best order ms cs (p .listed) (p .holding) all-listed (omega arith) (omega arith) (omega arith)))

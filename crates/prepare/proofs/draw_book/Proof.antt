@@ -1,6 +1,7 @@
-use Prim.Native.Nat.{_≤_, _/_}
+use Prim.Native.Nat.{_≤_}
 use mathlib.Core.Path.{_≡_, refl}
 use lib.ListN.{length}
+use Rattle.book.specs.Line.{lineCount}
 use Rattle.prepare.proofs.Drawing.{DrawingAt, draw-start, entry-asked, draw-turn, draw-end}
 use native.Mathlib.Omega.{arith}
 use Rattle.prepare.proofs.draw_book.Statement.{statement}
@@ -8,8 +9,7 @@ use Rattle.prepare.proofs.draw_book.Tie as tie
 
 abbrev Inv-loop : tie.InvT-loop
 Inv-loop lines ends₀ head₀ next₀ n j₀ ends head next j =
-    (j ≤ length lines / 5) × (length ends ≡ length ends₀) × (length head ≡ length head₀) ×
-    (length next ≡ length next₀) × DrawingAt n lines j ends head next
+    (j ≤ lineCount lines) × (length ends ≡ length ends₀) × (length head ≡ length head₀) × (length next ≡ length next₀) × DrawingAt n lines j ends head next
 
 abbrev μ-loop : tie.MeasureT-loop
 μ-loop lines ends₀ head₀ next₀ n j₀ ends head next j = j
@@ -29,14 +29,8 @@ loop-holds c =
     let after-zero : tie.After-zero Inv-loop μ-loop = search in
     let entry : tie.Start Inv-loop μ-loop = search in
     let p = entry .pre in
-    let z = c .before .before .zero2 in (
-      omega arith,
-      refl,
-      refl,
-      refl,
-      draw-start _ _ (after-zero .zero .last .0) (z .last .0) _ (p .some-mark) (omega (arith, p .ends-at))
-          (record { heads = omega (arith, p .chains .heads); nexts = p .chains .nexts }) (after-zero .zero .ensures) (z .ensures),
-    )
+    let z = c .before .before .zero2 in
+    (omega arith, refl, refl, refl, draw-start _ _ (after-zero .zero .last .0) (z .last .0) _ (p .some-mark) (omega (arith, p .ends-at)) (record { heads = omega (arith, p .chains .heads); nexts = p .chains .nexts }) (after-zero .zero .ensures) (z .ensures))
 
 sub-at : tie.Need-sub-at Inv-loop μ-loop
 sub-at c = omega arith
@@ -64,8 +58,7 @@ draw-line-requires c κs =
     let at-loop : tie.At-loop Inv-loop μ-loop = search in
     let entry : tie.Start Inv-loop μ-loop = search in
     let v = at-loop .loop .inv in
-    entry-asked _ _ _ _ _ _ _ _ _ (omega arith) (v .0) (entry .pre)
-    (record { heads = omega (arith, v .2, entry .pre .chains .heads); nexts = omega (arith, v .3, entry .pre .chains .nexts) }) (v .4)
+    entry-asked _ _ _ _ _ _ _ _ _ (omega arith) (v .0) (entry .pre) (record { heads = omega (arith, v .2, entry .pre .chains .heads); nexts = omega (arith, v .3, entry .pre .chains .nexts) }) (v .4)
 
 sub-j : tie.Need-sub-j Inv-loop μ-loop
 sub-j c = omega arith
@@ -78,15 +71,8 @@ loop-again c =
     let after-draw-line : tie.After-draw-line Inv-loop μ-loop = search in
     let at-loop : tie.At-loop Inv-loop μ-loop = search in
     let entry : tie.Start Inv-loop μ-loop = search in
-    let v = at-loop .loop .inv in (
-      omega arith,
-      omega arith,
-      omega arith,
-      omega arith,
-      draw-turn _ _ _ _ _ _ _ _ _ (omega arith) (v .0) (entry .pre)
-          (record { heads = omega (arith, v .2, entry .pre .chains .heads); nexts = omega (arith, v .3, entry .pre .chains .nexts) })
-          (v .4) _ _ _ (after-draw-line .draw-line .ensures),
-    )
+    let v = at-loop .loop .inv in
+    (omega arith, omega arith, omega arith, omega arith, draw-turn _ _ _ _ _ _ _ _ _ (omega arith) (v .0) (entry .pre) (record { heads = omega (arith, v .2, entry .pre .chains .heads); nexts = omega (arith, v .3, entry .pre .chains .nexts) }) (v .4) _ _ _ (after-draw-line .draw-line .ensures))
 
 same-length : tie.Need-same-length Inv-loop μ-loop
 same-length c = omega arith

@@ -8,10 +8,9 @@ use mir.Syntax.{w64}
 use mir.Val.{toZ, ofZ}
 use Rattle.laws.specs.Tests.{eqZ}
 use Rattle.laws.proofs.Signed.{back, stored}
-use Rattle.book.specs.Line.{lineAt, standingAt, lengthAt, entryOf}
+use Rattle.book.specs.Line.{lineAt, standingAt, lengthAt, entryAt, entryOf}
 use Rattle.book.specs.declared.line.Line.{Line}
 use Rattle.book.specs.declared.line.MadeLine.the-variants as made
-use Rattle.book.proofs.Lines.{entryAt}
 use Rattle.book.proofs.Passing.{line-is-made}
 use Rattle.rates.specs.Rates.{correctionAt, correctionOf, lineRate, OfBook}
 use borrow.Author.Needs.{needs}
