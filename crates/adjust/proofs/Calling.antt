@@ -8,6 +8,7 @@ use lib.IntN.{ℤ}
 use borrow.Author.Tests.{lt-ltb, le-ltb}
 use Rattle.book.specs.Good.{GoodBook}
 use Rattle.book.specs.declared.Book.{Book}
+use Rattle.book.proofs.Goods.{good-lines}
 use Rattle.adjust.specs.Adjusted.{Outcome, done, refused, adjustment}
 use Rattle.adjust.specs.Answers.{answer, answered, Answers}
 use Rattle.adjust.specs.Call.{adjusted, givenBy, adjustGood, GoodEntries}
@@ -16,9 +17,7 @@ use Rattle.adjust.specs.declared.Adjusted.{Adjusted}
 -- a tested book has good entries
 pub good-entries : (k : Book) (b t : ℤ) (held lines : List ℤ) → GoodBook k b t held lines → GoodEntries k held lines
 good-entries k b t held lines g = record {
-  some-mark = g .a-mark;
-  few = g .few-marks;
-  lines-good = record { few = g .few-lines; whole = g .whole-lines; each = g .each-line };
+  lines-good = good-lines k b t held lines g;
   held-good = record { few = g .few-held; whole = g .whole-held; each = g .each-held };
 }
 

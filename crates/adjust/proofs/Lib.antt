@@ -1,5 +1,5 @@
 pub mod Promises
 pub mod Whole
-pub mod Zeros
 pub mod Calling
 pub mod Worked
+pub mod Entering

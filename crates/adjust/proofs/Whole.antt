@@ -2,23 +2,24 @@
 -- Assumes nothing.
 use Prim.Native.Nat.{ℕ, zero, suc, _-_, _≤_, _<_}
 use native.Mathlib.Omega.{arith}
-use mathlib.Core.Path.{_≡_, refl, sym, _∙_, ap, subst}
+use mathlib.Core.Path.{_≡_, refl, sym, _∙_, ap, subst, fun-ext}
 use mathlib.Core.Bool.{Bool, false}
 use mathlib.Core.List.{List}
 use lib.ListN.{length, getD}
 use lib.Seq.{ext-getD}
 use lib.IntN.{ℤ, pos}
-use Rattle.book.specs.Limits.{mostHeldHeight}
+use Rattle.book.specs.Limits.{mostMarks, mostHeldHeight}
 use Rattle.network.specs.Standing.{standing}
 use Rattle.network.specs.Tree.{tree}
 use Rattle.network.proofs.Grown.{treeLine}
 use Rattle.network.proofs.Marks.{size, grows}
 use Rattle.fields.specs.Heights.{Working}
+use Rattle.fields.specs.Places.{Lines}
 use Rattle.sights.specs.Sights.{Sight, sightsOf}
 use Rattle.sweeps.specs.Sweeps.{Swept, still, moved, visit, sweep, Settled, onward, settleFrom, maxSweeps, settle}
 use Rattle.sweeps.specs.Turns.{flags, endedAt}
-use Rattle.start.specs.Start.{heldHeight, isSome, isHeld, rootedBy, unheldPiece, startOf, startHeights}
-use Rattle.start.specs.Along.{Entered, rooting, Placing, Given, Known, Lent, Raised}
+use Rattle.start.specs.Start.{heldHeight, isSome, isHeld, Rooted, rootedBy, unheldPiece, startOf, startHeights}
+use Rattle.start.specs.Along.{Entered, rooting, Given, HeldEntries, HeldIn, Started}
 use Rattle.adjust.specs.Adjusted.{Outcome, refused, ended, unlessUnheld, adjustment}
 use Rattle.adjust.specs.Answers.{answer, answerOf, endAnswer, answered, Answers}
 use Rattle.fields.proofs.Fair.{fair-lines}
@@ -71,24 +72,21 @@ end-answer (end.Settled n) hs = refl
 end-answer (end.Outside m) hs = refl
 end-answer end.Unsettled hs = refl
 
-module _ (lines held : List ℤ) (order came : List ℕ) (b n h : ℕ) (lent : Lent lines held order came b n h) (entered : Entered order came (tree b (standing lines)))
-    (flagged : List Bool) (own : List ℤ) (root : List ℕ) (over : List ℤ) (g : Given (heldHeight held) flagged own b mostHeldHeight) (p : Placing (rooting lines order came b) root over b b) where
-  pub known : Known flagged own root over b
-  known = record { few = lent .few; flagged = g .flagged; owned = g .heighted; small = g .size; spotted = p .spotted }
+module _ (lines held : List ℤ) (order best : List ℕ) (b n h : ℕ) (few : b ≤ mostMarks) (good : Lines lines b n) (helds : HeldEntries held b h)
+    (entered : Entered order best (tree b (standing lines))) (flagged : List Bool) (own : List ℤ) (g : Given (heldHeight held) flagged own b mostHeldHeight) where
+  pub held-in : HeldIn flagged own b
+  held-in = record { few = few; flagged = g .flagged; owned = g .heighted; small = g .size }
 
   sound : Sound b (standing lines)
-  sound = fairs-sound (fair-lines lines b n (lent .linesGood))
+  sound = fairs-sound (fair-lines lines b n good)
 
   marks-in : length (tree b (standing lines)) ≡ b
   marks-in = size b (standing lines) (sound .placed)
 
-  at-tree : (m : ℕ) → rooting lines order came b m ≡ rootedBy (tree b (standing lines)) m
+  at-tree : (m : ℕ) → rooting lines order best b m ≡ rootedBy (tree b (standing lines)) m
   at-tree m =
-      ap (λ (k : ℕ). rooting lines order came k m) (sym marks-in)
-      ∙ rooting-is lines order came n (tree b (standing lines)) entered (λ e i l q. named lines b n (lent .linesGood) l (treeLine (standing lines) (grows b (standing lines) (sound .placed)) e i l q)) m
-
-  places : Placing (rootedBy (tree b (standing lines))) root over b b
-  places = record { spotted = p .spotted; place = λ v l. p .place v l ∙ at-tree (suc v) }
+      ap (λ (k : ℕ). rooting lines order best k m) (sym marks-in)
+      ∙ rooting-is lines order best n (tree b (standing lines)) entered (λ e i l q. named lines b n good l (treeLine (standing lines) (grows b (standing lines) (sound .placed)) e i l q)) m
 
   held-flags : (m : ℕ) → 0 < m → m ≤ b → flags flagged m ≡ isHeld held m
   unfolding isHeld
@@ -96,9 +94,15 @@ module _ (lines held : List ℤ) (order came : List ℕ) (b n h : ℕ) (lent : L
       let e : suc (m - 1) ≡ m = omega arith in
       sym (is-some (getD flagged (m - 1) false) (getD own (m - 1) (pos 0))) ∙ ap isSome (g .is (m - 1) (omega arith) ∙ ap (heldHeight held) e)
 
-  module _ (z : List ℤ) (r : ℕ) (raised : Raised flagged own root over z b r) where
+  module _ (z : List ℤ) (r : ℕ) (started : Started (rooting lines order best b) flagged own z b r) where
+    places-are : rooting lines order best b ≡ rootedBy (tree b (standing lines))
+    places-are = fun-ext at-tree
+
+    begins : Started (rootedBy (tree b (standing lines))) flagged own z b r
+    begins = subst (λ (at : ℕ → Rooted). Started at flagged own z b r) places-are started
+
     is-unheld : r ≡ unheldPiece (rootedBy (tree b (standing lines))) (heldHeight held) b
-    is-unheld = raised (rootedBy (tree b (standing lines))) (heldHeight held) places g .0
+    is-unheld = begins (heldHeight held) g .0
 
     -- 11
     pub unheld-answer : (a : Adjusted) (hs : List ℤ) → 0 < r → a ≡ answer 11 r 0 → Answers a hs (adjustment b held lines)
@@ -112,10 +116,10 @@ module _ (lines held : List ℤ) (order came : List ℕ) (b n h : ℕ) (lent : L
 
     module _ (none-unheld : r ≡ 0) where
       long : length z ≡ b
-      long = raised (rootedBy (tree b (standing lines))) (heldHeight held) places g .2
+      long = begins (heldHeight held) g .2
 
       each : (v : ℕ) → v < b → getD z v (pos 0) ≡ startOf (rootedBy (tree b (standing lines))) (heldHeight held) b (suc v)
-      each = raised (rootedBy (tree b (standing lines))) (heldHeight held) places g .1 none-unheld
+      each = begins (heldHeight held) g .1 none-unheld
 
       begun : z ≡ startHeights b held lines
       begun =
@@ -126,7 +130,7 @@ module _ (lines held : List ℤ) (order came : List ℕ) (b n h : ℕ) (lent : L
           each i k ∙ sym (start-height b held lines (suc i) (omega arith) k) ∙ ap (λ (x : ℕ). getD (startHeights b held lines) x (pos 0)) e)
 
       pub working : Working z b
-      working = subst (λ (x : List ℤ). Working x b) (sym begun) (start-working b n h held lines (lent .few) (lent .linesGood) (lent .heldGood) (sym is-unheld ∙ none-unheld))
+      working = subst (λ (x : List ℤ). Working x b) (sym begun) (start-working b n h held lines few good helds (sym is-unheld ∙ none-unheld))
 
       -- the sweeps, from the start
       pub settled-answer : (a : Adjusted) (e : End) (hs : List ℤ) → a ≡ endAnswer e → endedAt e hs ≡ settle (sightsOf (standing lines)) (flags flagged) b z → Answers a hs (adjustment b held lines)

@@ -1,17 +1,15 @@
 -- What the adjustment answers, and what the lent heights then hold: refusals 4, 6, 7, 10, 11, then 12 or 13 by whichever comes first.
 -- Assumes nothing.
-use Prim.Native.Nat.{_≤_}
 use mathlib.Core.Bool.{cond}
 use mathlib.Core.List.{List, _++_}
 use lib.Dec.{ltb}
 use lib.ListN.{length, drop}
 use lib.IntN.{ℤ}
-use Rattle.book.specs.Limits.{mostMarks}
+use Rattle.book.specs.Good.{GoodLines}
 use Rattle.book.specs.Test.{testOf}
 use Rattle.book.specs.declared.Book.{Book}
 use Rattle.book.specs.declared.Tested.{Tested}
 use Rattle.book.specs.declared.Tested.the-variants.{Good, Refused}
-use Rattle.fields.specs.Places.{Lines}
 use Rattle.start.specs.Along.{HeldEntries}
 use Rattle.adjust.specs.Adjusted.{Outcome, done, refused, adjustment}
 use Rattle.adjust.specs.Answers.{answer}
@@ -44,9 +42,7 @@ unfoldable pub adjustOf : ℤ → ℤ → List ℤ → List ℤ → List ℤ →
 unfolding adjustTested testOf
 adjustOf b t held lines out = adjustTested held lines out (testOf b t held lines)
 
--- What the adjustment uses of a tested book: its counts, and that every held entry and every line is good
+-- What the adjustment uses of a tested book: that every held entry and every line is good
 pub record GoodEntries (k : Book) (held lines : List ℤ) : Type 0 where
-  pub some-mark : 1 ≤ k .marks
-  pub few : k .marks ≤ mostMarks
-  pub lines-good : Lines lines (k .marks) (k .lines)
+  pub lines-good : GoodLines k lines
   pub held-good : HeldEntries held (k .marks) (k .held)

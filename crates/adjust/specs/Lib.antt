@@ -1,3 +1,4 @@
 pub mod Adjusted
 pub mod Answers
 pub mod Call
+pub mod Planted

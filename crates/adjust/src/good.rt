@@ -2,6 +2,7 @@
 ghost use mathlib.Core.Path.{_≡_};
 ghost use Prim.Native.Nat.{_≤_};
 ghost use lib.ListN.{length};
+ghost use Rattle.prepare.specs.Prepared.{RoomBook};
 ghost use Rattle.adjust.specs.Adjusted.{adjustment};
 ghost use Rattle.adjust.specs.Answers.{Answers};
 ghost use Rattle.adjust.specs.Call.{GoodEntries, adjusted, adjustGood};
@@ -12,37 +13,65 @@ use book::Book;
 // A place for each mark of any book.
 const MARKS: usize = Book::MAX_MARKS as usize;
 
-// The adjustment, its heights left in z.
-fn adjust_into(book: Book, held: &[i64], lines: &[i64], z: &mut [i64]) -> Adjusted
-    requires { ⌜ GoodEntries book (now held) (now lines) ⌝ ∗ ⌜ length (now z) ≡ book .marks ⌝ }
+// The book is planted in tables that are lent, and adjusted along its tree.
+fn adjust_in(
+    book: Book,
+    held: &[i64],
+    lines: &[i64],
+    ends: &mut [u64],
+    head: &mut [u64],
+    next: &mut [u64],
+    best: &mut [u64],
+    seg: &mut [u64],
+    order: &mut [u64],
+    z: &mut [i64],
+) -> Adjusted
+    requires { ⌜ GoodEntries book (now held) (now lines) ⌝
+        ∗ ⌜ RoomBook (now ends) (now head) (now next) (now best) (now seg) (now order) ⌝
+        ∗ ⌜ length (now z) ≡ book .marks ⌝ }
     ensures { λ r. ⌜ Answers r (now (z .exit)) (adjustment (book .marks) (now (held .entry)) (now (lines .entry))) ⌝ }
 {
     let b = book.marks;
-    let n = book.lines;
-    let mut order = [0usize; MARKS];
-    let mut came = [0usize; MARKS];
     let mut flags = [false; MARKS];
     let mut own = [0i64; MARKS];
-    let mut root = [0usize; MARKS];
-    let mut over = [0i64; MARKS];
-    let mut has = [false; MARKS];
-    let mut base = [0i64; MARKS];
-    entries::plant(lines, &mut order[..], &mut came[..], b, n);
+    prepare::plant_book(book, lines, ends, head, next, best, seg, order);
     adjust_along(
-        lines,
+        book,
         held,
-        &order[..],
-        &came[..],
+        lines,
+        head,
+        next,
+        best,
+        order,
         &mut flags[..b],
         &mut own[..b],
-        &mut root[..b],
-        &mut over[..b],
-        &mut has[..b],
-        &mut base[..b],
         z,
-        b,
-        n,
-        book.held,
+    )
+}
+
+// The adjustment, its heights left in z.
+fn adjust_into(book: Book, held: &[i64], lines: &[i64], z: &mut [i64]) -> Adjusted
+    requires { ⌜ GoodEntries book (now held) (now lines) ⌝
+        ∗ ⌜ length (now z) ≡ book .marks ⌝ }
+    ensures { λ r. ⌜ Answers r (now (z .exit)) (adjustment (book .marks) (now (held .entry)) (now (lines .entry))) ⌝ }
+{
+    let mut ends = [0u64; prepare::HALVES];
+    let mut head = [0u64; prepare::MARKS];
+    let mut next = [0u64; prepare::HALVES];
+    let mut best = [0u64; prepare::MARKS];
+    let mut seg = [0u64; prepare::MARKS * 2];
+    let mut order = [0u64; prepare::MARKS];
+    adjust_in(
+        book,
+        held,
+        lines,
+        &mut ends,
+        &mut head,
+        &mut next,
+        &mut best,
+        &mut seg,
+        &mut order,
+        z,
     )
 }
 

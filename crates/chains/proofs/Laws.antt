@@ -29,13 +29,13 @@ module _ (n : ℕ) (head next head′ next′ : List ℕ) (m h : ℕ) (room : Ro
   next-old : (i : ℕ) → (i ≡ h → ⊥) → getD next′ i 0 ≡ getD next i 0
   next-old i d = ap (λ (x : List ℕ). getD x i 0) (lk .nexts) ∙ getD-set-other next h i (getD head m 0) 0 d
 
-  next-new : getD next′ h 0 ≡ getD head m 0
+  pub next-new : getD next′ h 0 ≡ getD head m 0
   next-new = ap (λ (x : List ℕ). getD x h 0) (lk .nexts) ∙ getD-set-same next h (getD head m 0) 0 (omega (arith, room .nexts))
 
-  head-old : (x : ℕ) → (x ≡ m → ⊥) → getD head′ x 0 ≡ getD head x 0
+  pub head-old : (x : ℕ) → (x ≡ m → ⊥) → getD head′ x 0 ≡ getD head x 0
   head-old x d = ap (λ (y : List ℕ). getD y x 0) (lk .heads) ∙ getD-set-other head m x h 0 d
 
-  head-new : getD head′ m 0 ≡ h
+  pub head-new : getD head′ m 0 ≡ h
   head-new = ap (λ (y : List ℕ). getD y m 0) (lk .heads) ∙ getD-set-same head m h 0 (omega (arith, room .heads))
 
   nexts′ : halves ≤ length next′
@@ -56,7 +56,7 @@ module _ (n : ℕ) (head next head′ next′ : List ℕ) (m h : ℕ) (room : Ro
       let s = next-old i (λ e. f (here p e)) in
       later p (subst (λ (x : ℕ). On next x g) s (on-old (λ w. f (later p (subst (λ (x : ℕ). On next x h) s w))) o))
 
-  chain-new : {i : ℕ} {hs : List ℕ} → (On next i h → ⊥) → Chain next i hs → Chain next′ i hs
+  pub chain-new : {i : ℕ} {hs : List ℕ} → (On next i h → ⊥) → Chain next i hs → Chain next′ i hs
   chain-new f (no-half z) = no-half z
   chain-new {i = i} f (first {hs = hs} p lt c) =
       first p lt (subst (λ (x : ℕ). Chain next′ x hs) (sym (next-old i (λ e. f (here p e)))) (chain-new (λ w. f (later p w)) c))

@@ -1,7 +1,9 @@
 -- Half lines and chains of halves: what a chain is and what the chains hold. Assumes nothing.
 use Prim.Native.Nat.{ℕ, _+_, _*_, _-_, _/_, _%_, _≤_, _<_}
 use mathlib.Core.Path.{_≡_}
+use mathlib.Core.Bool.{Bool, true, false}
 use mathlib.Core.List.{List, [], _∷_, List·Memᴰ}
+use lib.Dec.{eqb}
 use lib.ListN.{length, getD}
 use Rattle.book.specs.Limits.{leastLength, mostLength}
 use Rattle.network.specs.Standing.{Line}
@@ -37,6 +39,10 @@ metresOf ends h = getD ends h 0 / halves
 -- length and half in one number, so that one test compares the lengths and then the line numbers
 abbrev pub sumOf : List ℕ → ℕ → ℕ
 sumOf ends h = getD ends h 0 - getD ends h 0 % halves + h
+
+-- the line by which mark m came into the tree: its key ends with that half; 0 for a root
+abbrev pub lineIn : List ℕ → ℕ → ℕ
+lineIn best m = getD best m 0 % halves / 2
 
 -- each half leads to a mark below n, and is no longer than a line may be
 pub record Bounded (n : ℕ) (ends : List ℕ) : Type 0 where
@@ -87,6 +93,21 @@ pub record Chains (sub : List Line) (n : ℕ) (head next : List ℕ) : Type 0 wh
 pub record Drawn (sub : List Line) (n : ℕ) (head next : List ℕ) : Type 0 where
   pub heads : Heads n head next
   pub chains : Chains sub n head next
+
+-- the halves of the lines sub that leave the mark m, line by line
+abbrev pub leftBy : Bool → ℕ → List ℕ → List ℕ
+leftBy true h hs = h ∷ hs
+leftBy false h hs = hs
+
+unfoldable pub leaving : List Line → ℕ → List ℕ
+leaving [] m = []
+leaving (l ∷ sub) m = leftBy (eqb (l .to) m) (2 * l .number + 1) (leftBy (eqb (l .from) m) (2 * l .number) (leaving sub m))
+
+-- the chain of each mark below n has them in this order
+pub record InOrder (sub : List Line) (n : ℕ) (head next : List ℕ) : Type 0 where
+  pub heads : n ≤ length head
+  pub nexts : halves ≤ length next
+  pub chain : (m : ℕ) → m < n → Chain next (getD head m 0) (leaving sub m)
 
 -- lines as a book has them, on marks below n
 pub record Sound (n : ℕ) (l : Line) : Type 0 where

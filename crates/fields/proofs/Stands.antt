@@ -14,6 +14,7 @@ use Rattle.network.specs.Standing.{Line}
 use Rattle.network.specs.Field.{HasLine, lineAt, standsFrom}
 use Rattle.network.proofs.Standing as standing
 use Rattle.book.specs.Test.{testOf}
+use Rattle.book.specs.Good.{GoodLines}
 use Rattle.fields.specs.Places.{Place, Lines}
 use Rattle.book.specs.declared.Book.{Book}
 use Rattle.book.specs.declared.Tested.the-variants.{Good}
@@ -41,3 +42,6 @@ pub lines-of : (b t : ℤ) (held lines : List ℤ) (k : Book) → testOf b t hel
 lines-of b t held lines k e =
     let g = tested-good b t held lines k e in
     record { few = g .few-lines; whole = g .whole-lines; each = g .each-line }
+
+pub lines-in : {k : Book} {lines : List ℤ} → GoodLines k lines → Lines lines (k .marks) (k .lines)
+lines-in g = record { few = g .few; whole = g .whole; each = g .each }

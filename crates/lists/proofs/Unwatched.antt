@@ -17,8 +17,7 @@ use Rattle.loops.specs.Report.{loopsOf}
 use Rattle.network.proofs.Standing.{few-standing}
 use Rattle.loops.proofs.Sounding.{line-limits}
 use Rattle.chains.specs.Chains.{halves, numberLimit}
-use Rattle.prepare.specs.Prepared.{RoomNet, RoomPlant}
-use Rattle.unchecked.specs.Book.{RoomList, BookListed}
+use Rattle.unchecked.specs.Book.{BookListed}
 use Rattle.lists.specs.NotChecked.{uncheckedOf}
 use Rattle.lists.specs.Numbers.{Numbers}
 
@@ -46,18 +45,6 @@ low-unchecked q lps (l ∷ rest) f = go (checked (l .number) lps) (low-unchecked
     go false w (suc i) h = w i (omega arith)
 
 module _ (k : Book) (ls : List ℤ) (g : GoodLines k ls) where
-  -- room for the work
-  pub rooms-for : {ends head next best seg order marked list : List ℕ} → halves ≤ length ends → suc mostMarks ≤ length head → halves ≤ length next
-      → suc mostMarks ≤ length best → 2 * suc mostMarks ≤ length seg → suc mostMarks ≤ length order → numberLimit ≤ length marked → mostLines ≤ length list
-      → RoomNet (k .marks + 1) ends head next × (RoomPlant (k .marks + 1) best seg order × RoomList ls marked list)
-  rooms-for ends heads nexts bests segs orders marks lists = (
-    record { ends-at = ends; chains = record { heads = omega (arith, g .few-marks); nexts = nexts } },
-    (
-      record { bests = omega (arith, g .few-marks); segs = omega (arith, g .few-marks); orders = omega (arith, g .few-marks) },
-      record { marks = marks; outs = omega (arith, g .whole, g .few) },
-    ),
-  )
-
   numbers-low : (l : Line) → List·Memᴰ l (standing ls) → l .number < numberLimit
   numbers-low l m = omega (arith, line-limits k ls g l m .number)
 
@@ -75,27 +62,25 @@ module _ (k : Book) (ls : List ℤ) (g : GoodLines k ls) where
       let low = low-unchecked (suc mostLines) (loopsOf (k .marks) ls) (standing ls) (λ l m. omega (arith, line-limits k ls g l m .number)) in
       rw (List·getD-map pos open-lines i 0) (omega (arith, low i (omega (arith, length-map open-lines pos))))
 
-  module _ {list list′ : List ℕ} {a : ℕ} (room : mostLines ≤ length list) (put : BookListed (k .marks + 1) ls list list′ a) where
+  module _ {list list′ : List ℕ} {a : ℕ} (room : mostLines ≤ length list) (put : BookListed (k .marks) ls list list′ a) where
     abbrev open-lines : List ℕ
-    open-lines = notChecked (loops (k .marks + 1 - 1) (standing ls)) (standing ls)
+    open-lines = notChecked (loops (k .marks) (standing ls)) (standing ls)
 
-    few-open : length (notChecked (loops (k .marks + 1 - 1) (standing ls)) (standing ls)) ≤ mostLines
-    few-open = omega (arith, few-unchecked (loops (k .marks + 1 - 1) (standing ls)) (standing ls), few-standing ls, g .whole, g .few)
+    few-open : length (notChecked (loops (k .marks) (standing ls)) (standing ls)) ≤ mostLines
+    few-open = omega (arith, few-unchecked (loops (k .marks) (standing ls)) (standing ls), few-standing ls, g .whole, g .few)
 
     pub list-fits : a ≤ length list′
     list-fits = omega (arith, put .count, few-open, ap length (put .places), length-sets list 0 open-lines)
 
-    pub list-taken : take a list′ ≡ notChecked (loops (k .marks + 1 - 1) (standing ls)) (standing ls)
+    pub list-taken : take a list′ ≡ notChecked (loops (k .marks) (standing ls)) (standing ls)
     list-taken =
         ap₂ take (put .count) (put .places)
         ∙ ap (take (length open-lines)) (sets-eq open-lines list 0 (omega (arith, few-open)))
         ∙ take-at open-lines (drop (0 + length open-lines) list) (length open-lines) refl
 
     pub list-numbers : Numbers (take a list′)
-    list-numbers = subst Numbers (sym list-taken) (low-unchecked numberLimit (loops (k .marks + 1 - 1) (standing ls)) (standing ls) numbers-low)
+    list-numbers = subst Numbers (sym list-taken) (low-unchecked numberLimit (loops (k .marks) (standing ls)) (standing ls) numbers-low)
 
     pub list-is : map pos (take a list′) ≡ uncheckedOf (k .marks) ls
     unfolding uncheckedOf loopsOf
-    list-is =
-        let m : k .marks + 1 - 1 ≡ k .marks = omega arith in
-        ap (map pos) list-taken ∙ rw m
+    list-is = ap (map pos) list-taken

@@ -31,15 +31,16 @@ pub fn not_checked_good(book: Book, lines: &[i64], out: &mut [i64]) -> Listed
     requires { ⌜ GoodLines book (now lines) ⌝ }
     ensures { λ r. ⌜ listing r (now (out .exit)) ≡ listOf (uncheckedOf (book .marks) (now (lines .entry))) (now (out .entry)) ⌝ }
 {
-    let mut ends = [0u64; unchecked::HALVES];
-    let mut head = [0u64; unchecked::MARKS];
-    let mut next = [0u64; unchecked::HALVES];
-    let mut best = [0u64; unchecked::MARKS];
-    let mut seg = [0u64; unchecked::MARKS * 2];
-    let mut order = [0u64; unchecked::MARKS];
+    let mut ends = [0u64; prepare::HALVES];
+    let mut head = [0u64; prepare::MARKS];
+    let mut next = [0u64; prepare::HALVES];
+    let mut best = [0u64; prepare::MARKS];
+    let mut seg = [0u64; prepare::MARKS * 2];
+    let mut order = [0u64; prepare::MARKS];
     let mut marked = [0u64; unchecked::NUMBERS];
     let mut list = [0u64; Book::MAX_LINES];
     let count = unchecked::list_book(
+        book,
         lines,
         &mut ends,
         &mut head[..],
@@ -49,7 +50,6 @@ pub fn not_checked_good(book: Book, lines: &[i64], out: &mut [i64]) -> Listed
         &mut order[..],
         &mut marked,
         &mut list[..],
-        book.marks + 1,
     );
     write_list(&list[..count], out)
 }

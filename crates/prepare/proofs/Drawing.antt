@@ -20,10 +20,11 @@ use Rattle.network.proofs.Standing.{rising-standing, stands-all, stands-none, s
 use Rattle.laws.specs.Tests.{eqZ}
 use Rattle.laws.specs.Range.{Between}
 use Rattle.book.specs.Good.{GoodLine}
-use Rattle.chains.specs.Chains.{Half, fore, aft, markOf, metresOf, Bounded, Told, Drawn, Sound, AllSound, halves, numberLimit}
+use Rattle.chains.specs.Chains.{Half, fore, aft, markOf, metresOf, Bounded, Told, Drawn, InOrder, Sound, AllSound, halves, numberLimit}
 use Rattle.chains.specs.Link.{RoomChains, Fits, Joined, Wider}
 use Rattle.chains.proofs.Halves.{half-no, half-ok, told-mark, told-metres}
 use Rattle.chains.proofs.Laws.{join-draws, draws-none}
+use Rattle.chains.proofs.Order.{join-order, order-none}
 use Rattle.prepare.specs.Drawn.{Entry, endOf, Drew, withdrawn, drawn, Sheet, BookDrawn}
 
 -- ---- a line of the book
@@ -50,6 +51,7 @@ module _ (n : ℕ) (ls : List ℤ) where
     pub bounded : Bounded n ends
     pub sound : AllSound n (standsFrom ls j)
     pub drawn : Drawn (standsFrom ls j) n head next
+    pub ordered : InOrder (standsFrom ls j) n head next
     pub told : Told (standsFrom ls j) ends
     pub numbered : (l : Line) → List·Memᴰ l (standsFrom ls j) → (j < l .number) × (l .number ≤ lineCount ls)
     pub lineOf : (i : ℕ) → i < numberLimit → 0 < getD ends (i * 2) 0 → (l : Line) × List·Memᴰ l (standsFrom ls j) × (l .number ≡ i)
@@ -60,6 +62,7 @@ module _ (n : ℕ) (ls : List ℤ) where
     bounded = record { ends-at = le; mark-ok = λ h l. omega (arith, ze h l); short = λ h l. omega (arith, ze h l) };
     sound = λ l i. nothing l i;
     drawn = rw none-there (draws-none room zh);
+    ordered = rw none-there (order-none room zh);
     told = λ l u v h i. nothing l i;
     numbered = λ l i. nothing l i;
     lineOf = λ i l h. absurd (omega (arith, ze (i * 2) (omega arith)));
@@ -90,6 +93,7 @@ module _ (n : ℕ) (ls : List ℤ) where
       bounded = d .bounded;
       sound = rw same-lines (d .sound);
       drawn = rw same-lines (d .drawn);
+      ordered = rw same-lines (d .ordered);
       told = rw same-lines (d .told);
       numbered = rw same-lines (λ l i. (omega (arith, d .numbered l i .0), d .numbered l i .1));
       lineOf = rw same-lines (d .lineOf);
@@ -177,6 +181,15 @@ module _ (n : ℕ) (ls : List ℤ) where
           go k (List·Memᴰ·head q) = inl q
           go k (List·Memᴰ·tail i) = inr i
 
+      new-line : (k : Line) → List·Memᴰ k rest → k .number ≡ suc j → ⊥
+      new-line k i q = omega (arith, d .numbered k i .0)
+
+      from-end : markOf ends′ (suc j * 2 + 1) ≡ lineHere ls j .from
+      from-end = told-mark ends′ fresh few-marks against-it ends-from
+
+      to-end : markOf ends′ (suc j * 2) ≡ lineHere ls j .to
+      to-end = told-mark ends′ fresh few-marks along-it ends-to
+
       stands : DrawingAt j ends′ head′ next′
       stands = record {
         bounded = record {
@@ -185,9 +198,9 @@ module _ (n : ℕ) (ls : List ℤ) where
           short = λ h l. short h l (ℕ-discrete h (suc j * 2)) (ℕ-discrete h (suc j * 2 + 1));
         };
         sound = rw more-lines (λ l i. sounds l i);
-        drawn = rw more-lines (join-draws rest (lineHere ls j ∷ rest) (lineHere ls j) (d .sound) fresh wider
-            (λ k i q. omega (arith, d .numbered k i .0)) (told-mark ends′ fresh few-marks against-it ends-from) (told-mark ends′ fresh few-marks along-it ends-to)
-            room jn (d .drawn .heads) (d .drawn .chains));
+        drawn = rw more-lines (join-draws rest (lineHere ls j ∷ rest) (lineHere ls j) (d .sound) fresh wider new-line from-end to-end room jn
+            (d .drawn .heads) (d .drawn .chains));
+        ordered = rw more-lines (join-order rest (lineHere ls j) fresh new-line from-end to-end jn (d .ordered));
         told = rw more-lines (λ l u v h i hf. told l u v h i hf);
         numbered = rw more-lines (λ l i. numbered l i);
         lineOf = rw more-lines (λ i l h. lineOf i l h (ℕ-discrete i (suc j)));
@@ -230,6 +243,7 @@ module _ (n : ℕ) (ls : List ℤ) where
   draw-end j ends head next room few-marks z d = record {
     bounded = d .bounded;
     heads = d .drawn .heads;
+    ordered = rw all (d .ordered);
     listed = record {
       rising = rising-standing ls;
       sound = λ l i. d .sound l (there l i);

@@ -9,7 +9,7 @@ use Rattle.network.specs.Standing.{standing}
 use Rattle.laws.specs.Tests.{eqZ}
 use Rattle.book.specs.Line.{lineWords, fromField, toField, field, lengthAt, standingAt, lineCount}
 use Rattle.book.specs.Good.{GoodLine}
-use Rattle.chains.specs.Chains.{Bounded, Heads, Given, halves, numberLimit}
+use Rattle.chains.specs.Chains.{Bounded, Heads, InOrder, Given, halves, numberLimit}
 use Rattle.chains.specs.Link.{RoomChains, Joined}
 use Rattle.chains.specs.Listed.{Listed}
 
@@ -46,5 +46,6 @@ pub record Sheet (n : ℕ) (ls : List ℤ) (ends head next : List ℕ) : Type 0 
 pub record BookDrawn (n : ℕ) (ls : List ℤ) (ends head next : List ℕ) : Type 0 where
   pub bounded : Bounded n ends
   pub heads : Heads n head next
+  pub ordered : InOrder (standing ls) n head next
   pub listed : Listed (standing ls) n (lineCount ls + 1) ends
   pub given : Given (standing ls) n head next ends

@@ -1,6 +1,9 @@
 // The lent book as the network works on it: drawn, and its tree planted.
+ghost use Prim.Native.Nat.{_+_};
+ghost use Rattle.book.specs.Good.{GoodLines};
 ghost use Rattle.prepare.specs.Drawn.{Entry, Drew, Sheet, BookDrawn};
-ghost use Rattle.prepare.specs.Prepared.{Good, RoomNet, RoomPlant, BookPlanted};
+ghost use Rattle.prepare.specs.Prepared.{RoomBook, BookPlanted};
+use book::Book;
 use book::line::Line;
 
 // The line of this number is drawn, if it stands: what ends has of its halves, and its place in the chains.
@@ -42,8 +45,14 @@ fn draw_book(lines: &[i64], ends: &mut [u64], head: &mut [u64], next: &mut [u64]
     }
 }
 
-// The book is drawn and its tree planted. Marks are below n.
+// The places of the work tables, for any book: by half, and by mark with 0. The tournament of the search has two to a mark.
+pub const HALVES: usize = chains::HALVES as usize;
+
+pub const MARKS: usize = Book::MAX_MARKS as usize + 1;
+
+// The tested book is drawn and its tree planted.
 pub fn plant_book(
+    book: Book,
     lines: &[i64],
     ends: &mut [u64],
     head: &mut [u64],
@@ -51,13 +60,13 @@ pub fn plant_book(
     best: &mut [u64],
     seg: &mut [u64],
     order: &mut [u64],
-    n: usize,
 )
-    requires { ⌜ Good n (now lines) ⌝
-        ∗ ⌜ RoomNet n (now ends) (now head) (now next) ⌝
-        ∗ ⌜ RoomPlant n (now best) (now seg) (now order) ⌝ }
-    ensures { λ _. ⌜ BookPlanted n (now (lines .entry)) (now (ends .exit)) (now (best .exit)) (now (order .exit)) ⌝ }
+    requires { ⌜ GoodLines book (now lines) ⌝
+        ∗ ⌜ RoomBook (now ends) (now head) (now next) (now best) (now seg) (now order) ⌝ }
+    ensures { λ _. ⌜ BookPlanted (book .marks + 1) (now (lines .entry)) (now (ends .exit)) (now (head .exit)) (now (next .exit)) (now (best .exit))
+        (now (order .exit)) ⌝ }
 {
+    let n = book.marks + 1;
     draw_book(lines, ends, head, next, n);
     tree::plant(head, next, ends, best, seg, order, n);
 }

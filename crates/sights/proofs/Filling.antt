@@ -5,31 +5,13 @@ use native.Mathlib.Nat.{add-zero}
 use native.Mathlib.Omega.{arith}
 use mathlib.Core.Path.{_≡_, refl, sym, _∙_, ap}
 use mathlib.Core.List.{List, [], _∷_, _++_, append-assoc, append-nil}
-use lib.ListN.{length, getD, length-set}
+use lib.ListN.{length, getD, length-set, length-append}
 use lib.Seq.{getD-set-same, getD-set-other}
 use lib.IntN.{ℤ, pos}
+use Rattle.chains.specs.Chains.{halves}
 use Rattle.sights.specs.Sights.{Sight, sight}
-use Rattle.sights.specs.Chains.{sightAt, chained, chain, Nodes}
+use Rattle.sights.specs.Halves.{placeOf, sightAt, Leads, no-more, one-more}
 use Rattle.sights.specs.Table.{seen, InRange, Upto, Written, Filling, Filled}
-use Rattle.sights.proofs.Chained.{enough}
-
--- the first sight of a chain, and the rest
-chain-first : (lines : List ℤ) (next half : List ℕ) (n c : ℕ) → Nodes next half n c → (j : ℕ) → suc j ≤ c
-    → chain lines next half (suc j) ≡ sightAt lines (getD half j 0) ∷ chain lines next half (getD next j 0)
-unfolding chained
-chain-first lines next half n c h j u =
-    let f = h .falls j u in
-    ap (λ (r : List Sight). sightAt lines (getD half j 0) ∷ r) (enough lines n next half c h j (getD next j 0) (getD next j 0) f (omega arith) (omega arith))
-
-pub chain-step : (lines : List ℤ) (next half : List ℕ) (n c : ℕ) → Nodes next half n c → (p : ℕ) → 0 < p → p ≤ c
-    → chain lines next half p ≡ sightAt lines (getD half (p - 1) 0) ∷ chain lines next half (getD next (p - 1) 0)
-chain-step lines next half n c h zero l u = absurd (omega arith)
-chain-step lines next half n c h (suc j) l u = let e : suc j - 1 ≡ j = omega arith in rw e (chain-first lines next half n c h j u)
-
-pub chain-none : (lines : List ℤ) (next half : List ℕ) (p : ℕ) → p ≤ 0 → chain lines next half p ≡ []
-unfolding chained
-chain-none lines next half zero l = refl
-chain-none lines next half (suc p) l = absurd (omega arith)
 
 length-seen : (other : List ℕ) (rise : List ℤ) (weight : List ℕ) (a k : ℕ) → length (seen other rise weight a k) ≡ k
 unfolding seen
@@ -103,7 +85,52 @@ filling-end other₀ rise₀ weight₀ other rise weight b a c rest all e f =
     let l : c - a ≡ length all = sym (length-seen other rise weight a (c - a)) ∙ ap length d in
     (omega (arith, f .reached), record { range = f .range; here = ap (seen other rise weight a) (sym l) ∙ d; before = f .before })
 
--- there is room for the next
-pub room-one : {other₀ : List ℕ} {rise₀ : List ℤ} {weight₀ : List ℕ} {other : List ℕ} {rise : List ℤ} {weight : List ℕ} {b a c : ℕ} {s : Sight} {rest all : List Sight}
-    → Filling other₀ rise₀ weight₀ other rise weight b a c (s ∷ rest) all → Upto other rise weight (c + 1)
-room-one f = record { others = omega (arith, f .room .others); rises = omega (arith, f .room .rises); weighed = omega (arith, f .room .weighed) }
+-- ---- along a chain
+
+-- the half h is next, and place c; what its chain leads by is left
+pub record Walking (lines : List ℤ) (n : ℕ) (next other₀ : List ℕ) (rise₀ : List ℤ) (weight₀ other : List ℕ) (rise : List ℤ) (weight : List ℕ)
+    (b a c h : ℕ) (all : List Sight) : Type 0 where
+  pub rest : List Sight
+  pub leads : Leads lines n next h rest
+  pub filling : Filling other₀ rise₀ weight₀ other rise weight b a c rest all
+
+-- there is such a half: it is seen, and then the rest
+pub record Turn (lines : List ℤ) (n : ℕ) (next other₀ : List ℕ) (rise₀ : List ℤ) (weight₀ other : List ℕ) (rise : List ℤ) (weight : List ℕ)
+    (b a c h : ℕ) (all : List Sight) : Type 0 where
+  pub some-line : 2 ≤ h
+  pub inside : placeOf h < n
+  pub fits : h < halves
+  pub rest : List Sight
+  pub leads : Leads lines n next (getD next h 0) rest
+  pub filling : Filling other₀ rise₀ weight₀ other rise weight b a c (sightAt lines h ∷ rest) all
+  pub room : Upto other rise weight (c + 1)
+  pub more : c < a + length all
+
+module _ {lines : List ℤ} {n : ℕ} {next other₀ : List ℕ} {rise₀ : List ℤ} {weight₀ other : List ℕ} {rise : List ℤ} {weight : List ℕ} {b a c h : ℕ} {all : List Sight}
+    (w : Walking lines n next other₀ rise₀ weight₀ other rise weight b a c h all) where
+  pub turn-of : 0 < h → Turn lines n next other₀ rise₀ weight₀ other rise weight b a c h all
+  turn-of lt = go (w .leads) (w .filling)
+    where
+      go : {rest : List Sight} → Leads lines n next h rest → Filling other₀ rise₀ weight₀ other rise weight b a c rest all
+          → Turn lines n next other₀ rise₀ weight₀ other rise weight b a c h all
+      go (no-more z) f = absurd (omega arith)
+      go (one-more {ss = ss} low high fit l) f =
+          let all-in : c - a + suc (length ss) ≡ length all =
+          ap (λ (k : ℕ). k + suc (length ss)) (sym (length-seen other rise weight a (c - a))) ∙ sym (length-append (seen other rise weight a (c - a)) (sightAt lines h ∷ ss)) ∙ ap length (f .done) in
+          record {
+            some-line = low;
+            inside = high;
+            fits = fit;
+            rest = ss;
+            leads = l;
+            filling = f;
+            room = record { others = omega (arith, f .room .others); rises = omega (arith, f .room .rises); weighed = omega (arith, f .room .weighed) };
+            more = omega (arith, f .reached);
+          }
+
+  pub walk-end : h ≤ 0 → (c ≡ a + length all) × Filled other₀ rise₀ weight₀ other rise weight b a all
+  walk-end z = filling-end other₀ rise₀ weight₀ other rise weight b a c (w .rest) all (go (w .leads)) (w .filling)
+    where
+      go : {rest : List Sight} → Leads lines n next h rest → rest ≡ []
+      go (no-more y) = refl
+      go (one-more low high fit l) = absurd (omega arith)

@@ -8,7 +8,6 @@ use lib.IntN.{ℤ, pos}
 use Rattle.network.specs.Standing.{standing}
 use Rattle.fields.specs.Places.{Lines}
 use Rattle.sights.specs.Sights.{sightsOf}
-use Rattle.sights.specs.Chains.{Empty, Spaces}
 use Rattle.sights.specs.Table.{InRange, Broad}
 use Rattle.fields.proofs.Fair.{fair-lines}
 use Rattle.sights.proofs.Counting.{few-sights, taken-most}
@@ -28,12 +27,6 @@ all-null : (w j : ℕ) → getD (nulls w) j (pos 0) ≡ pos 0
 all-null zero j = refl
 all-null (suc w) zero = refl
 all-null (suc w) (suc j) = all-null w j
-
-pub empty-chains : (w b : ℕ) → b ≤ w → Empty (zeros w) b
-empty-chains w b l = record { heads = rw (length-replicate w) l; none = λ v h. all-zero w v }
-
-pub space-zeros : (w n : ℕ) → 2 * n ≤ w → Spaces (zeros w) (zeros w) n
-space-zeros w n l = record { nexts = rw (length-replicate w) l; halves = rw (length-replicate w) l }
 
 pub range-zeros : (w b : ℕ) → 0 < b → InRange (zeros w) (nulls w) (zeros w) b
 range-zeros w b l = record {

@@ -1,6 +1,5 @@
-pub mod Chained
-pub mod Linking
 pub mod Halves
+pub mod Leading
 pub mod Filling
 pub mod Rowing
 pub mod Counting

@@ -1,3 +1,3 @@
 pub mod Sights
-pub mod Chains
+pub mod Halves
 pub mod Table

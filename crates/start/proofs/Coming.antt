@@ -15,6 +15,7 @@ use Rattle.laws.proofs.Size.{size-add, size-sub}
 use Rattle.book.specs.Limits.{mostDifference}
 use Rattle.book.specs.Line.{fromAt, toAt, differenceAt}
 use Rattle.fields.specs.Places.{Lines}
+use Rattle.chains.specs.Chains.{lineIn}
 use Rattle.start.specs.Start.{Rooted, rooted, up, down}
 use Rattle.start.specs.Along.{Growth, sideOf, cameIn, rooting, spots, Spotted, Spot, Placing}
 use Rattle.fields.proofs.Setting.{set-all}
@@ -64,15 +65,15 @@ module _ (lines : List ℤ) (root : List ℕ) (over : List ℤ) (b k m : ℕ) (s
   }
 
 -- the arrays after one mark more has entered
-module _ (lines : List ℤ) (order came : List ℕ) (b n k : ℕ) (growth : Growth order came b n) (l : k < b) where
-  agree : (root : List ℕ) (over : List ℤ) → Placing (rooting lines order came k) root over b k → (m : ℕ) → 0 < m → m ≤ b → spots root over m ≡ rooting lines order came k m
+module _ (lines : List ℤ) (order best : List ℕ) (b n k : ℕ) (growth : Growth order best b n) (l : k < b) where
+  agree : (root : List ℕ) (over : List ℤ) → Placing (rooting lines order best k) root over b k → (m : ℕ) → 0 < m → m ≤ b → spots root over m ≡ rooting lines order best k m
   agree root over p m low high =
       let e : suc (m - 1) ≡ m = omega arith in
-      p .place (m - 1) (omega arith) ∙ ap (rooting lines order came k) e
+      p .place (m - 1) (omega arith) ∙ ap (rooting lines order best k) e
 
-  came-same : (root : List ℕ) (over : List ℤ) → Placing (rooting lines order came k) root over b k → (m j : ℕ)
+  came-same : (root : List ℕ) (over : List ℤ) → Placing (rooting lines order best k) root over b k → (m j : ℕ)
       → ((i : ℕ) → j ≡ suc i → (0 < natAbs (fromAt lines i)) × (natAbs (fromAt lines i) ≤ b) × (0 < natAbs (toAt lines i)) × (natAbs (toAt lines i) ≤ b))
-      → cameIn (spots root over) lines m j ≡ cameIn (rooting lines order came k) lines m j
+      → cameIn (spots root over) lines m j ≡ cameIn (rooting lines order best k) lines m j
   came-same root over p m zero h = refl
   came-same root over p m (suc i) h =
       let g = h i refl in
@@ -80,28 +81,28 @@ module _ (lines : List ℤ) (order came : List ℕ) (b n k : ℕ) (growth : Grow
       let t = natAbs (toAt lines i) in
       let d = differenceAt lines i in
       ap (λ (x : Rooted). sideOf (eqb t m) (up x d) (down (spots root over t) d)) (agree root over p f (g .0) (g .1))
-      ∙ ap (λ (x : Rooted). sideOf (eqb t m) (up (rooting lines order came k f) d) (down x d)) (agree root over p t (g .2) (g .3))
+      ∙ ap (λ (x : Rooted). sideOf (eqb t m) (up (rooting lines order best k f) d) (down x d)) (agree root over p t (g .2) (g .3))
 
-  module _ (root : List ℕ) (over : List ℤ) (r : ℕ) (o : ℤ) (p : Placing (rooting lines order came k) root over b k)
-      (ends : (i : ℕ) → getD came k 0 ≡ suc i → (0 < natAbs (fromAt lines i)) × (natAbs (fromAt lines i) ≤ b) × (0 < natAbs (toAt lines i)) × (natAbs (toAt lines i) ≤ b))
-      (s : Spot (cameIn (spots root over) lines (getD order k 0) (getD came k 0)) b (k + 1) r o) where
+  module _ (root : List ℕ) (over : List ℤ) (r : ℕ) (o : ℤ) (p : Placing (rooting lines order best k) root over b k)
+      (ends : (i : ℕ) → lineIn best (getD order k 0) ≡ suc i → (0 < natAbs (fromAt lines i)) × (natAbs (fromAt lines i) ≤ b) × (0 < natAbs (toAt lines i)) × (natAbs (toAt lines i) ≤ b))
+      (s : Spot (cameIn (spots root over) lines (getD order k 0) (lineIn best (getD order k 0))) b (k + 1) r o) where
     abbrev pub m : ℕ
     m = getD order k 0
 
     place-new : (v : ℕ) → v < b → (t : Bool) → eqb m (suc v) ≡ t
-        → rooted (getD (set root (m - 1) r) v 0) (getD (set over (m - 1) o) v (pos 0)) ≡ sideOf t (cameIn (rooting lines order came k) lines (suc v) (getD came k 0)) (rooting lines order came k (suc v))
+        → rooted (getD (set root (m - 1) r) v 0) (getD (set over (m - 1) o) v (pos 0)) ≡ sideOf t (cameIn (rooting lines order best k) lines (suc v) (lineIn best (getD order k 0))) (rooting lines order best k (suc v))
     place-new v h true e =
         let em : getD order k 0 ≡ suc v = eqb-true (getD order k 0) (suc v) e in
         let ev : getD order k 0 - 1 ≡ v = omega arith in
         rw (ev, getD-set-same root v r 0 (omega (arith, p .spotted .roots)), getD-set-same over v o (pos 0) (omega (arith, p .spotted .overs)))
-        (s .is ∙ came-same root over p (getD order k 0) (getD came k 0) ends ∙ ap (λ (x : ℕ). cameIn (rooting lines order came k) lines x (getD came k 0)) em)
+        (s .is ∙ came-same root over p (getD order k 0) (lineIn best (getD order k 0)) ends ∙ ap (λ (x : ℕ). cameIn (rooting lines order best k) lines x (lineIn best (getD order k 0))) em)
     place-new v h false e =
         let nm = eqb-false (getD order k 0) (suc v) e in
         let low = growth .marks k l .0 in
         let nv : v ≡ getD order k 0 - 1 → ⊥ = λ q. nm (omega arith) in
         rw (getD-set-other root (getD order k 0 - 1) v r 0 nv, getD-set-other over (getD order k 0 - 1) v o (pos 0) nv) (p .place v h)
 
-    pub entered : Placing (rooting lines order came (k + 1)) (set root (m - 1) r) (set over (m - 1) o) b (k + 1)
+    pub entered : Placing (rooting lines order best (k + 1)) (set root (m - 1) r) (set over (m - 1) o) b (k + 1)
     unfolding rooting
     entered = record {
       spotted = record {
@@ -125,10 +126,10 @@ ends-of lines b n good j l i e =
     (g .from .low, g .from .high, g .to .low, g .to .high)
 
 -- before the first: every mark stands over itself
-pub entered-none : (lines : List ℤ) (order came root : List ℕ) (over : List ℤ) (b : ℕ) → length root ≡ b → length over ≡ b → ((v : ℕ) → v < b → getD root v 0 ≡ suc v) → ((v : ℕ) → getD over v (pos 0) ≡ pos 0)
-    → Placing (rooting lines order came 0) root over b 0
+pub entered-none : (lines : List ℤ) (order best root : List ℕ) (over : List ℤ) (b : ℕ) → length root ≡ b → length over ≡ b → ((v : ℕ) → v < b → getD root v 0 ≡ suc v) → ((v : ℕ) → getD over v (pos 0) ≡ pos 0)
+    → Placing (rooting lines order best 0) root over b 0
 unfolding rooting
-entered-none lines order came root over b er eo hr ho = record {
+entered-none lines order best root over b er eo hr ho = record {
   spotted = record {
     roots = er;
     overs = eo;

@@ -17,6 +17,7 @@ use Rattle.network.specs.Field.{HasLine, standsFrom}
 use Rattle.network.specs.Tree.{Entry, Tree}
 use Rattle.network.proofs.Standing.{stands-none}
 use Rattle.fields.specs.Places.{Lines}
+use Rattle.chains.specs.Chains.{lineIn}
 use Rattle.start.specs.Start.{Rooted, up, down, enters, rootedBy, rootHeight}
 use Rattle.start.specs.Along.{Entered, none-yet, by-root, by-line, sideOf, cameIn, rooting}
 use Rattle.fields.proofs.Stands.{lineHere, stands-not, stands-here}
@@ -73,23 +74,23 @@ came-by f g e lines m (suc i) =
     ap (λ (x : Rooted). sideOf (eqb t m) (up x d) (down (f t) d)) (e a) ∙ ap (λ (x : Rooted). sideOf (eqb t m) (up (g a) d) (down x d)) (e t)
 
 -- after k marks have entered, the arrays' places are those of the tree with k entries
-module _ (lines : List ℤ) (order came : List ℕ) (n : ℕ) where
-  one-entry : (e : Entry) (es : Tree) (m j : ℕ) → getD order (length es) 0 ≡ e .mark → getD came (length es) 0 ≡ j
-      → ((k : ℕ) → rooting lines order came (length es) k ≡ rootedBy es k) → cameIn (λ k. rootedBy es k) lines m j ≡ enters (λ k. rootedBy es k) m (e .by)
-      → rooting lines order came (length (e ∷ es)) m ≡ rootedBy (e ∷ es) m
+module _ (lines : List ℤ) (order best : List ℕ) (n : ℕ) where
+  one-entry : (e : Entry) (es : Tree) (m j : ℕ) → getD order (length es) 0 ≡ e .mark → lineIn best (getD order (length es) 0) ≡ j
+      → ((k : ℕ) → rooting lines order best (length es) k ≡ rootedBy es k) → cameIn (λ k. rootedBy es k) lines m j ≡ enters (λ k. rootedBy es k) m (e .by)
+      → rooting lines order best (length (e ∷ es)) m ≡ rootedBy (e ∷ es) m
   unfolding rooting
   one-entry e es m j eo ec ih en = by (eqb (e .mark) m) refl
     where
       by : (t : Bool) → eqb (e .mark) m ≡ t
-          → sideOf (eqb (getD order (length es) 0) m) (cameIn (rooting lines order came (length es)) lines m (getD came (length es) 0)) (rooting lines order came (length es) m) ≡ rootedBy (e ∷ es) m
+          → sideOf (eqb (getD order (length es) 0) m) (cameIn (rooting lines order best (length es)) lines m (lineIn best (getD order (length es) 0))) (rooting lines order best (length es) m) ≡ rootedBy (e ∷ es) m
       by true t =
-          ap (λ (x : ℕ). sideOf (eqb x m) (cameIn (rooting lines order came (length es)) lines m (getD came (length es) 0)) (rooting lines order came (length es) m)) eo
-          ∙ ap (λ (x : Bool). sideOf x (cameIn (rooting lines order came (length es)) lines m (getD came (length es) 0)) (rooting lines order came (length es) m)) t
-          ∙ ap (cameIn (rooting lines order came (length es)) lines m) ec
-          ∙ came-by (rooting lines order came (length es)) (λ k. rootedBy es k) ih lines m j ∙ en ∙ sym (rooted-here e es m t)
+          ap (λ (x : ℕ). sideOf (eqb x m) (cameIn (rooting lines order best (length es)) lines m (lineIn best (getD order (length es) 0))) (rooting lines order best (length es) m)) eo
+          ∙ ap (λ (x : Bool). sideOf x (cameIn (rooting lines order best (length es)) lines m (lineIn best (getD order (length es) 0))) (rooting lines order best (length es) m)) t
+          ∙ ap (cameIn (rooting lines order best (length es)) lines m) ec
+          ∙ came-by (rooting lines order best (length es)) (λ k. rootedBy es k) ih lines m j ∙ en ∙ sym (rooted-here e es m t)
       by false t =
-          ap (λ (x : ℕ). sideOf (eqb x m) (cameIn (rooting lines order came (length es)) lines m (getD came (length es) 0)) (rooting lines order came (length es) m)) eo
-          ∙ ap (λ (x : Bool). sideOf x (cameIn (rooting lines order came (length es)) lines m (getD came (length es) 0)) (rooting lines order came (length es) m)) t
+          ap (λ (x : ℕ). sideOf (eqb x m) (cameIn (rooting lines order best (length es)) lines m (lineIn best (getD order (length es) 0))) (rooting lines order best (length es) m)) eo
+          ∙ ap (λ (x : Bool). sideOf x (cameIn (rooting lines order best (length es)) lines m (lineIn best (getD order (length es) 0))) (rooting lines order best (length es) m)) t
           ∙ ih m ∙ sym (rooted-there e es m t)
 
   by-name : (before : ℕ → Rooted) (m : ℕ) (l : Line) (o : Option Line) → Named lines n l → o ≡ some l → cameIn before lines m (l .number) ≡ enters before m o
@@ -97,8 +98,8 @@ module _ (lines : List ℤ) (order came : List ℕ) (n : ℕ) where
       ap (λ (x : Line). cameIn before lines m (x .number)) (d .is) ∙ sym (enters-line before lines m (d .place))
       ∙ ap (λ (x : Line). enters before m (some x)) (sym (d .is)) ∙ ap (enters before m) (sym e)
 
-  pub rooting-is : (es : Tree) → Entered order came es → ((e : Entry) → List·Memᴰ e es → (l : Line) → e .by ≡ some l → Named lines n l)
-      → (m : ℕ) → rooting lines order came (length es) m ≡ rootedBy es m
+  pub rooting-is : (es : Tree) → Entered order best es → ((e : Entry) → List·Memᴰ e es → (l : Line) → e .by ≡ some l → Named lines n l)
+      → (m : ℕ) → rooting lines order best (length es) m ≡ rootedBy es m
   unfolding rooting rootedBy
   rooting-is [] none-yet h m = refl
   rooting-is (e ∷ es) (by-root eo eb ec rest) h m =

@@ -8,3 +8,4 @@ pub mod Pieces
 pub mod Reach
 pub mod Inside
 pub mod Following
+pub mod Zeros

@@ -86,7 +86,7 @@ module _ (flags : List Bool) (own : List ℤ) (root : List ℕ) (over : List ℤ
         ∙ sym (ap (rootHeight (spots root over) (gives flags own) (suc u) (suc v)) left))
 
     z-size : natAbs z ≤ mostRoot
-    z-size = rw ez (omega (arith, size-sub (getD own v (pos 0)) (getD over v (pos 0)), known .small v, known .spotted .size v, known .few))
+    z-size = rw ez (omega (arith, size-sub (getD own v (pos 0)) (getD over v (pos 0)), known .held .small v, known .spotted .size v, known .held .few))
 
     pub lift-held : Given (rootsFrom (spots root over) (gives flags own) b v) (set has (getD root v 0 - 1) true) (set base (getD root v 0 - 1) z) b mostRoot
     lift-held = record {

@@ -1,5 +1,5 @@
--- The start in arrays. The tree comes as two lists: order[k] is the k-th mark that enters, and came[k] the number of the line by which it
--- came in, 0 for a root.
+-- The start in arrays. The tree comes as it was planted: order[k] is the k-th mark that enters, and best has of each mark the line by which
+-- it came in.
 -- Assumes nothing.
 use Prim.Native.Nat.{ℕ, zero, suc, _+_, _*_, _-_, _≤_, _<_}
 use mathlib.Core.Path.{_≡_}
@@ -14,21 +14,23 @@ use Rattle.book.specs.Good.{GoodHeld}
 use Rattle.book.specs.Line.{fromAt, toAt, differenceAt}
 use Rattle.network.specs.Standing.{Line}
 use Rattle.network.specs.Tree.{Entry, Tree}
-use Rattle.fields.specs.Places.{Lines}
+use Rattle.chains.specs.Chains.{lineIn}
 use Rattle.start.specs.Start.{heldHeight, rootHeight, unheldPiece, startOf, Rooted, rooted, up, down}
 
--- The two lists hold the tree
-pub data Entered (order came : List ℕ) : Tree → Type 0 where
-  none-yet : Entered order came []
-  by-root : {e : Entry} {es : Tree} → getD order (length es) 0 ≡ e .mark → e .by ≡ none → getD came (length es) 0 ≡ 0 → Entered order came es → Entered order came (e ∷ es)
-  by-line : {e : Entry} {es : Tree} → getD order (length es) 0 ≡ e .mark → (l : Line) → e .by ≡ some l → getD came (length es) 0 ≡ l .number → Entered order came es → Entered order came (e ∷ es)
+-- They hold the tree
+pub data Entered (order best : List ℕ) : Tree → Type 0 where
+  none-yet : Entered order best []
+  by-root : {e : Entry} {es : Tree} → getD order (length es) 0 ≡ e .mark → e .by ≡ none → lineIn best (getD order (length es) 0) ≡ 0
+      → Entered order best es → Entered order best (e ∷ es)
+  by-line : {e : Entry} {es : Tree} → getD order (length es) 0 ≡ e .mark → (l : Line) → e .by ≡ some l
+      → lineIn best (getD order (length es) 0) ≡ l .number → Entered order best es → Entered order best (e ∷ es)
 
 -- b marks, each 1 to b, that come in by some of n lines
-pub record Growth (order came : List ℕ) (b n : ℕ) : Type 0 where
+pub record Growth (order best : List ℕ) (b n : ℕ) : Type 0 where
   pub orders : b ≤ length order
-  pub cames : b ≤ length came
+  pub bests : b < length best
   pub marks : (k : ℕ) → k < b → (0 < getD order k 0) × (getD order k 0 ≤ b)
-  pub lines : (k : ℕ) → k < b → getD came k 0 ≤ n
+  pub lines : (k : ℕ) → k < b → lineIn best (getD order k 0) ≤ n
 
 abbrev pub sideOf : Bool → Rooted → Rooted → Rooted
 sideOf true a b = a
@@ -42,9 +44,9 @@ cameIn before lines m (suc i) =
 
 -- the places of the marks after k have entered
 unfoldable pub rooting : List ℤ → List ℕ → List ℕ → ℕ → ℕ → Rooted
-rooting lines order came zero m = rooted m (pos 0)
-rooting lines order came (suc k) m =
-    sideOf (eqb (getD order k 0) m) (cameIn (rooting lines order came k) lines m (getD came k 0)) (rooting lines order came k m)
+rooting lines order best zero m = rooted m (pos 0)
+rooting lines order best (suc k) m =
+    sideOf (eqb (getD order k 0) m) (cameIn (rooting lines order best k) lines m (lineIn best (getD order k 0))) (rooting lines order best k m)
 
 -- An array of flags and one of heights are a height or none at each place
 abbrev pub optional : Bool → ℤ → Option ℤ
@@ -106,12 +108,16 @@ mostRoot = mostHeldHeight + mostMarks * mostDifference
 abbrev pub gives : List Bool → List ℤ → ℕ → Option ℤ
 gives flags own m = optional (getD flags (m - 1) false) (getD own (m - 1) (pos 0))
 
--- What is known of b marks, in arrays: the held ones and their heights, and the places of all in the tree
-pub record Known (flags : List Bool) (own : List ℤ) (root : List ℕ) (over : List ℤ) (b : ℕ) : Type 0 where
+-- The held marks of b marks and their heights, in arrays
+pub record HeldIn (flags : List Bool) (own : List ℤ) (b : ℕ) : Type 0 where
   pub few : b ≤ mostMarks
   pub flagged : length flags ≡ b
   pub owned : length own ≡ b
   pub small : (v : ℕ) → natAbs (getD own v (pos 0)) ≤ mostHeldHeight
+
+-- What is known of b marks: the held ones and their heights, and the places of all in the tree
+pub record Known (flags : List Bool) (own : List ℤ) (root : List ℕ) (over : List ℤ) (b : ℕ) : Type 0 where
+  pub held : HeldIn flags own b
   pub spotted : Spotted root over b b
 
 -- the height at the start of the mark at place v, by the arrays: a held mark has its own
@@ -153,15 +159,11 @@ pub record Bare (root : List ℕ) (over : List ℤ) (b : ℕ) : Type 0 where
   pub overs : length over ≡ b
   pub zero : (v : ℕ) → getD over v (pos 0) ≡ pos 0
 
--- What is lent: n lines, h held entries, and the tree of b marks
-pub record Lent (lines held : List ℤ) (order came : List ℕ) (b n h : ℕ) : Type 0 where
-  pub some-mark : 0 < b
-  pub few : b ≤ mostMarks
-  pub linesGood : Lines lines b n
-  pub heldGood : HeldEntries held b h
-  pub growth : Growth order came b n
-
--- r is the lowest mark of a piece without a held mark, or 0, and then z has the heights at the start
-abbrev pub Raised : List Bool → List ℤ → List ℕ → List ℤ → List ℤ → ℕ → ℕ → Type 0
-Raised flags ownH root over z b r = (at : ℕ → Rooted) (held : ℕ → Option ℤ) → Placing at root over b b → Given held flags ownH b mostHeldHeight
+-- r is the lowest mark of a piece without a held mark, or 0, and then z has the heights at the start, by the places `at`
+abbrev pub Started : (ℕ → Rooted) → List Bool → List ℤ → List ℤ → ℕ → ℕ → Type 0
+Started at flags own z b r = (held : ℕ → Option ℤ) → Given held flags own b mostHeldHeight
     → (r ≡ unheldPiece at held b) × (r ≡ 0 → (v : ℕ) → v < b → getD z v (pos 0) ≡ startOf at held b (suc v)) × (length z ≡ b)
+
+-- the same, whatever places the arrays hold
+abbrev pub Raised : List Bool → List ℤ → List ℕ → List ℤ → List ℤ → ℕ → ℕ → Type 0
+Raised flags own root over z b r = (at : ℕ → Rooted) → Placing at root over b b → Started at flags own z b r

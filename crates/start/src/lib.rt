@@ -1,5 +1,5 @@
-// The heights before the first sweep: document 01, "Adjustment", "Start". The tree comes as the marks in the order in which they enter, and
-// the number of the line by which each came in, 0 for a root.
+// The heights before the first sweep: document 01, "Adjustment", "Start". The tree comes as it was planted: `order` has the marks as they
+// enter, `best` of each mark a key that ends with the half by which it came in.
 ghost use mathlib.Core.Path.{_≡_};
 ghost use mathlib.Core.Bool.{cond};
 ghost use Prim.Native.Nat.{_+_, _≤_, _<_};
@@ -7,12 +7,18 @@ ghost use lib.ListN.{length};
 ghost use Rattle.book.specs.Limits.{mostMarks, mostHeldHeight};
 ghost use Rattle.laws.specs.Scan.{firstBad};
 ghost use Rattle.fields.specs.Places.{Lines};
-ghost use Rattle.start.specs.Along.{Growth, cameIn, rooting, spots, Spotted, Spot, Placing, Given, heldFrom, HeldPlace, HeldEntries, rootsFrom, mostRoot, gives, Known, Seeded, Rooting, Based, unheld, startAt, Begun, Blank, Bare, Lent, Raised};
+ghost use Rattle.start.specs.Along.{Growth, cameIn, rooting, spots, Spotted, Spot, Placing, Given, heldFrom, HeldPlace, HeldEntries};
+ghost use Rattle.start.specs.Along.{rootsFrom, mostRoot, gives, HeldIn, Known, Seeded, Rooting, Based, unheld, startAt, Begun, Blank, Bare};
+ghost use Rattle.start.specs.Along.{Started, Raised};
 ghost use Rattle.start.specs.Start.{heldHeight};
+use book::Book;
 use book::held::Held;
 use fields::difference_of;
 use fields::from_mark;
 use fields::to_mark;
+
+// A place for each mark of any book.
+const MARKS: usize = Book::MAX_MARKS as usize;
 
 // A mark's place in the tree: the root of its piece, and how high the tree's lines put it over that root.
 struct Rooted {
@@ -55,19 +61,20 @@ fn come_in(
 // The mark that enters k-th takes its place.
 fn enter(
     lines: &[i64],
-    order: &[usize],
-    came: &[usize],
+    order: &[u64],
+    best: &[u64],
     root: &mut [usize],
     over: &mut [i64],
     b: usize,
     n: usize,
     k: usize,
 )
-    requires { ⌜ Lines (now lines) b n ⌝ ∗ ⌜ Growth (now order) (now came) b n ⌝ ∗ ⌜ Placing (rooting (now lines) (now order) (now came) k) (now root) (now over) b k ⌝ ∗ ⌜ (k < b) × (b ≤ mostMarks) ⌝ }
-    ensures { λ _. ⌜ Placing (rooting (now (lines .entry)) (now (order .entry)) (now (came .entry)) (k + 1)) (now (root .exit)) (now (over .exit)) b (k + 1) ⌝ }
+    requires { ⌜ Lines (now lines) b n ⌝ ∗ ⌜ Growth (now order) (now best) b n ⌝ ∗ ⌜ Placing (rooting (now lines) (now order) (now best) k) (now root) (now over) b k ⌝ ∗ ⌜ (k < b) × (b ≤ mostMarks) ⌝ }
+    ensures { λ _. ⌜ Placing (rooting (now (lines .entry)) (now (order .entry)) (now (best .entry)) (k + 1)) (now (root .exit)) (now (over .exit)) b (k + 1) ⌝ }
 {
-    let m = order[k];
-    let r = come_in(lines, root, over, b, n, k, m, came[k]);
+    let m = order[k] as usize;
+    let j = (best[m] % chains::HALVES / 2) as usize;
+    let r = come_in(lines, root, over, b, n, k, m, j);
     let its_root = r.root;
     let its_over = r.over;
     root[m - 1] = its_root;
@@ -77,19 +84,19 @@ fn enter(
 // Every mark takes its place in the tree.
 fn place_all(
     lines: &[i64],
-    order: &[usize],
-    came: &[usize],
+    order: &[u64],
+    best: &[u64],
     root: &mut [usize],
     over: &mut [i64],
     b: usize,
     n: usize,
 )
-    requires { ⌜ Lines (now lines) b n ⌝ ∗ ⌜ Growth (now order) (now came) b n ⌝ ∗ ⌜ Placing (rooting (now lines) (now order) (now came) 0) (now root) (now over) b 0 ⌝ ∗ ⌜ b ≤ mostMarks ⌝ }
-    ensures { λ _. ⌜ Placing (rooting (now (lines .entry)) (now (order .entry)) (now (came .entry)) b) (now (root .exit)) (now (over .exit)) b b ⌝ }
+    requires { ⌜ Lines (now lines) b n ⌝ ∗ ⌜ Growth (now order) (now best) b n ⌝ ∗ ⌜ Placing (rooting (now lines) (now order) (now best) 0) (now root) (now over) b 0 ⌝ ∗ ⌜ b ≤ mostMarks ⌝ }
+    ensures { λ _. ⌜ Placing (rooting (now (lines .entry)) (now (order .entry)) (now (best .entry)) b) (now (root .exit)) (now (over .exit)) b b ⌝ }
 {
     let mut k = 0;
     while k < b {
-        enter(lines, order, came, root, over, b, n, k);
+        enter(lines, order, best, root, over, b, n, k);
         k += 1;
     }
 }
@@ -107,8 +114,8 @@ fn hold(held: &[i64], flags: &mut [bool], own: &mut [i64], b: usize, i: usize)
 }
 
 // Every held mark has its own height, by the entry that names it first.
-fn hold_all(held: &[i64], flags: &mut [bool], own: &mut [i64], b: usize, h: usize)
-    requires { ⌜ HeldEntries (now held) b h ⌝ ∗ ⌜ Given (heldFrom (now held) h) (now flags) (now own) b mostHeldHeight ⌝ }
+pub fn hold_all(held: &[i64], flags: &mut [bool], own: &mut [i64], b: usize, h: usize)
+    requires { ⌜ HeldEntries (now held) b h ⌝ ∗ ⌜ Blank (now flags) (now own) b ⌝ }
     ensures { λ _. ⌜ Given (heldHeight (now (held .entry))) (now (flags .exit)) (now (own .exit)) b mostHeldHeight ⌝ }
 {
     let mut i = h;
@@ -232,30 +239,8 @@ fn begin(
     }
 }
 
-// Held marks have their heights, and every mark its place in the tree.
-pub fn hold_and_place(
-    lines: &[i64],
-    held: &[i64],
-    order: &[usize],
-    came: &[usize],
-    flags: &mut [bool],
-    own: &mut [i64],
-    root: &mut [usize],
-    over: &mut [i64],
-    b: usize,
-    n: usize,
-    h: usize,
-)
-    requires { ⌜ Lent (now lines) (now held) (now order) (now came) b n h ⌝ ∗ ⌜ Blank (now flags) (now own) b ⌝ ∗ ⌜ Bare (now root) (now over) b ⌝ }
-    ensures { λ _. ⌜ Given (heldHeight (now (held .entry))) (now (flags .exit)) (now (own .exit)) b mostHeldHeight ⌝ ∗ ⌜ Placing (rooting (now (lines .entry)) (now (order .entry)) (now (came .entry)) b) (now (root .exit)) (now (over .exit)) b b ⌝ }
-{
-    hold_all(held, flags, own, b, h);
-    seed(root, b);
-    place_all(lines, order, came, root, over, b, n);
-}
-
 // Roots have their heights; the lowest mark of a piece without a held mark, or 0 and the heights at the start.
-pub fn raise_and_begin(
+fn raise_in(
     flags: &[bool],
     own: &[i64],
     root: &[usize],
@@ -265,7 +250,9 @@ pub fn raise_and_begin(
     z: &mut [i64],
     b: usize,
 ) -> usize
-    requires { ⌜ Known (now flags) (now own) (now root) (now over) b ⌝ ∗ ⌜ Blank (now has) (now base) b ⌝ ∗ ⌜ length (now z) ≡ b ⌝ }
+    requires { ⌜ Known (now flags) (now own) (now root) (now over) b ⌝
+        ∗ ⌜ Blank (now has) (now base) b ⌝
+        ∗ ⌜ length (now z) ≡ b ⌝ }
     ensures { λ r. ⌜ Raised (now (flags .entry)) (now (own .entry)) (now (root .entry)) (now (over .entry)) (now (z .exit)) b r ⌝ }
 {
     lift_all(flags, own, root, over, has, base, b);
@@ -275,4 +262,81 @@ pub fn raise_and_begin(
     }
     begin(flags, own, root, over, base, z, b);
     0
+}
+
+fn raise(
+    flags: &[bool],
+    own: &[i64],
+    root: &[usize],
+    over: &[i64],
+    z: &mut [i64],
+    b: usize,
+) -> usize
+    requires { ⌜ Known (now flags) (now own) (now root) (now over) b ⌝
+        ∗ ⌜ length (now z) ≡ b ⌝ }
+    ensures { λ r. ⌜ Raised (now (flags .entry)) (now (own .entry)) (now (root .entry)) (now (over .entry)) (now (z .exit)) b r ⌝ }
+{
+    let mut has = [false; MARKS];
+    let mut base = [0i64; MARKS];
+    raise_in(flags, own, root, over, &mut has[..b], &mut base[..b], z, b)
+}
+
+// Every mark takes its place in the tree, and then the roots have their heights.
+fn place_and_raise(
+    lines: &[i64],
+    order: &[u64],
+    best: &[u64],
+    flags: &[bool],
+    own: &[i64],
+    root: &mut [usize],
+    over: &mut [i64],
+    z: &mut [i64],
+    b: usize,
+    n: usize,
+) -> usize
+    requires { ⌜ Lines (now lines) b n ⌝
+        ∗ ⌜ Growth (now order) (now best) b n ⌝
+        ∗ ⌜ HeldIn (now flags) (now own) b ⌝
+        ∗ ⌜ Bare (now root) (now over) b ⌝
+        ∗ ⌜ length (now z) ≡ b ⌝ }
+    ensures { λ r. ⌜ Started (rooting (now (lines .entry)) (now (order .entry)) (now (best .entry)) b) (now (flags .entry)) (now (own .entry))
+        (now (z .exit)) b r ⌝ }
+{
+    seed(root, b);
+    place_all(lines, order, best, root, over, b, n);
+    raise(flags, own, root, over, z, b)
+}
+
+// The lowest mark of a piece without a held mark, or 0 and the heights at the start in z.
+pub fn start_heights(
+    lines: &[i64],
+    order: &[u64],
+    best: &[u64],
+    flags: &[bool],
+    own: &[i64],
+    z: &mut [i64],
+    b: usize,
+    n: usize,
+) -> usize
+    requires { ⌜ Lines (now lines) b n ⌝
+        ∗ ⌜ Growth (now order) (now best) b n ⌝
+        ∗ ⌜ HeldIn (now flags) (now own) b ⌝
+        ∗ ⌜ length (now z) ≡ b ⌝ }
+    ensures { λ r. ⌜ Started (rooting (now (lines .entry)) (now (order .entry)) (now (best .entry)) b) (now (flags .entry)) (now (own .entry))
+        (now (z .exit)) b r ⌝ }
+{
+    let mut root = [0usize; MARKS];
+    let mut over = [0i64; MARKS];
+    place_and_raise(
+        lines,
+        order,
+        best,
+        flags,
+        own,
+        &mut root[..b],
+        &mut over[..b],
+        z,
+        b,
+        n,
+    )
 }

@@ -5,6 +5,7 @@ ghost use lib.ListN.{length};
 ghost use lib.IntN.{natAbs};
 ghost use Rattle.network.specs.Standing.{standing};
 ghost use Rattle.book.specs.Limits.{mostHeight, mostMarks};
+ghost use Rattle.chains.specs.Chains.{InOrder};
 ghost use Rattle.fields.specs.Heights.{Working};
 ghost use Rattle.fields.specs.Places.{Lines};
 ghost use Rattle.sights.specs.Sights.{sightsOf, pull};
@@ -229,18 +230,33 @@ fn settle(
     End::Unsettled
 }
 
-// The sweeps over the n lines of a book of b marks, from the heights h on.
-pub fn settle_lines(lines: &[i64], held: &[bool], h: &mut [i64], b: usize, n: usize) -> End
-    requires { ⌜ Lines (now lines) b n ⌝ ∗ ⌜ (0 < b) × (b ≤ mostMarks) ⌝ ∗ ⌜ Working (now h) b ⌝ ∗ ⌜ b ≤ length (now held) ⌝ }
-    ensures { λ r. ⌜ endedAt r (now (h .exit)) ≡ settle (sightsOf (standing (now (lines .entry)))) (flags (now (held .entry))) b (now (h .entry)) ⌝ }
+// The sweeps over the n lines of a drawn book of b marks, from the heights h on.
+pub fn settle_lines(
+    lines: &[i64],
+    head: &[u64],
+    next: &[u64],
+    held: &[bool],
+    h: &mut [i64],
+    b: usize,
+    n: usize,
+) -> End
+    requires { ⌜ Lines (now lines) b n ⌝
+        ∗ ⌜ InOrder (standing (now lines)) (b + 1) (now head) (now next) ⌝
+        ∗ ⌜ (0 < b) × (b ≤ mostMarks) ⌝
+        ∗ ⌜ Working (now h) b ⌝
+        ∗ ⌜ b ≤ length (now held) ⌝ }
+    ensures { λ r. ⌜ endedAt r (now (h .exit)) ≡ settle (sightsOf (standing (now (lines .entry)))) (flags (now (held .entry))) b
+        (now (h .entry)) ⌝ }
 {
     let mut first = [0usize; MARKS + 1];
     let mut other = [0usize; ENDS];
     let mut rise = [0i64; ENDS];
     let mut weight = [0usize; ENDS];
     let mut total = [0usize; MARKS];
-    sights::fill_table(
+    sights::write_rows(
         lines,
+        head,
+        next,
         &mut first,
         &mut other,
         &mut rise,

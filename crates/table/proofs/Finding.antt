@@ -6,7 +6,7 @@ use mathlib.Core.List.{List, [], _∷_, _++_}
 use lib.IntN.{ℤ}
 use lib.ListN.{length, length-append}
 use Rattle.book.specs.Line.{lineCount}
-use Rattle.book.specs.Good.{GoodLine, GoodLines}
+use Rattle.book.specs.Good.{GoodLines}
 use Rattle.book.specs.declared.Book.{Book}
 use Rattle.book.proofs.Places.{count-of}
 use Rattle.network.specs.Standing.{standing}
@@ -21,7 +21,7 @@ use Rattle.loops.proofs.Sounding.{lines-sound, few-loops}
 use Rattle.loops.proofs.Table.{codes-length}
 use Rattle.network.specs.Codes.{codes}
 use Rattle.chains.specs.Listed.{Listed}
-use Rattle.prepare.specs.Prepared.{Good, RoomNet, RoomPlant, BookPlanted}
+use Rattle.prepare.specs.Prepared.{BookPlanted}
 use Rattle.table.specs.Ordered.{Orders, Started}
 use Rattle.table.specs.Filled.{RoomTable, RoomWork, foundIn, Ready, Fills, Filled}
 use Rattle.table.specs.declared.Found.{Found}
@@ -40,34 +40,13 @@ module _ (k : Book) (ls : List ℤ) (g : GoodLines k ls) where
   marks-are : k .marks + 1 - 1 ≡ k .marks
   marks-are = omega arith
 
-  pub good-of : Good (k .marks + 1) ls
-  good-of = record {
-    some-mark = omega arith;
-    few-marks = omega (arith, g .few-marks);
-    few-lines = omega (arith, g .few, lines-are);
-    good = λ i h. subst (λ (b : ℕ). GoodLine b ls i) (sym marks-are) (g .each i (omega (arith, lines-are)));
-  }
-
   -- the numbers of the lines are below the count of lines and one more
-  pub listed-of : {ends best order : List ℕ} → BookPlanted (k .marks + 1) ls ends best order → Listed (standing ls) (k .marks + 1) (k .lines + 1) ends
+  pub listed-of : {ends head next best order : List ℕ} → BookPlanted (k .marks + 1) ls ends head next best order → Listed (standing ls) (k .marks + 1) (k .lines + 1) ends
   listed-of {ends = ends} p = subst (λ (q : ℕ). Listed (standing ls) (k .marks + 1) (q + 1) ends) lines-are (p .listed)
 
   module _ {ends head next best seg order close : List ℕ} (w : RoomWork ends head next best seg order close) where
-    pub net-of : RoomNet (k .marks + 1) ends head next
-    net-of = record {
-      ends-at = w .by-half .0;
-      chains = record { heads = omega (arith, w .by-mark .0, g .few-marks); nexts = w .by-half .1 };
-    }
-
-    pub plant-of : RoomPlant (k .marks + 1) best seg order
-    plant-of = record {
-      bests = omega (arith, w .by-mark, g .few-marks);
-      segs = omega (arith, w .tournament, g .few-marks);
-      orders = omega (arith, w .by-mark, g .few-marks);
-    }
-
     -- after the book is planted, in tables that kept their lengths
-    pub orders-of : {ends′ head′ next′ best′ order′ : List ℕ} → BookPlanted (k .marks + 1) ls ends′ best′ order′
+    pub orders-of : {ends′ head′ next′ best′ order′ : List ℕ} → BookPlanted (k .marks + 1) ls ends′ head′ next′ best′ order′
         → length head′ ≡ length head → length next′ ≡ length next → length best′ ≡ length best → length order′ ≡ length order
         → Orders (k .marks + 1) (k .lines + 1) ends′ head′ next′ best′ order′ close
     orders-of p lh ln lb lo = record {
@@ -77,9 +56,9 @@ module _ (k : Book) (ls : List ℤ) (g : GoodLines k ls) where
       few-lines = omega (arith, g .few);
       bounded = p .bounded;
       below = p .below;
-      chains = record { heads = omega (arith, w .by-mark .0, g .few-marks); nexts = omega (arith, w .by-half .1) };
-      bests = omega (arith, w .by-mark, g .few-marks);
-      orders = omega (arith, w .by-mark, g .few-marks);
+      chains = record { heads = omega (arith, w .book .by-mark .0, g .few-marks); nexts = omega (arith, w .book .by-half .1) };
+      bests = omega (arith, w .book .by-mark, g .few-marks);
+      orders = omega (arith, w .book .by-mark, g .few-marks);
       closes = omega (arith, w .by-loop, g .few);
       lines = standing ls;
       listed = listed-of p;
@@ -87,7 +66,8 @@ module _ (k : Book) (ls : List ℤ) (g : GoodLines k ls) where
     }
 
     -- and after the closing lines are in their order
-    module _ {ends′ head′ next′ best′ order′ close′ : List ℕ} {found : Found} (p : BookPlanted (k .marks + 1) ls ends′ best′ order′)
+    module _ {ends′ head₁ next₁ best′ order′ head′ next′ close′ : List ℕ} {found : Found}
+        (p : BookPlanted (k .marks + 1) ls ends′ head₁ next₁ best′ order′)
         (s : Started (k .marks + 1) (standing ls) head′ next′ close′ found) where
       ready : Ready (standing ls) (k .marks + 1) (found .count) ends′ close′ head′ next′
       ready = record { q = k .lines + 1; listed = listed-of p; going = s .going; count-is = s .count-is }
@@ -110,8 +90,8 @@ module _ (k : Book) (ls : List ℤ) (g : GoodLines k ls) where
         bounded = p .bounded;
         room = record {
           few = omega (arith, g .few-marks);
-          bests = omega (arith, w .by-mark, g .few-marks);
-          segs = omega (arith, w .tournament, g .few-marks);
+          bests = omega (arith, w .book .by-mark, g .few-marks);
+          segs = omega (arith, w .book .tournament, g .few-marks);
         };
         closes = omega (arith, count-is, few-loops k ls g, g .few, w .by-loop);
         starts-fit = omega (arith, count-is, few-loops k ls g, g .few, r .starts-fit);

@@ -1,5 +1,5 @@
 -- The table is filled, one loop's turn after the other. Assumes nothing.
-use Prim.Native.Nat.{ℕ, suc, _+_, _*_, _-_, _≤_, _<_}
+use Prim.Native.Nat.{ℕ, suc, _+_, _-_, _≤_, _<_}
 use mathlib.Core.Path.{_≡_}
 use mathlib.Core.List.{List, _++_}
 use lib.IntN.{ℤ}
@@ -10,9 +10,10 @@ use Rattle.loops.specs.Loops.{loops}
 use Rattle.loops.specs.Report.{loopsOf, piecesOf}
 use Rattle.loops.specs.LinesInAll.{mostLinesInAll}
 use Rattle.loops.specs.Table.{runsOf, Table}
-use Rattle.chains.specs.Chains.{Bounded, halves}
+use Rattle.chains.specs.Chains.{Bounded}
 use Rattle.chains.specs.Listed.{Listed}
 use Rattle.search.specs.Front.{RoomSearch}
+use Rattle.prepare.specs.Prepared.{RoomBook}
 use Rattle.subgraph.specs.Turn.{Going}
 use Rattle.table.specs.declared.Found.{Found}
 
@@ -23,9 +24,7 @@ pub record RoomTable (starts runs : List ℕ) : Type 0 where
 
 -- room for the work on any book
 pub record RoomWork (ends head next best seg order close : List ℕ) : Type 0 where
-  pub by-half : (halves ≤ length ends) × (halves ≤ length next)
-  pub by-mark : (suc mostMarks ≤ length head) × (suc mostMarks ≤ length best) × (suc mostMarks ≤ length order)
-  pub tournament : 2 * suc mostMarks ≤ length seg
+  pub book : RoomBook ends head next best seg order
   pub by-loop : mostLines ≤ length close
 
 -- what is found in a book of b marks: its loops and its pieces, by their counts

@@ -64,23 +64,20 @@ fn find_in(
     starts: &mut [u64],
     runs: &mut [u16],
 ) -> Found
-    requires { ⌜ GoodLines book (now lines) ⌝ ∗ ⌜ RoomTable (now starts) (now runs) ⌝
+    requires { ⌜ GoodLines book (now lines) ⌝
+        ∗ ⌜ RoomTable (now starts) (now runs) ⌝
         ∗ ⌜ RoomWork (now ends) (now head) (now next) (now best) (now seg) (now order) (now close) ⌝ }
     ensures { λ r. ⌜ r ≡ foundIn (book .marks) (now (lines .entry)) ⌝
         ∗ ⌜ Table (loopsOf (book .marks) (now (lines .entry))) (now (starts .exit)) (now (runs .exit)) (r .count) ⌝ }
 {
     let n = book.marks + 1;
-    prepare::plant_book(lines, ends, head, next, best, seg, order, n);
-    let found = order::order_loops(ends, head, next, best, order, close, n, book.lines + 1);
+    let q = book.lines + 1;
+    prepare::plant_book(book, lines, ends, head, next, best, seg, order);
+    let found = order::order_loops(ends, head, next, best, order, close, n, q);
     let count = found.count;
     fill(ends, close, head, next, best, seg, starts, runs, n, count);
     found
 }
-
-// The places of the work tables, for any book: by half, and by mark with 0.
-const HALVES: usize = chains::HALVES as usize;
-
-const MARKS: usize = Book::MAX_MARKS as usize + 1;
 
 // The loops of a tested book are found, in work tables on the stack.
 pub fn find_loops(book: Book, lines: &[i64], starts: &mut [u64], runs: &mut [u16]) -> Found
@@ -88,12 +85,12 @@ pub fn find_loops(book: Book, lines: &[i64], starts: &mut [u64], runs: &mut [u16
     ensures { λ r. ⌜ r ≡ foundIn (book .marks) (now (lines .entry)) ⌝
         ∗ ⌜ Table (loopsOf (book .marks) (now (lines .entry))) (now (starts .exit)) (now (runs .exit)) (r .count) ⌝ }
 {
-    let mut ends = [0u64; HALVES];
-    let mut head = [0u64; MARKS];
-    let mut next = [0u64; HALVES];
-    let mut best = [0u64; MARKS];
-    let mut seg = [0u64; MARKS * 2];
-    let mut order = [0u64; MARKS];
+    let mut ends = [0u64; prepare::HALVES];
+    let mut head = [0u64; prepare::MARKS];
+    let mut next = [0u64; prepare::HALVES];
+    let mut best = [0u64; prepare::MARKS];
+    let mut seg = [0u64; prepare::MARKS * 2];
+    let mut order = [0u64; prepare::MARKS];
     let mut close = [0u64; Book::MAX_LINES];
     find_in(
         book,

@@ -1,29 +1,35 @@
 -- From a planted book to its not-checked list. Assumes nothing.
-use Prim.Native.Nat.{ℕ, _+_, _≤_}
+use Prim.Native.Nat.{ℕ, _+_}
 use native.Mathlib.Omega.{arith}
+use mathlib.Core.Path.{subst}
 use mathlib.Core.List.{List}
 use lib.IntN.{ℤ}
-use Rattle.book.specs.Line.{lineCount}
+use Rattle.book.specs.Good.{GoodLines}
+use Rattle.book.specs.declared.Book.{Book}
+use Rattle.book.proofs.Places.{count-of}
 use Rattle.network.specs.Standing.{standing}
-use Rattle.prepare.specs.Prepared.{Good, BookPlanted}
-use Rattle.unchecked.specs.Ways.{markLimit}
+use Rattle.chains.specs.Listed.{Listed}
+use Rattle.prepare.specs.Prepared.{BookPlanted}
 use Rattle.unchecked.specs.List.{Ready}
 use Rattle.unchecked.specs.Book.{RoomList}
 
--- the list can be made
-pub list-ready : {n : ℕ} {ls : List ℤ} (g : Good n ls) {ends best order marked out : List ℕ} → BookPlanted n ls ends best order
-    → n ≤ markLimit → RoomList ls marked out → Ready ends best marked out (lineCount ls + 1)
-list-ready {n = n} {ls = ls} g {order = order} p bests room = record {
-  closes = record {
-    marks = room .marks;
-    few = omega (arith, g .few-lines);
-    n = n;
-    bounded = p .bounded;
-    bests = bests;
-    order = order;
-    lines = standing ls;
-    listed = p .listed;
-    holding = p .holding;
-  };
-  outs = omega (arith, room .outs);
-}
+module _ (k : Book) (ls : List ℤ) (g : GoodLines k ls) {ends head next best order : List ℕ} (p : BookPlanted (k .marks + 1) ls ends head next best order) where
+  pub listed-by : Listed (standing ls) (k .marks + 1) (k .lines + 1) ends
+  listed-by = subst (λ (q : ℕ). Listed (standing ls) (k .marks + 1) (q + 1) ends) (count-of ls (k .lines) (g .whole)) (p .listed)
+
+  -- the list can be made
+  pub list-ready : {marked out : List ℕ} → RoomList marked out → Ready ends best marked out (k .lines + 1)
+  list-ready room = record {
+    closes = record {
+      marks = room .marks;
+      few = omega (arith, g .few);
+      n = k .marks + 1;
+      bounded = p .bounded;
+      bests = omega (arith, g .few-marks);
+      order = order;
+      lines = standing ls;
+      listed = listed-by;
+      holding = p .holding;
+    };
+    outs = omega (arith, room .outs, g .few);
+  }

@@ -8,20 +8,16 @@ ghost use Rattle.closing.specs.Order.{Put};
 ghost use Rattle.unchecked.specs.Ways.{markLimit, Climbed, Follows, Followed, Checks, LoopChecked};
 ghost use Rattle.unchecked.specs.Ways.{closesAt, Closes, Passed, LinesChecked};
 ghost use Rattle.unchecked.specs.List.{isOpen, openFrom, RoomOpen, Ready, NotChecked};
-ghost use Rattle.prepare.specs.Prepared.{Good, RoomNet, RoomPlant};
+ghost use Rattle.book.specs.Good.{GoodLines};
+ghost use Rattle.prepare.specs.Prepared.{RoomBook};
 ghost use Rattle.unchecked.specs.Book.{RoomList, BookListed};
 use book::Book;
-use book::line::Line;
+use prepare::HALVES;
+use prepare::MARKS;
 
-// The places of ends, one for each half. ends, marked and best are lent as arrays, each by one pointer, so that the call at the end of
-// `follow` is compiled to a jump. Slices would be handed on by copies on the stack, and it would stay a call.
-pub const HALVES: usize = chains::HALVES as usize;
-
-// The places of marked, one for each line number.
+// The places of marked, one for each line number. ends, marked and best are lent as arrays, each by one pointer, so that the call at the end
+// of `follow` is compiled to a jump. Slices would be handed on by copies on the stack, and it would stay a call.
 pub const NUMBERS: usize = chains::NUMBERS as usize;
-
-// The places of best, one for each mark and 0.
-pub const MARKS: usize = Book::MAX_MARKS as usize + 1;
 
 // What stands at the number of a line that is checked.
 const CHECKED: u64 = 1;
@@ -173,6 +169,7 @@ fn not_checked(
 // The numbers of the lent book's standing lines that no loop checks, by rising number, into out from place 0 on, and how many there are.
 // The other tables are for the work. Marks are below n.
 pub fn list_book(
+    book: Book,
     lines: &[i64],
     ends: &mut [u64; HALVES],
     head: &mut [u64],
@@ -182,14 +179,12 @@ pub fn list_book(
     order: &mut [u64],
     marked: &mut [u64; NUMBERS],
     out: &mut [u64],
-    n: usize,
 ) -> usize
-    requires { ⌜ Good n (now lines) ⌝
-        ∗ ⌜ RoomNet n (now ends) (now head) (now next) ⌝
-        ∗ ⌜ RoomPlant n (now best) (now seg) (now order) ⌝
-        ∗ ⌜ RoomList (now lines) (now marked) (now out) ⌝ }
-    ensures { λ a. ⌜ BookListed n (now (lines .entry)) (now (out .entry)) (now (out .exit)) a ⌝ }
+    requires { ⌜ GoodLines book (now lines) ⌝
+        ∗ ⌜ RoomBook (now ends) (now head) (now next) (now best) (now seg) (now order) ⌝
+        ∗ ⌜ RoomList (now marked) (now out) ⌝ }
+    ensures { λ a. ⌜ BookListed (book .marks) (now (lines .entry)) (now (out .entry)) (now (out .exit)) a ⌝ }
 {
-    prepare::plant_book(lines, ends, head, next, best, seg, order, n);
-    not_checked(ends, best, marked, out, lines.len() / Line::WORDS + 1)
+    prepare::plant_book(book, lines, ends, head, next, best, seg, order);
+    not_checked(ends, best, marked, out, book.lines + 1)
 }

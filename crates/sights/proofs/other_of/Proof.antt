@@ -1,21 +1,29 @@
 use mathlib.Core.Path.{_≡_, sym, _∙_, ap}
-use Prim.Native.Nat.{ℕ, _-_, _/_}
+use Prim.Native.Nat.{ℕ, _-_}
 use native.Mathlib.Omega.{arith}
 use lib.IntN.{natAbs}
 use Rattle.laws.proofs.Signed.{back}
 use Rattle.laws.proofs.Size.{not-negative}
 use Rattle.book.specs.Line.{fromAt, toAt}
 use Rattle.sights.specs.Sights.{Sight}
-use Rattle.sights.proofs.Halves.{to-half, from-half}
+use Rattle.sights.specs.Halves.{placeOf}
+use Rattle.sights.proofs.Halves.{along-half, against-half}
 use borrow.Author.Needs.{needs}
 use Rattle.sights.proofs.other_of.Statement.{statement}
 use Rattle.sights.proofs.other_of.Tie as tie
 
-from-read : (c : tie.After-index) → (let s = c .before .before .before in c .index .result ≡ natAbs (fromAt (s .args .lines .now) (s .args .j / 2)))
-from-read c = let s = c .before .before .before in c .index .ensures ∙ rw (back (fromAt (s .args .lines .now) (s .args .j / 2)) (c .before .index-arg .given))
+to-read : (c : tie.After-index) → (let s = c .before .before .before in c .index .result ≡ natAbs (toAt (s .args .lines .now) (placeOf (s .args .h))))
+to-read c =
+    let s = c .before .before .before in
+    c .index .ensures ∙ rw (back (toAt (s .args .lines .now) (placeOf (s .args .h))) (c .before .index-arg .given))
 
-to-read : (c : tie.After-index2) → (let s = c .before .before .before in c .index2 .result ≡ natAbs (toAt (s .args .lines .now) (s .args .j / 2)))
-to-read c = let s = c .before .before .before in c .index2 .ensures ∙ rw (back (toAt (s .args .lines .now) (s .args .j / 2)) (c .before .index-arg2 .given))
+from-read : (c : tie.After-index2) → (let s = c .before .before .before in c .index2 .result ≡ natAbs (fromAt (s .args .lines .now) (placeOf (s .args .h))))
+from-read c =
+    let s = c .before .before .before in
+    c .index2 .ensures ∙ rw (back (fromAt (s .args .lines .now) (placeOf (s .args .h))) (c .before .index-arg2 .given))
+
+sub-at : tie.Need-sub-at
+sub-at c = search needs
 
 mul-at : tie.Need-mul-at
 mul-at c = search needs
@@ -30,10 +38,12 @@ shared-slice-copy-out-index : tie.Need-shared-slice-copy-out-index
 shared-slice-copy-out-index c = search needs
 
 index-requires : tie.Need-index-requires
-index-requires c κs = let s = c .before .before in rw (back (fromAt (s .args .lines .now) (s .args .j / 2)) (c .index-arg .given)) (not-negative (s .pre .good .from))
+index-requires c κs =
+    let s = c .before .before in
+    rw (back (toAt (s .args .lines .now) (placeOf (s .args .h))) (c .index-arg .given)) (not-negative (s .pre .place .good .to))
 
 sub-result : tie.Need-sub-result
-sub-result c = omega (arith, from-read c, c .before .before .before .pre .good .from .low)
+sub-result c = omega (arith, to-read c, c .before .before .before .pre .place .good .to .low)
 
 add-index-2 : tie.Need-add-index-2
 add-index-2 c = search needs
@@ -45,21 +55,34 @@ shared-slice-copy-out-index-2 : tie.Need-shared-slice-copy-out-index-2
 shared-slice-copy-out-index-2 c = search needs
 
 index-requires-2 : tie.Need-index-requires-2
-index-requires-2 c κs = let s = c .before .before in rw (back (toAt (s .args .lines .now) (s .args .j / 2)) (c .index-arg2 .given)) (not-negative (s .pre .good .to))
+index-requires-2 c κs =
+    let s = c .before .before in
+    rw (back (fromAt (s .args .lines .now) (placeOf (s .args .h))) (c .index-arg2 .given)) (not-negative (s .pre .place .good .from))
 
 sub-result-2 : tie.Need-sub-result-2
-sub-result-2 c = omega (arith, to-read c, c .before .before .before .pre .good .to .low)
+sub-result-2 c = omega (arith, from-read c, c .before .before .before .pre .place .good .from .low)
 
 returns : tie.Need-returns
-returns c = let s = c .before .before .before in (ap (λ (x : ℕ). x - 1) (from-read c ∙ sym (ap (λ (x : Sight). x .other) (to-half (s .args .lines .now) (s .args .j) (c .before .before .if1 .taken)))), omega (arith, from-read c, s .pre .good .from .low, s .pre .good .from .high))
+returns c =
+    let s = c .before .before .before in
+    let half = along-half (s .args .lines .now) (s .args .h) (c .before .before .if1 .taken) in (
+      ap (λ (x : ℕ). x - 1) (to-read c ∙ sym (ap (λ (x : Sight). x .other) half)),
+      omega (arith, to-read c, s .pre .place .good .to .low, s .pre .place .good .to .high),
+    )
 
 returns-2 : tie.Need-returns-2
-returns-2 c = let s = c .before .before .before in (ap (λ (x : ℕ). x - 1) (to-read c ∙ sym (ap (λ (x : Sight). x .other) (from-half (s .args .lines .now) (s .args .j) (c .before .before .if1 .left)))), omega (arith, to-read c, s .pre .good .to .low, s .pre .good .to .high))
+returns-2 c =
+    let s = c .before .before .before in
+    let half = against-half (s .args .lines .now) (s .args .h) (c .before .before .if1 .left) in (
+      ap (λ (x : ℕ). x - 1) (from-read c ∙ sym (ap (λ (x : Sight). x .other) half)),
+      omega (arith, from-read c, s .pre .place .good .from .low, s .pre .place .good .from .high),
+    )
 
 pub other-of-spec : {M : Type 1} → statement M
 other-of-spec =
     tie.close
     (tie.spec
+    sub-at
     mul-at
     add-index
     mul-index

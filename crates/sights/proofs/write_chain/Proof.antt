@@ -1,97 +1,83 @@
-use mathlib.Core.Path.{_≡_, refl, _∙_, subst}
-use Prim.Native.Nat.{_-_, _/_, _≤_}
+use mathlib.Core.Path.{_≡_, refl, _∙_}
+use Prim.Native.Nat.{_+_, _-_}
 use native.Mathlib.Omega.{arith}
-use Rattle.sights.specs.Sights.{Sight}
-use Rattle.sights.specs.Chains.{sightAt, chain}
-use Rattle.sights.specs.Table.{Filling}
-use Rattle.fields.proofs.Stands.{place-of}
-use Rattle.sights.proofs.Halves.{other-low}
-use Rattle.sights.proofs.Filling.{chain-step, chain-none, filling-start, filling-next, filling-end, room-one}
 use borrow.Author.Needs.{needs}
-use mathlib.Core.List.{List, _∷_}
-use lib.ListN.{length, getD}
+use lib.ListN.{length}
+use Rattle.network.specs.Standing.{standing}
+use Rattle.sights.specs.Sights.{sightsOf}
+use Rattle.sights.proofs.Halves.{other-low}
+use Rattle.sights.proofs.Leading.{leads-all, half-here}
+use Rattle.sights.proofs.Filling.{Walking, Turn, turn-of, walk-end, filling-start, filling-next}
 use Rattle.sights.proofs.write_chain.Statement.{statement}
 use Rattle.sights.proofs.write_chain.Tie as tie
 
 abbrev Inv-loop : tie.InvT-loop
-Inv-loop lines next half other₀ rise₀ weight₀ b n k p a c₀ q₀ other rise weight c q =
-    (q ≤ k) × (length other ≡ length other₀) × (length rise ≡ length rise₀) × (length weight ≡ length weight₀)
-    × Filling other₀ rise₀ weight₀ other rise weight b a c (chain lines next half q) (chain lines next half p)
+Inv-loop lines head next other₀ rise₀ weight₀ b n m a c₀ h₀ other rise weight c h =
+    (length other ≡ length other₀) × (length rise ≡ length rise₀) × (length weight ≡ length weight₀)
+    × Walking lines n next other₀ rise₀ weight₀ other rise weight b a c h (sightsOf (standing lines) m)
 
 abbrev μ-loop : tie.MeasureT-loop
-μ-loop lines next half other₀ rise₀ weight₀ b n k p a c₀ q₀ other rise weight c q = q
+μ-loop lines head next other₀ rise₀ weight₀ b n m a c₀ h₀ other rise weight c h = a + length (sightsOf (standing lines) m) - c
 
 abbrev start-of : tie.At-loop Inv-loop μ-loop → tie.Start Inv-loop μ-loop
 start-of c = search
 
--- the chain that is left has a first sight
-unrolled : (c : tie.In-loop Inv-loop μ-loop) →
+-- the half that is next
+turn : (c : tie.In-loop Inv-loop μ-loop) →
     (let l = c .before in
     let s = start-of l in
-    Filling (s .args .other .now) (s .args .rise .now) (s .args .weight .now) (l .loop .other) (l .loop .rise) (l .loop .weight) (s .args .b) (s .args .a) (l .loop .c)
-    (sightAt (s .args .lines .now) (getD (s .args .half .now) (l .loop .q - 1) 0) ∷ chain (s .args .lines .now) (s .args .next .now) (s .args .half .now) (getD (s .args .next .now) (l .loop .q - 1) 0))
-    (chain (s .args .lines .now) (s .args .next .now) (s .args .half .now) (s .args .p)))
-unrolled c =
-    let l = c .before in
-    let s = start-of l in
-    subst (λ (ss : List Sight). Filling (s .args .other .now) (s .args .rise .now) (s .args .weight .now) (l .loop .other) (l .loop .rise) (l .loop .weight) (s .args .b) (s .args .a) (l .loop .c) ss
-    (chain (s .args .lines .now) (s .args .next .now) (s .args .half .now) (s .args .p)))
-    (chain-step (s .args .lines .now) (s .args .next .now) (s .args .half .now) (s .args .n) (s .args .k) (s .pre .1 .0) (l .loop .q) (c .loop-test .taken) (l .loop .inv .0)) (l .loop .inv .4)
+    Turn (s .args .lines .now) (s .args .n) (s .args .next .now) (s .args .other .now) (s .args .rise .now) (s .args .weight .now) (l .loop .other) (l .loop .rise)
+    (l .loop .weight) (s .args .b) (s .args .a) (l .loop .c) (l .loop .h) (sightsOf (standing (s .args .lines .now)) (s .args .m)))
+turn c = turn-of (c .before .loop .inv .3) (c .loop-test .taken)
+
+mul-h : tie.Need-mul-h Inv-loop μ-loop
+mul-h c = search needs
+
+shared-slice-read-h : tie.Need-shared-slice-read-h Inv-loop μ-loop
+shared-slice-read-h c =
+    let s : tie.Start Inv-loop μ-loop = search in
+    omega (arith, s .pre .1 .0 .heads, s .pre .1 .1 .0)
 
 loop-holds : tie.Need-loop-holds Inv-loop μ-loop
 loop-holds c =
-    let s : tie.Start Inv-loop μ-loop = search in (
-      s .pre .1 .1 .0,
+    let s : tie.Start Inv-loop μ-loop = search in
+    let p = s .pre .1 .1 in (
       refl,
       refl,
       refl,
-      filling-start (s .args .other .now) (s .args .rise .now) (s .args .weight .now) (s .args .b) (s .args .a) (chain (s .args .lines .now) (s .args .next .now) (s .args .half .now) (s .args .p)) (s .pre .1 .1 .1 .0) (s .pre .1 .1 .1 .1),
+      record {
+        rest = _;
+        leads = leads-all _ _ _ (s .pre .0) _ (s .pre .1 .0) (p .0);
+        filling = filling-start _ _ _ _ _ _ (p .1 .0) (p .1 .1);
+      },
     )
-
-sub-j : tie.Need-sub-j Inv-loop μ-loop
-sub-j c = search needs
-
-mul-write-half : tie.Need-mul-write-half Inv-loop μ-loop
-mul-write-half c =
-    let l : tie.At-loop Inv-loop μ-loop = search in
-    omega (arith, l .loop .inv .0, start-of l .pre .1 .0 .halves)
-
-shared-slice-read-write-half : tie.Need-shared-slice-read-write-half Inv-loop μ-loop
-shared-slice-read-write-half c =
-    let in-loop : tie.In-loop Inv-loop μ-loop = search in
-    let l : tie.At-loop Inv-loop μ-loop = search in
-    let t = in-loop .loop-test .taken in omega (arith, l .loop .inv .0, start-of l .pre .1 .0 .halves)
 
 write-half-requires : tie.Need-write-half-requires Inv-loop μ-loop
 write-half-requires c κs =
     let i : tie.In-loop Inv-loop μ-loop = search in
-    let l = i .before in
-    let s = start-of l in
-    let t = i .loop-test .taken in
-    (place-of (s .args .lines .now) (s .args .b) (s .args .n) (getD (s .args .half .now) (l .loop .q - 1) 0 / 2) (s .pre .0) (s .pre .1 .0 .names (l .loop .q - 1) (omega (arith, l .loop .inv .0))), (room-one (unrolled i), l .loop .inv .4 .range))
+    let s = start-of (i .before) in
+    let t = turn i in
+    (half-here _ _ _ (s .pre .0) (s .args .m) (t .some-line) (t .inside), (t .room, t .filling .range))
 
 add-c : tie.Need-add-c Inv-loop μ-loop
 add-c c =
-    let in-loop : tie.In-loop Inv-loop μ-loop = search in
-    let at-loop : tie.At-loop Inv-loop μ-loop = search in
-    let f = room-one (unrolled in-loop) in omega (arith, f .others, at-loop .loop .inv .1, start-of at-loop .good)
+    let i : tie.In-loop Inv-loop μ-loop = search in
+    omega (arith, turn i .room .others, i .before .loop .inv .0, start-of (i .before) .good)
 
-mul-q : tie.Need-mul-q Inv-loop μ-loop
-mul-q c =
-    let l : tie.At-loop Inv-loop μ-loop = search in
-    omega (arith, l .loop .inv .0, start-of l .pre .1 .0 .nexts)
+mul-h-2 : tie.Need-mul-h-2 Inv-loop μ-loop
+mul-h-2 c =
+    let i : tie.In-loop Inv-loop μ-loop = search in
+    omega (arith, turn i .fits)
 
-shared-slice-read-q : tie.Need-shared-slice-read-q Inv-loop μ-loop
-shared-slice-read-q c =
-    let in-loop : tie.In-loop Inv-loop μ-loop = search in
-    let l : tie.At-loop Inv-loop μ-loop = search in
-    let t = in-loop .loop-test .taken in omega (arith, l .loop .inv .0, start-of l .pre .1 .0 .nexts)
+shared-slice-read-h-2 : tie.Need-shared-slice-read-h-2 Inv-loop μ-loop
+shared-slice-read-h-2 c =
+    let i : tie.In-loop Inv-loop μ-loop = search in
+    omega (arith, turn i .fits, start-of (i .before) .pre .1 .0 .nexts)
 
 loop-less : tie.Need-loop-less Inv-loop μ-loop
 loop-less c =
-    let in-loop : tie.In-loop Inv-loop μ-loop = search in
-    let l : tie.At-loop Inv-loop μ-loop = search in
-    let t = in-loop .loop-test .taken in omega (arith, start-of l .pre .1 .0 .falls (l .loop .q - 1) (omega (arith, l .loop .inv .0)))
+    let i : tie.In-loop Inv-loop μ-loop = search in
+    omega (arith, turn i .more)
 
 loop-again : tie.Need-loop-again Inv-loop μ-loop
 loop-again c =
@@ -99,34 +85,30 @@ loop-again c =
     let i : tie.In-loop Inv-loop μ-loop = search in
     let l = i .before in
     let s = start-of l in
-    let t = i .loop-test .taken in
     let w = after-write-half .write-half in
-    let j = getD (s .args .half .now) (l .loop .q - 1) 0 in
-    let named = s .pre .1 .0 .names (l .loop .q - 1) (omega (arith, l .loop .inv .0)) in (
-      omega (arith, l .loop .inv .0, s .pre .1 .0 .falls (l .loop .q - 1) (omega (arith, l .loop .inv .0))),
-      w .kept .1 .0 ∙ l .loop .inv .1,
-      w .kept .1 .1 .0 ∙ l .loop .inv .2,
-      w .kept .1 .1 .1 .0 ∙ l .loop .inv .3,
-      filling-next (s .args .other .now) (s .args .rise .now) (s .args .weight .now) (l .loop .other) (l .loop .rise) (l .loop .weight) (w .last .1 .0) (w .last .1 .1 .0) (w .last .1 .1 .1 .0)
-          (s .args .b) (s .args .a) (l .loop .c) (sightAt (s .args .lines .now) j) (chain (s .args .lines .now) (s .args .next .now) (s .args .half .now) (getD (s .args .next .now) (l .loop .q - 1) 0)) (chain (s .args .lines .now) (s .args .next .now) (s .args .half .now) (s .args .p))
-          (other-low (s .args .lines .now) j (s .args .b) (s .args .n) (place-of (s .args .lines .now) (s .args .b) (s .args .n) (j / 2) (s .pre .0) named)) (w .ensures .0) (w .ensures .1) (unrolled i),
+    let t = turn i in (
+      w .kept .1 .0 ∙ l .loop .inv .0,
+      w .kept .1 .1 .0 ∙ l .loop .inv .1,
+      w .kept .1 .1 .1 .0 ∙ l .loop .inv .2,
+      record {
+        rest = t .rest;
+        leads = t .leads;
+        filling = filling-next _ _ _ _ _ _ _ _ _ _ _ _ _ _ _
+            (other-low _ _ (half-here _ _ _ (s .pre .0) (s .args .m) (t .some-line) (t .inside))) (w .ensures .0) (w .ensures .1) (t .filling);
+      },
     )
 
 same-length : tie.Need-same-length Inv-loop μ-loop
-same-length c = c .before .loop .inv .1
+same-length c = c .before .loop .inv .0
 
 same-length-2 : tie.Need-same-length-2 Inv-loop μ-loop
-same-length-2 c = c .before .loop .inv .2
+same-length-2 c = c .before .loop .inv .1
 
 same-length-3 : tie.Need-same-length-3 Inv-loop μ-loop
-same-length-3 c = c .before .loop .inv .3
+same-length-3 c = c .before .loop .inv .2
 
 returns : tie.Need-returns Inv-loop μ-loop
-returns c =
-    let l = c .before in
-    let s = start-of l in
-    filling-end (s .args .other .now) (s .args .rise .now) (s .args .weight .now) (l .loop .other) (l .loop .rise) (l .loop .weight) (s .args .b) (s .args .a) (l .loop .c) (chain (s .args .lines .now) (s .args .next .now) (s .args .half .now) (l .loop .q)) (chain (s .args .lines .now) (s .args .next .now) (s .args .half .now) (s .args .p))
-    (chain-none (s .args .lines .now) (s .args .next .now) (s .args .half .now) (l .loop .q) (c .loop-test .left)) (l .loop .inv .4)
+returns c = walk-end (c .before .loop .inv .3) (c .loop-test .left)
 
 pub write-chain-spec : {M : Type 1} → statement M
 write-chain-spec =
@@ -134,14 +116,13 @@ write-chain-spec =
     (tie.spec
     Inv-loop
     μ-loop
+    mul-h
+    shared-slice-read-h
     loop-holds
-    sub-j
-    mul-write-half
-    shared-slice-read-write-half
     write-half-requires
     add-c
-    mul-q
-    shared-slice-read-q
+    mul-h-2
+    shared-slice-read-h-2
     loop-less
     loop-again
     same-length

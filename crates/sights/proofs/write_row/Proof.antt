@@ -1,16 +1,20 @@
-use mathlib.Core.Path.{refl, _∙_, ap, subst}
-use Prim.Native.Nat.{_+_}
+use mathlib.Core.Path.{_≡_, refl, _∙_, ap, subst}
+use Prim.Native.Nat.{suc, _+_}
+use native.Mathlib.Numerals.{add-one}
 use native.Mathlib.Omega.{arith}
 use mathlib.Core.List.{List}
-use lib.ListN.{length, getD, set}
+use lib.ListN.{length}
 use Rattle.network.specs.Standing.{standing}
 use Rattle.sights.specs.Sights.{Sight, sightsOf}
-use Rattle.sights.specs.Chains.{chain}
 use Rattle.sights.specs.Table.{Filled}
 use Rattle.sights.proofs.Rowing.{row-room, row-weights, rowed-next}
 use borrow.Author.Needs.{needs}
 use Rattle.sights.proofs.write_row.Statement.{statement}
 use Rattle.sights.proofs.write_row.Tie as tie
+
+-- place v is that of mark v + 1
+here : (s : tie.Start) → sightsOf (standing (s .args .lines .now)) (s .args .v + 1) ≡ sightsOf (standing (s .args .lines .now)) (suc (s .args .v))
+here s = ap (sightsOf (standing (s .args .lines .now))) (add-one (s .args .v))
 
 mul-first : tie.Need-mul-first
 mul-first c = search needs
@@ -18,23 +22,22 @@ mul-first c = search needs
 slice-write-first : tie.Need-slice-write-first
 slice-write-first c = search needs
 
-mul-write-chain : tie.Need-mul-write-chain
-mul-write-chain c = search needs
-
-shared-slice-read-write-chain : tie.Need-shared-slice-read-write-chain
-shared-slice-read-write-chain c = search needs
+add-write-chain : tie.Need-add-write-chain
+add-write-chain c = search needs
 
 write-chain-requires : tie.Need-write-chain-requires
 write-chain-requires c κs =
     let s : tie.Start = search in
-    (s .pre .0, (s .pre .1 .0 .nodes, (s .pre .1 .0 .heads .low (s .args .v) (s .pre .1 .1 .1 .1), (s .pre .1 .1 .0 .range, row-room (sightsOf (standing (s .args .lines .now))) (s .args .first .now) (s .args .other .now) (s .args .rise .now) (s .args .weight .now) (s .args .total .now) (s .args .b) (s .args .v) (s .args .c) (s .pre .1 .1 .1 .0) (s .pre .1 .1 .0) (s .pre .1 .1 .1 .1) (chain (s .args .lines .now) (s .args .next .now) (s .args .half .now) (getD (s .args .head .now) (s .args .v) 0)) (s .pre .1 .0 .holds (s .args .v) (s .pre .1 .1 .1 .1))))))
+    let p = s .pre .1 .1 in
+    (s .pre .0, (s .pre .1 .0, (omega (arith, p .1 .1), (p .0 .range, row-room _ _ _ _ _ _ _ _ _ (p .1 .0) (p .0) (p .1 .1) _ (here s)))))
 
 total-of-requires : tie.Need-total-of-requires
 total-of-requires c κs =
     let after-write-chain : tie.After-write-chain = search in
     let s : tie.Start = search in
     let w = after-write-chain .write-chain in
-    row-weights (sightsOf (standing (s .args .lines .now))) (s .args .first .now) (s .args .other .now) (s .args .rise .now) (s .args .weight .now) (s .args .total .now) (s .args .b) (s .args .v) (s .args .c) (s .pre .1 .1 .1 .0) (s .pre .1 .1 .0) (s .pre .1 .1 .1 .1) (chain (s .args .lines .now) (s .args .next .now) (s .args .half .now) (getD (s .args .head .now) (s .args .v) 0)) (s .pre .1 .0 .holds (s .args .v) (s .pre .1 .1 .1 .1)) (w .last .1 .1 .1 .1 .1 .0) (w .result) (w .ensures .0) (w .kept .1 .1 .1 .1 .1 .0) (w .ensures .1 .range .weightIn)
+    let p = s .pre .1 .1 in
+    row-weights _ _ _ _ _ _ _ _ _ (p .1 .0) (p .0) (p .1 .1) _ (here s) _ _ (w .ensures .0) (w .kept .1 .1 .1 .1 .1 .0) (w .ensures .1 .range .weightIn)
 
 mul-total : tie.Need-mul-total
 mul-total c = search needs
@@ -62,11 +65,11 @@ returns c =
     let after-write-chain : tie.After-write-chain = search in
     let s : tie.Start = search in
     let w = after-write-chain .write-chain in
-    let e = s .pre .1 .0 .holds (s .args .v) (s .pre .1 .1 .1 .1) in
-    let l = s .pre .1 .1 .1 .1 in
-    rowed-next (sightsOf (standing (s .args .lines .now))) (s .args .first .now) (s .args .other .now) (s .args .rise .now) (s .args .weight .now) (s .args .total .now) (set (s .args .first .now) (s .args .v) (s .args .c)) (w .last .1 .1 .1 .0) (w .last .1 .1 .1 .1 .0) (w .last .1 .1 .1 .1 .1 .0) (set (s .args .total .now) (s .args .v) (c .total-of .result))
-    (s .args .b) (s .args .v) (s .args .c) (w .result) (c .total-of .result) (omega (arith, s .pre .1 .1 .1 .0 .firsts)) (omega (arith, s .pre .1 .1 .1 .0 .totals)) (s .pre .1 .1 .0) refl
-    (subst (λ (ss : List Sight). Filled (s .args .other .now) (s .args .rise .now) (s .args .weight .now) (w .last .1 .1 .1 .0) (w .last .1 .1 .1 .1 .0) (w .last .1 .1 .1 .1 .1 .0) (s .args .b) (s .args .c) ss) e (w .ensures .1))
+    let p = s .pre .1 .1 in
+    let e = here s in
+    rowed-next (sightsOf (standing (s .args .lines .now))) _ _ _ _ _ _ _ _ _ _ _ _ _ _ _ (omega (arith, p .1 .0 .firsts)) (omega (arith, p .1 .0 .totals)) (p .0) refl
+    (subst (λ (ss : List Sight). Filled (s .args .other .now) (s .args .rise .now) (s .args .weight .now) (w .last .1 .1 .1 .0) (w .last .1 .1 .1 .1 .0)
+    (w .last .1 .1 .1 .1 .1 .0) (s .args .b) (s .args .c) ss) e (w .ensures .1))
     (w .ensures .0 ∙ ap (λ (ss : List Sight). s .args .c + length ss) e) refl (c .total-of .ensures)
 
 pub write-row-spec : {M : Type 1} → statement M
@@ -75,8 +78,7 @@ write-row-spec =
     (tie.spec
     mul-first
     slice-write-first
-    mul-write-chain
-    shared-slice-read-write-chain
+    add-write-chain
     write-chain-requires
     total-of-requires
     mul-total

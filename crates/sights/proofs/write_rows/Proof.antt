@@ -11,12 +11,12 @@ use Rattle.sights.proofs.write_rows.Statement.{statement}
 use Rattle.sights.proofs.write_rows.Tie as tie
 
 abbrev Inv-loop : tie.InvT-loop
-Inv-loop lines head next half first₀ other₀ rise₀ weight₀ total₀ b n k c₀ v₀ first other rise weight total c v =
+Inv-loop lines head next first₀ other₀ rise₀ weight₀ total₀ b n c₀ v₀ first other rise weight total c v =
     (v ≤ b) × (length first ≡ length first₀) × (length other ≡ length other₀) × (length rise ≡ length rise₀) × (length weight ≡ length weight₀) × (length total ≡ length total₀)
     × Rowed (sightsOf (standing lines)) first other rise weight total b v c
 
 abbrev μ-loop : tie.MeasureT-loop
-μ-loop lines head next half first₀ other₀ rise₀ weight₀ total₀ b n k c₀ v₀ first other rise weight total c v = b - v
+μ-loop lines head next first₀ other₀ rise₀ weight₀ total₀ b n c₀ v₀ first other rise weight total c v = b - v
 
 loop-holds : tie.Need-loop-holds Inv-loop μ-loop
 loop-holds c =
@@ -49,11 +49,11 @@ loop-again c =
     let l = at-loop .loop in
     let w = after-write-row .write-row in (
       omega (arith, in-loop .loop-test .taken),
-      w .kept .1 .1 .1 .1 .0 ∙ l .inv .1,
-      w .kept .1 .1 .1 .1 .1 .0 ∙ l .inv .2,
-      w .kept .1 .1 .1 .1 .1 .1 .0 ∙ l .inv .3,
-      w .kept .1 .1 .1 .1 .1 .1 .1 .0 ∙ l .inv .4,
-      w .kept .1 .1 .1 .1 .1 .1 .1 .1 .0 ∙ l .inv .5,
+      w .kept .1 .1 .1 .0 ∙ l .inv .1,
+      w .kept .1 .1 .1 .1 .0 ∙ l .inv .2,
+      w .kept .1 .1 .1 .1 .1 .0 ∙ l .inv .3,
+      w .kept .1 .1 .1 .1 .1 .1 .0 ∙ l .inv .4,
+      w .kept .1 .1 .1 .1 .1 .1 .1 .0 ∙ l .inv .5,
       w .ensures,
     )
 

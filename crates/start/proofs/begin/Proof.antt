@@ -29,7 +29,7 @@ start-at-requires c κs =
 mul-z : tie.Need-mul-z Inv-loop μ-loop
 mul-z c =
     let s : tie.Start Inv-loop μ-loop = search in
-    omega (arith, c .before .loop-test .taken, s .pre .1 .0 .few)
+    omega (arith, c .before .loop-test .taken, s .pre .1 .0 .held .few)
 
 slice-set-from-z : tie.Need-slice-set-from-z Inv-loop μ-loop
 slice-set-from-z c =

@@ -6,6 +6,7 @@ use mir.Syntax.{w64}
 use mir.Val.{toZ, ofZ}
 use Rattle.book.specs.Limits.{mostDifference}
 use Rattle.fields.proofs.Readback.{read}
+use Rattle.chains.specs.Chains.{lineIn}
 use Rattle.start.proofs.Coming.{entered, ends-of}
 use borrow.Author.Needs.{needs}
 use Rattle.start.proofs.enter.Statement.{statement}
@@ -17,11 +18,15 @@ mul-m c = search needs
 shared-slice-read-m : tie.Need-shared-slice-read-m
 shared-slice-read-m c = search needs
 
-mul-come-in : tie.Need-mul-come-in
-mul-come-in c = search needs
+mul-j : tie.Need-mul-j
+mul-j c =
+    let s : tie.Start = search in
+    omega (arith, s .pre .1 .0 .marks (s .args .k) (s .pre .1 .1 .1 .0) .1, s .pre .1 .1 .1 .1)
 
-shared-slice-read-come-in : tie.Need-shared-slice-read-come-in
-shared-slice-read-come-in c = search needs
+shared-slice-read-j : tie.Need-shared-slice-read-j
+shared-slice-read-j c =
+    let s : tie.Start = search in
+    omega (arith, s .pre .1 .0 .marks (s .args .k) (s .pre .1 .1 .1 .0) .1, s .pre .1 .0 .bests)
 
 come-in-requires : tie.Need-come-in-requires
 come-in-requires c κs =
@@ -70,8 +75,8 @@ returns c =
     let r = c .before .come-in in
     let e : toZ w64 (ofZ w64 (r .result .over)) ≡ r .result .over = read (r .result .over) ((s .args .k + 1) * mostDifference) (r .ensures .size) (omega (arith, s .pre .1 .1 .1 .0, s .pre .1 .1 .1 .1)) in
     rw e
-    (entered (s .args .lines .now) (s .args .order .now) (s .args .came .now) (s .args .b) (s .args .n) (s .args .k) (s .pre .1 .0) (s .pre .1 .1 .1 .0) (s .args .root .now) (s .args .over .now) (r .result .root) (r .result .over) (s .pre .1 .1 .0)
-    (ends-of (s .args .lines .now) (s .args .b) (s .args .n) (s .pre .0) (getD (s .args .came .now) (s .args .k) 0) (s .pre .1 .0 .lines (s .args .k) (s .pre .1 .1 .1 .0))) (r .ensures))
+    (entered (s .args .lines .now) (s .args .order .now) (s .args .best .now) (s .args .b) (s .args .n) (s .args .k) (s .pre .1 .0) (s .pre .1 .1 .1 .0) (s .args .root .now) (s .args .over .now) (r .result .root) (r .result .over) (s .pre .1 .1 .0)
+    (ends-of (s .args .lines .now) (s .args .b) (s .args .n) (s .pre .0) (lineIn (s .args .best .now) (getD (s .args .order .now) (s .args .k) 0)) (s .pre .1 .0 .lines (s .args .k) (s .pre .1 .1 .1 .0))) (r .ensures))
 
 pub enter-spec : {M : Type 1} → statement M
 enter-spec =
@@ -79,8 +84,8 @@ enter-spec =
     (tie.spec
     mul-m
     shared-slice-read-m
-    mul-come-in
-    shared-slice-read-come-in
+    mul-j
+    shared-slice-read-j
     come-in-requires
     sub-root
     mul-root

@@ -2,7 +2,7 @@ use mathlib.Core.Path.{_≡_, refl, _∙_}
 use Prim.Native.Nat.{_+_, _-_, _≤_}
 use native.Mathlib.Omega.{arith}
 use Rattle.start.specs.Along.{Given, heldFrom}
-use Rattle.start.proofs.Holding.{held-place, held-all}
+use Rattle.start.proofs.Holding.{held-none, held-place, held-all}
 use borrow.Author.Needs.{needs}
 use lib.ListN.{length}
 use Rattle.book.specs.Limits.{mostHeldHeight}
@@ -16,7 +16,7 @@ abbrev μ-loop : tie.MeasureT-loop
 μ-loop held flags₀ own₀ b h i₀ flags own i = i
 
 loop-holds : tie.Need-loop-holds Inv-loop μ-loop
-loop-holds c = let s = c .before in (search needs, refl, refl, s .pre .1)
+loop-holds c = let s = c .before in let k = s .pre .1 in (search needs, refl, refl, held-none _ _ _ _ _ (s .pre .0) (k .flagged) (k .heighted) (k .none) (k .zero))
 
 sub-i : tie.Need-sub-i Inv-loop μ-loop
 sub-i c = search needs

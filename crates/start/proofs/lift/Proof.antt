@@ -14,10 +14,10 @@ use Rattle.start.proofs.lift.Statement.{statement}
 use Rattle.start.proofs.lift.Tie as tie
 
 own-read : (s : tie.Start) → toZ w64 (ofZ w64 (getD (s .args .own .now) (s .args .v) (pos 0))) ≡ getD (s .args .own .now) (s .args .v) (pos 0)
-own-read s = read (getD (s .args .own .now) (s .args .v) (pos 0)) mostHeldHeight (s .pre .1 .0 .small (s .args .v)) (omega arith)
+own-read s = read (getD (s .args .own .now) (s .args .v) (pos 0)) mostHeldHeight (s .pre .1 .0 .held .small (s .args .v)) (omega arith)
 
 over-read : (s : tie.Start) → toZ w64 (ofZ w64 (getD (s .args .over .now) (s .args .v) (pos 0))) ≡ getD (s .args .over .now) (s .args .v) (pos 0)
-over-read s = read (getD (s .args .over .now) (s .args .v) (pos 0)) (mostMarks * mostDifference) (omega (arith, s .pre .1 .0 .spotted .size (s .args .v), s .pre .1 .0 .few)) (omega arith)
+over-read s = read (getD (s .args .over .now) (s .args .v) (pos 0)) (mostMarks * mostDifference) (omega (arith, s .pre .1 .0 .spotted .size (s .args .v), s .pre .1 .0 .held .few)) (omega arith)
 
 shared-slice-read-if1 : tie.Need-shared-slice-read-if1
 shared-slice-read-if1 c = search needs
@@ -48,7 +48,7 @@ shared-slice-copy-out-sub-2 c = search needs
 sub-requires : tie.Need-sub-requires
 sub-requires c κs =
     let s : tie.Start = search in
-    rw (own-read s, over-read s) (omega (arith, s .pre .1 .0 .small (s .args .v), s .pre .1 .0 .spotted .size (s .args .v), s .pre .1 .0 .few))
+    rw (own-read s, over-read s) (omega (arith, s .pre .1 .0 .held .small (s .args .v), s .pre .1 .0 .spotted .size (s .args .v), s .pre .1 .0 .held .few))
 
 slice-write-has : tie.Need-slice-write-has
 slice-write-has c =
@@ -58,7 +58,7 @@ slice-write-has c =
 mul-z : tie.Need-mul-z
 mul-z c =
     let s : tie.Start = search in
-    omega (arith, s .pre .1 .0 .spotted .marks (s .args .v) (s .pre .0) .1, s .pre .1 .0 .few)
+    omega (arith, s .pre .1 .0 .spotted .marks (s .args .v) (s .pre .0) .1, s .pre .1 .0 .held .few)
 
 slice-set-from-z : tie.Need-slice-set-from-z
 slice-set-from-z c =

@@ -14,10 +14,10 @@ use Rattle.start.proofs.start_at.Statement.{statement}
 use Rattle.start.proofs.start_at.Tie as tie
 
 own-read : (s : tie.Start) → toZ w64 (ofZ w64 (getD (s .args .own .now) (s .args .v) (pos 0))) ≡ getD (s .args .own .now) (s .args .v) (pos 0)
-own-read s = read (getD (s .args .own .now) (s .args .v) (pos 0)) mostHeldHeight (s .pre .1 .0 .small (s .args .v)) (omega arith)
+own-read s = read (getD (s .args .own .now) (s .args .v) (pos 0)) mostHeldHeight (s .pre .1 .0 .held .small (s .args .v)) (omega arith)
 
 over-read : (s : tie.Start) → toZ w64 (ofZ w64 (getD (s .args .over .now) (s .args .v) (pos 0))) ≡ getD (s .args .over .now) (s .args .v) (pos 0)
-over-read s = read (getD (s .args .over .now) (s .args .v) (pos 0)) (mostMarks * mostDifference) (omega (arith, s .pre .1 .0 .spotted .size (s .args .v), s .pre .1 .0 .few)) (omega arith)
+over-read s = read (getD (s .args .over .now) (s .args .v) (pos 0)) (mostMarks * mostDifference) (omega (arith, s .pre .1 .0 .spotted .size (s .args .v), s .pre .1 .0 .held .few)) (omega arith)
 
 base-read : (s : tie.Start) (i : ℕ) → toZ w64 (ofZ w64 (getD (s .args .base .now) i (pos 0))) ≡ getD (s .args .base .now) i (pos 0)
 base-read s i = read (getD (s .args .base .now) i (pos 0)) mostRoot (s .pre .1 .1 .size i) (omega arith)
@@ -36,7 +36,7 @@ sub-add c =
 mul-add-2 : tie.Need-mul-add-2
 mul-add-2 c =
     let s : tie.Start = search in
-    omega (arith, s .pre .1 .0 .spotted .marks (s .args .v) (s .pre .0) .1, s .pre .1 .0 .few)
+    omega (arith, s .pre .1 .0 .spotted .marks (s .args .v) (s .pre .0) .1, s .pre .1 .0 .held .few)
 
 shared-slice-copy-out-add : tie.Need-shared-slice-copy-out-add
 shared-slice-copy-out-add c =
@@ -52,7 +52,7 @@ shared-slice-copy-out-add-2 c = search needs
 add-requires : tie.Need-add-requires
 add-requires c κs =
     let s : tie.Start = search in
-    let r = getD (s .args .root .now) (s .args .v) 0 - 1 in rw (base-read s r, over-read s) (omega (arith, s .pre .1 .1 .size r, s .pre .1 .0 .spotted .size (s .args .v), s .pre .1 .0 .few))
+    let r = getD (s .args .root .now) (s .args .v) 0 - 1 in rw (base-read s r, over-read s) (omega (arith, s .pre .1 .1 .size r, s .pre .1 .0 .spotted .size (s .args .v), s .pre .1 .0 .held .few))
 
 shared-slice-read-reset : tie.Need-shared-slice-read-reset
 shared-slice-read-reset c = search needs

@@ -10,25 +10,26 @@ use borrow.Author.Needs.{needs}
 use Rattle.sweeps.proofs.settle_lines.Statement.{statement}
 use Rattle.sweeps.proofs.settle_lines.Tie as tie
 
-slice-aggregate-fill-table : tie.Need-slice-aggregate-fill-table
-slice-aggregate-fill-table c = search needs
+slice-aggregate-write-rows : tie.Need-slice-aggregate-write-rows
+slice-aggregate-write-rows c = search needs
 
-slice-aggregate-fill-table-2 : tie.Need-slice-aggregate-fill-table-2
-slice-aggregate-fill-table-2 c = search needs
+slice-aggregate-write-rows-2 : tie.Need-slice-aggregate-write-rows-2
+slice-aggregate-write-rows-2 c = search needs
 
-slice-aggregate-fill-table-3 : tie.Need-slice-aggregate-fill-table-3
-slice-aggregate-fill-table-3 c = search needs
+slice-aggregate-write-rows-3 : tie.Need-slice-aggregate-write-rows-3
+slice-aggregate-write-rows-3 c = search needs
 
-slice-aggregate-fill-table-4 : tie.Need-slice-aggregate-fill-table-4
-slice-aggregate-fill-table-4 c = search needs
+slice-aggregate-write-rows-4 : tie.Need-slice-aggregate-write-rows-4
+slice-aggregate-write-rows-4 c = search needs
 
-slice-aggregate-fill-table-5 : tie.Need-slice-aggregate-fill-table-5
-slice-aggregate-fill-table-5 c = search needs
+slice-aggregate-write-rows-5 : tie.Need-slice-aggregate-write-rows-5
+slice-aggregate-write-rows-5 c = search needs
 
-fill-table-requires : tie.Need-fill-table-requires
-fill-table-requires c κs =
+write-rows-requires : tie.Need-write-rows-requires
+write-rows-requires c κs =
     let s : tie.Start = search in
-    (s .pre .0, (s .pre .1 .0 .1, (range-zeros 1024 (s .args .b) (s .pre .1 .0 .0), broad-zeros (s .args .lines .now) (s .args .b) (s .args .n) 257 1024 256 (s .pre .0) (omega (arith, s .pre .1 .0 .1)) (s .pre .1 .0 .1) (omega (arith, s .pre .0 .few)))))
+    let q = s .pre .1 .1 .0 in
+    (s .pre .0, (s .pre .1 .0, (range-zeros 1024 _ (q .0), broad-zeros _ _ _ 257 1024 256 (s .pre .0) (omega (arith, q .1)) (q .1) (omega (arith, s .pre .0 .few)))))
 
 slice-aggregate-settle : tie.Need-slice-aggregate-settle
 slice-aggregate-settle c = search needs
@@ -53,22 +54,22 @@ same-length c = search needs
 
 returns : tie.Need-returns
 returns c =
-    let after-fill-table : tie.After-fill-table = search in
+    let after-write-rows : tie.After-write-rows = search in
     let s : tie.Start = search in
-    let t = after-fill-table .fill-table in
+    let t = after-write-rows .write-rows in
     let e = c .before .settle .ensures in
-    e ∙ settle-same (rows (t .last .1 .0) (t .last .1 .1 .0) (t .last .1 .1 .1 .0) (t .last .1 .1 .1 .1 .0)) (sightsOf (standing (s .args .lines .now))) (flags (s .args .held .now)) (s .args .b) (t .ensures .1) (s .args .h .now)
+    e ∙ settle-same (rows (t .last .1 .1 .1 .0) (t .last .1 .1 .1 .1 .0) (t .last .1 .1 .1 .1 .1 .0) (t .last .1 .1 .1 .1 .1 .1 .0)) (sightsOf (standing (s .args .lines .now))) (flags (s .args .held .now)) (s .args .b) (t .ensures .1) (s .args .h .now)
 
 pub settle-lines-spec : {M : Type 1} → statement M
 settle-lines-spec =
     tie.close
     (tie.spec
-    slice-aggregate-fill-table
-    slice-aggregate-fill-table-2
-    slice-aggregate-fill-table-3
-    slice-aggregate-fill-table-4
-    slice-aggregate-fill-table-5
-    fill-table-requires
+    slice-aggregate-write-rows
+    slice-aggregate-write-rows-2
+    slice-aggregate-write-rows-3
+    slice-aggregate-write-rows-4
+    slice-aggregate-write-rows-5
+    write-rows-requires
     slice-aggregate-settle
     slice-aggregate-settle-2
     slice-aggregate-settle-3

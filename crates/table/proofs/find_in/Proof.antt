@@ -1,6 +1,6 @@
 use native.Mathlib.Omega.{arith}
 use mathlib.Core.Path.{_∙_}
-use Rattle.table.proofs.Finding.{good-of, listed-of, net-of, plant-of, orders-of, fills-of, found-is, table-is}
+use Rattle.table.proofs.Finding.{listed-of, orders-of, fills-of, found-is, table-is}
 use borrow.Author.Needs.{needs}
 use Rattle.table.proofs.find_in.Statement.{statement}
 use Rattle.table.proofs.find_in.Tie as tie
@@ -19,10 +19,10 @@ plant-book-requires : tie.Need-plant-book-requires
 plant-book-requires c κs =
     let entry : tie.Start = search in
     let p = entry .pre in
-    (good-of _ _ (p .0), (net-of _ _ (p .0) (p .1 .1), plant-of _ _ (p .0) (p .1 .1)))
+    (p .0, p .1 .1 .book)
 
-add-order-loops : tie.Need-add-order-loops
-add-order-loops c =
+add-q : tie.Need-add-q
+add-q c =
     let entry : tie.Start = search in
     omega (arith, entry .pre .0 .few)
 
@@ -113,8 +113,8 @@ find-in-spec =
     tie.close
     (tie.spec
     add-n
+    add-q
     plant-book-requires
-    add-order-loops
     order-loops-requires
     fill-requires
     same-length

@@ -26,8 +26,16 @@ slice-aggregate-find-in-7 c = search needs
 find-in-requires : tie.Need-find-in-requires
 find-in-requires c κs =
     let entry : tie.Start = search in
-    let p = entry .pre in
-    (p .0, (p .1, record { by-half = (search needs, search needs); by-mark = (search needs, search needs, search needs); tournament = search needs; by-loop = search needs }))
+    let p = entry .pre in (
+      p .0,
+      (
+        p .1,
+        record {
+          book = record { by-half = (search needs, search needs); by-mark = (search needs, search needs, search needs); tournament = search needs };
+          by-loop = search needs;
+        },
+      ),
+    )
 
 same-length : tie.Need-same-length
 same-length c = search needs

@@ -1,29 +1,29 @@
 -- `list_book` joins the steps from the lent book to its not-checked list. Assumes nothing.
+use mathlib.Core.Path.{_≡_}
+use Prim.Native.Nat.{_+_, _-_}
 use native.Mathlib.Omega.{arith}
-use Rattle.unchecked.proofs.Planted.{list-ready}
+use Rattle.unchecked.proofs.Planted.{listed-by, list-ready}
 use borrow.Author.Needs.{needs}
 use Rattle.unchecked.proofs.list_book.Statement.{statement}
 use Rattle.unchecked.proofs.list_book.Tie as tie
 
+-- the call, which is further back than one search goes
+abbrev entry-before : tie.After-plant-book → tie.Start
+entry-before c = search
+
 plant-book-requires : tie.Need-plant-book-requires
-plant-book-requires c κs =
-    let entry : tie.Start = search in
-    let p = entry .pre in
-    (p .0, (p .1 .0, p .1 .1 .0))
+plant-book-requires c κs = search needs
 
 add-not-checked : tie.Need-add-not-checked
 add-not-checked c =
     let entry : tie.Start = search in
-    omega (arith, entry .pre .0 .few-lines)
+    omega (arith, entry .pre .0 .few)
 
 not-checked-requires : tie.Need-not-checked-requires
 not-checked-requires c κs =
     let after-plant-book : tie.After-plant-book = search in
     let entry : tie.Start = search in
-    let best-lent : tie.After-plant-book-arg4 = search in
-    let p = entry .pre in
-    list-ready (p .0) (after-plant-book .plant-book .ensures)
-    (omega (arith, p .1 .1 .0 .bests, best-lent .plant-book-arg4 .given)) (p .1 .1 .1)
+    list-ready _ _ (entry .pre .0) (after-plant-book .plant-book .ensures) (entry .pre .1 .1)
 
 same-length : tie.Need-same-length
 same-length c = search needs
@@ -44,8 +44,10 @@ returns : tie.Need-returns
 returns c =
     let after-not-checked : tie.After-not-checked = search in
     let after-plant-book : tie.After-plant-book = search in
+    let entry = entry-before after-plant-book in
     let planted = after-plant-book .plant-book .ensures in
-    after-not-checked .not-checked .ensures _ _ _ (planted .listed) (planted .holding)
+    let marks-are : entry .args .book .marks + 1 - 1 ≡ entry .args .book .marks = omega arith in
+    rw marks-are at (after-not-checked .not-checked .ensures _ _ _ (listed-by _ _ (entry .pre .0) planted) (planted .holding))
 
 pub list-book-spec : {M : Type 1} → statement M
 list-book-spec =

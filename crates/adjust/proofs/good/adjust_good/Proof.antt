@@ -1,6 +1,6 @@
 use mathlib.Core.Path.{sym}
 use lib.IntN.{pos}
-use Rattle.adjust.proofs.Zeros.{so-many}
+use Rattle.start.proofs.Zeros.{so-many}
 use Rattle.adjust.proofs.Calling.{call-ten}
 use borrow.Author.Needs.{needs}
 use Rattle.adjust.proofs.good.adjust_good.Statement.{statement}
@@ -16,10 +16,10 @@ array-borrow-prefix-z : tie.Need-array-borrow-prefix-z
 array-borrow-prefix-z c = search needs
 
 slice-aggregate-adjust-by : tie.Need-slice-aggregate-adjust-by
-slice-aggregate-adjust-by c = let s = c .before .before in sym (so-many (pos 0) (s .args .book .marks) 256 (s .pre .few))
+slice-aggregate-adjust-by c = let s = c .before .before in sym (so-many (pos 0) (s .args .book .marks) 256 (s .pre .lines-good .few-marks))
 
 adjust-by-requires : tie.Need-adjust-by-requires
-adjust-by-requires c κs = let s = c .before .before .before in (s .pre, (so-many (pos 0) (s .args .book .marks) 256 (s .pre .few), c .before .before .if1 .left))
+adjust-by-requires c κs = let s = c .before .before .before in (s .pre, (so-many (pos 0) (s .args .book .marks) 256 (s .pre .lines-good .few-marks), c .before .before .if1 .left))
 
 same-length : tie.Need-same-length
 same-length c = search needs

@@ -1,7 +1,6 @@
 use native.Mathlib.Omega.{arith}
 use lib.ListN.{length-take}
-use Rattle.table.proofs.Finding.{good-of}
-use Rattle.lists.proofs.Unwatched.{rooms-for, list-fits, list-numbers, list-is}
+use Rattle.lists.proofs.Unwatched.{list-fits, list-numbers, list-is}
 use borrow.Author.Needs.{needs}
 use Rattle.lists.proofs.watch.not_checked_good.Statement.{statement}
 use Rattle.lists.proofs.watch.not_checked_good.Tie as tie
@@ -21,16 +20,15 @@ slice-aggregate-list-book-4 c = search needs
 slice-aggregate-list-book-5 : tie.Need-slice-aggregate-list-book-5
 slice-aggregate-list-book-5 c = search needs
 
-add-list-book : tie.Need-add-list-book
-add-list-book c = search needs
-
 list-book-requires : tie.Need-list-book-requires
 list-book-requires c κs =
-    let s : tie.Start = search in
-    let b = s .args .book in
-    let l = s .args .lines .now in
-    let g = s .pre in
-    (good-of b l g, rooms-for b l g (search needs) (search needs) (search needs) (search needs) (search needs) (search needs) (search needs) (search needs))
+    let s : tie.Start = search in (
+      s .pre,
+      (
+        record { by-half = (search needs, search needs); by-mark = (search needs, search needs, search needs); tournament = search needs },
+        record { marks = search needs; outs = search needs },
+      ),
+    )
 
 array-share-prefix-list : tie.Need-array-share-prefix-list
 array-share-prefix-list c =
@@ -69,7 +67,6 @@ not-checked-good-spec =
     slice-aggregate-list-book-3
     slice-aggregate-list-book-4
     slice-aggregate-list-book-5
-    add-list-book
     list-book-requires
     array-share-prefix-list
     slice-aggregate-write-list

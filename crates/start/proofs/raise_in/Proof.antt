@@ -3,8 +3,8 @@ use native.Mathlib.Omega.{arith}
 use Rattle.start.proofs.Lifting.{lift-none}
 use Rattle.start.proofs.Starting.{unheld-is, start-is}
 use borrow.Author.Needs.{needs}
-use Rattle.start.proofs.raise_and_begin.Statement.{statement}
-use Rattle.start.proofs.raise_and_begin.Tie as tie
+use Rattle.start.proofs.raise_in.Statement.{statement}
+use Rattle.start.proofs.raise_in.Tie as tie
 
 lift-all-requires : tie.Need-lift-all-requires
 lift-all-requires c κs =
@@ -26,7 +26,7 @@ returns c =
     let s : tie.Start = search in
     let l = after-lift-all .lift-all in
     let m = c .before .first-unheld in
-    λ at held p g.
+    λ at p held g.
     (m .ensures ∙ unheld-is (s .args .b) at held (s .args .flags .now) (s .args .own .now) (s .args .root .now) (s .args .over .now) (l .last .1 .1 .1 .1 .0) (l .last .1 .1 .1 .1 .1 .0) p g (l .ensures), λ z. absurd (omega (arith, c .if1 .taken)), s .pre .1 .1)
 
 begin-requires : tie.Need-begin-requires
@@ -51,14 +51,14 @@ returns-2 c =
     let m = after-first-unheld .first-unheld in
     let g₀ = c .before .begin .ensures in
     let e : m .result ≡ 0 = omega (arith, else1 .if1 .left) in
-    λ at held p g. (
+    λ at p held g. (
       sym e ∙ m .ensures ∙ unheld-is (s .args .b) at held (s .args .flags .now) (s .args .own .now) (s .args .root .now) (s .args .over .now) (l .last .1 .1 .1 .1 .0) (l .last .1 .1 .1 .1 .1 .0) p g (l .ensures),
       λ z v h. g₀ .each v h ∙ start-is (s .args .b) at held (s .args .flags .now) (s .args .own .now) (s .args .root .now) (s .args .over .now) (l .last .1 .1 .1 .1 .0) (l .last .1 .1 .1 .1 .1 .0) p g (l .ensures) (sym (m .ensures) ∙ e) v h,
       g₀ .all,
     )
 
-pub raise-and-begin-spec : {M : Type 1} → statement M
-raise-and-begin-spec =
+pub raise-in-spec : {M : Type 1} → statement M
+raise-in-spec =
     tie.close
     (tie.spec
     lift-all-requires
