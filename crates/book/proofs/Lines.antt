@@ -6,8 +6,8 @@ use mathlib.Core.List.{List}
 use Prim.Native.Nat.{ℕ}
 use lib.Dec.{lit<}
 use lib.IntN.{ℤ}
-use Rattle.book.specs.Line.{fromField, toField, differenceField, lengthField, standingField, fromAt, toAt, differenceAt, lengthAt, standingAt}
-use Rattle.book.specs.Line.{entryAt, lineOf, entryOf, lineBad}
+use Rattle.book.specs.Line.{fromField, toField, differenceField, lengthField, standingField}
+use Rattle.book.specs.Line.{fromAt, toAt, differenceAt, lengthAt, standingAt, entryAt, lineOf, entryOf, lineBad}
 use Rattle.book.specs.declared.line.Line.{Line}
 use Rattle.book.specs.declared.line.MadeLine.{MadeLine}
 use Rattle.book.specs.declared.line.MadeLine.the-variants.{Good, Refused}

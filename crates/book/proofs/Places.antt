@@ -2,9 +2,9 @@
 -- Assumes nothing.
 use mathlib.Core.Path.{_≡_}
 use mathlib.Core.List.{List}
-use Prim.Native.Nat.{ℕ, _+_, _*_, _≤_, _<_}
+use Prim.Native.Nat.{ℕ, suc, _+_, _*_, _≤_, _<_}
 use native.Mathlib.Omega.{arith}
-use lib.ListN.{length, getD, set, take, drop, length-take, length-drop}
+use lib.ListN.{length, set, drop, length-take, length-drop}
 use lib.Seq.{getD-take, getD-drop, getD-set-same, getD-set-other}
 use lib.IntN.{ℤ, pos}
 use Rattle.book.specs.Line.{lineWords, place, field, entryAt, lineCount}
@@ -53,7 +53,12 @@ entry-field lines i k h =
 pub entry-whole : (lines : List ℤ) (i : ℕ) → i < lineCount lines → length (entryAt lines i) ≡ lineWords
 entry-whole lines i h = simp (length-take, length-drop) (omega arith)
 
--- the lines after the first i
+-- the lines after the first, and after the first i
+pub field-on : (lines : List ℤ) (j k : ℕ) → field k (drop lineWords lines) j ≡ field k lines (suc j)
+field-on lines j k =
+    let e : lineWords + place j k ≡ place (suc j) k = omega arith in
+    rw (getD-drop lineWords lines (place j k) (pos 0), e)
+
 pub field-from : (lines : List ℤ) (i j k : ℕ) → field k (drop (i * lineWords) lines) j ≡ field k lines (i + j)
 field-from lines i j k =
     let e : i * lineWords + place j k ≡ place (i + j) k = omega arith in

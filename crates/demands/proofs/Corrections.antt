@@ -13,7 +13,7 @@ use Rattle.book.specs.declared.Book.{Book}
 use Rattle.book.specs.declared.Tested.the-variants.{Good}
 use Rattle.book.proofs.Goods.{tested-good}
 use Rattle.book.proofs.Passing.{good-passes}
-use Rattle.network.specs.Field.{differenceField, standingField}
+use Rattle.book.specs.Line.{differenceField, standingField}
 use Rattle.loops.specs.Report.{loopsOf}
 use Rattle.survey.specs.Report.{counted}
 use Rattle.survey.specs.Survey.{surveyed, surveyOf}

@@ -29,7 +29,8 @@ use Rattle.lists.specs.NotChecked.{uncheckedOf, notCheckedOf}
 use Rattle.loops.proofs.LinesInAll.{lines-in-all-at-most}
 use Rattle.loops.proofs.Listings.{listings-length, lines-more, listed-after}
 use Rattle.loops.proofs.Places.{row-at}
-use Rattle.loops.proofs.Sounding.{lines-sound, few-standing}
+use Rattle.network.proofs.Standing.{few-standing}
+use Rattle.loops.proofs.Sounding.{lines-sound}
 use Rattle.demands.specs.Calls.{listDone}
 use Rattle.demands.specs.Tables.{loopListing, listingRules}
 use Rattle.demands.specs.TheLoops.{inRow, countsBefore, Within, Over, RowOf, LoopIs, ListedIn}

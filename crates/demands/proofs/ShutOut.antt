@@ -14,7 +14,7 @@ use Rattle.book.specs.declared.Book.{Book}
 use Rattle.book.specs.declared.Tested.the-variants.{Good}
 use Rattle.book.proofs.Passing.{good-passes}
 use Rattle.network.specs.Standing.{Line, standing}
-use Rattle.network.specs.Field.{differenceField}
+use Rattle.book.specs.Line.{differenceField}
 use Rattle.network.proofs.Standing.{from-on}
 use Rattle.loops.specs.Row.{closingNumber}
 use Rattle.loops.specs.Circuit.{Circuit}

@@ -1,12 +1,14 @@
 -- The listed entries are those of the tree. Assumes nothing.
-use Prim.Native.Nat.{ℕ, zero, suc, _+_, _-_, _/_, _≤_, _<_}
+use Prim.Native.Nat.{ℕ, zero, suc, _+_, _-_, _≤_, _<_}
 use mathlib.Core.Path.{_≡_, refl, sym, _∙_, ap, subst}
 use mathlib.Core.List.{List, _∷_}
 use native.Mathlib.Omega.{arith}
 use lib.ListN.{length, getD, set, length-set}
 use lib.IntN.{ℤ}
 use Rattle.book.specs.Limits.{mostMarks}
+use Rattle.book.specs.Line.{lineCount}
 use Rattle.book.specs.Good.{GoodLine}
+use Rattle.book.proofs.Places.{count-of}
 use Rattle.network.specs.Standing.{Line, standing}
 use Rattle.network.specs.Tree.{Tree, grow, marks, tree}
 use Rattle.network.proofs.Grown.{Stepped, line, root, stop, stepped}
@@ -46,7 +48,7 @@ module _ (best order marks₀ came₀ : List ℕ) where
 -- a tested book is a good one to the search
 pub good-of : (lines : List ℤ) (b n : ℕ) → Lines lines b n → b ≤ mostMarks → Good (b + 1) lines
 good-of lines b n g few =
-    let e : length lines / 5 ≡ n = omega (arith, g .whole) in
+    let e : lineCount lines ≡ n = count-of lines n (g .whole) in
     let m : b + 1 - 1 ≡ b = omega arith in
     record {
       some-mark = omega arith;
@@ -163,13 +165,17 @@ module _ (lines : List ℤ) (b n : ℕ) (ends best order ms cs : List ℕ) (good
   marks-are : b + 1 - 1 ≡ b
   marks-are = omega arith
 
+  all-listed : Listed best order ms cs (b + 1 - 1)
+  all-listed = subst (Listed best order ms cs) (sym marks-are) lo
+
   pub book-entered : Entered ms cs (tree b (standing lines))
   book-entered =
       subst (λ (x : ℕ). Entered ms cs (tree x (standing lines))) marks-are
-      (tree-entered (b + 1) (length lines / 5 + 1) (standing lines) ends best order ms cs (p .listed) (p .holding) (subst (Listed best order ms cs) (sym marks-are) lo) (omega arith))
+      (tree-entered (b + 1) (lineCount lines + 1) (standing lines) ends best order ms cs (p .listed) (p .holding) all-listed (omega arith))
 
   pub book-growth : b ≤ length ms → b ≤ length cs → Growth ms cs b n
   book-growth lm lc =
-      let e : length lines / 5 + 1 - 1 ≡ n = omega (arith, good .whole) in
+      let e : lineCount lines + 1 - 1 ≡ n = omega (arith, good .whole) in
       subst (λ (x : ℕ). Growth ms cs x n) marks-are (subst (Growth ms cs (b + 1 - 1)) e
-      (tree-growth (b + 1) (length lines / 5 + 1) (standing lines) ends best order ms cs (p .listed) (p .holding) (subst (Listed best order ms cs) (sym marks-are) lo) (omega arith) (omega arith) (omega arith)))
+      (tree-growth (b + 1) (lineCount lines + 1) (standing lines) ends best order ms cs (p .listed) (p .holding) all-listed
+      (omega arith) (omega arith) (omega arith)))

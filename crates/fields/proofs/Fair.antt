@@ -1,20 +1,21 @@
 -- The standing lines of a book that has passed its test: few, and within their limits.
 -- Assumes nothing.
-use Prim.Native.Nat.{ℕ, zero, suc, _+_, _*_, _≤_, _<_}
+use Prim.Native.Nat.{ℕ, zero, suc, _+_, _≤_, _<_}
 use native.Mathlib.Omega.{arith}
 use mathlib.Core.Path.{_≡_, refl, sym, _∙_, ap, subst}
 use mathlib.Core.List.{List, [], _∷_, List·Memᴰ, List·Memᴰ·head, List·Memᴰ·tail, List·Memᴰ·not-nil}
 use mathlib.Core.Bool.{Bool, true, false}
-use lib.ListN.{length, drop, drop-of-length-le}
 use lib.IntN.{ℤ, pos, natAbs}
 use Rattle.laws.specs.Tests.{eqZ}
 use Rattle.laws.specs.Range.{Between}
 use Rattle.book.specs.Limits.{mostDifference, leastLength, mostLength}
 use Rattle.book.specs.Line.{fromAt, toAt, standingAt}
 use Rattle.book.specs.Good.{GoodLine}
-use Rattle.network.specs.Standing.{Line, standingFrom, standing}
+use Rattle.network.specs.Standing.{Line, standing}
+use Rattle.network.specs.Field.{HasLine, standsFrom}
 use Rattle.network.specs.Sound.{Placed}
-use Rattle.fields.specs.Places.{standsFrom, Lines}
+use Rattle.network.proofs.Standing.{stands-none}
+use Rattle.fields.specs.Places.{Lines}
 use Rattle.fields.proofs.Stands.{lineHere, stands-not, stands-here}
 
 -- A line within its limits, of b marks
@@ -48,19 +49,17 @@ fair-here lines b i g = record {
 
 module _ (lines : List ℤ) (b n : ℕ) (good : Lines lines b n) where
   from-place : (k i : ℕ) → i + k ≡ n → Fairs b k (standsFrom lines i)
-  unfolding standingFrom
   from-place zero i e =
-      let p : length lines ≤ 5 * i = omega (arith, good .whole) in
-      let d : drop (5 * i) lines ≡ [] = drop-of-length-le lines p in
-      rw d no-line
+      rw (stands-none lines i (omega (arith, good .whole))) no-line
   from-place (suc k) i e =
       let l : i < n = omega arith in
       let g = good .each i l in
-      let w : i * 5 + 5 ≤ length lines = omega (arith, good .whole) in
+      let w : HasLine lines i = omega (arith, good .whole) in
       let r = from-place k (i + 1) (omega arith) in
       by g w r (eqZ (standingAt lines i) (pos 0)) refl
     where
-      by : GoodLine b lines i → i * 5 + 5 ≤ length lines → Fairs b k (standsFrom lines (i + 1)) → (t : Bool) → eqZ (standingAt lines i) (pos 0) ≡ t → Fairs b (suc k) (standsFrom lines i)
+      by : GoodLine b lines i → HasLine lines i → Fairs b k (standsFrom lines (i + 1)) → (t : Bool) → eqZ (standingAt lines i) (pos 0) ≡ t
+          → Fairs b (suc k) (standsFrom lines i)
       by g w r true t = subst (Fairs b (suc k)) (stands-not lines i w t) (fairs-more r)
       by g w r false t = subst (Fairs b (suc k)) (sym (stands-here lines i w (g .standing) t)) (and-line (fair-here lines b i g) r)
 

@@ -14,7 +14,8 @@ use Rattle.network.specs.Standing.{Line, standing}
 use Rattle.loops.specs.Loops.{Loop, loops}
 use Rattle.loops.specs.Checked.{checked, notChecked}
 use Rattle.loops.specs.Report.{loopsOf}
-use Rattle.loops.proofs.Sounding.{few-standing, line-limits}
+use Rattle.network.proofs.Standing.{few-standing}
+use Rattle.loops.proofs.Sounding.{line-limits}
 use Rattle.chains.specs.Chains.{halves, numberLimit}
 use Rattle.prepare.specs.Prepared.{RoomNet, RoomPlant}
 use Rattle.unchecked.specs.Book.{RoomList, BookListed}

@@ -14,8 +14,8 @@ use Rattle.network.specs.Subgraph.{isIn, only, numbers}
 use Rattle.network.specs.Walk.{Pass, pass, IsShortest}
 use Rattle.loops.specs.Loops.{Loop, loopAt}
 use Rattle.loops.specs.AllLoops.{LoopsOf, no-loop, loop-then}
-use Rattle.loops.specs.Row.{row, rows}
-use Rattle.loops.proofs.Row.{row-is-five}
+use Rattle.loops.specs.Row.{rowWords, row, rows}
+use Rattle.loops.proofs.Row.{row-length}
 
 -- the loop at a place below the count is one of the loops
 pub loop-at-is : (ls : List Loop) (i : ℕ) → i < length ls → List·Memᴰ (loopAt ls i) ls
@@ -89,13 +89,14 @@ loop-at {lines = lines} (loop-then {sub = sub} {c = c} {cs = cs} {path = path} x
 
 -- ---- the row at a place
 
--- the five numbers of row i are those of the loop at place i
-pub row-at : (t : ℕ) (ls : List Loop) (i : ℕ) → i < length ls → (j : ℕ) → j < 5 → getD (rows t ls) (5 * i + j) (pos 0) ≡ getD (row t (loopAt ls i)) j (pos 0)
+-- the numbers of row i are those of the loop at place i
+pub row-at : (t : ℕ) (ls : List Loop) (i : ℕ) → i < length ls → (j : ℕ) → j < rowWords
+    → getD (rows t ls) (rowWords * i + j) (pos 0) ≡ getD (row t (loopAt ls i)) j (pos 0)
 unfolding rows loopAt
 row-at t [] i h j l = absurd (omega arith)
 row-at t (lp ∷ ls) zero h j l =
-    let here : 5 * 0 + j ≡ j = omega arith in
-    rw here (List·getD-append (row t lp) (rows t ls) (pos 0) j (omega (arith, row-is-five t lp)))
+    let here : rowWords * 0 + j ≡ j = omega arith in
+    rw here (List·getD-append (row t lp) (rows t ls) (pos 0) j (omega (arith, row-length t lp)))
 row-at t (lp ∷ ls) (suc i) h j l =
-    let further : 5 * suc i + j ≡ length (row t lp) + (5 * i + j) = omega (arith, row-is-five t lp) in
-    rw (further, getD-append-add (row t lp) (rows t ls) (5 * i + j) (pos 0)) (row-at t ls i (omega arith) j l)
+    let further : rowWords * suc i + j ≡ length (row t lp) + (rowWords * i + j) = omega (arith, row-length t lp) in
+    rw (further, getD-append-add (row t lp) (rows t ls) (rowWords * i + j) (pos 0)) (row-at t ls i (omega arith) j l)

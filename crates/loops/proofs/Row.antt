@@ -13,7 +13,7 @@ use lib.Seq.{drop-nil, drop-append-add}
 use borrow.Author.Tests.{leb-true, le-leb, lt-leb}
 use Rattle.network.specs.Walk.{wayLength}
 use Rattle.loops.specs.Loops.{Loop}
-use Rattle.loops.specs.Row.{misclosure, lineAllows, allowances, total, within, verdict, row, rows}
+use Rattle.loops.specs.Row.{misclosure, lineAllows, allowances, total, within, verdict, rowWords, row, rows}
 
 -- ---- the allowable
 
@@ -55,22 +55,22 @@ over-else t lp h =
 
 -- ---- "A report row is five numbers"
 
--- one row is five numbers
-pub row-is-five : (t : ℕ) (lp : Loop) → length (row t lp) ≡ 5
+-- one row
+pub row-length : (t : ℕ) (lp : Loop) → length (row t lp) ≡ rowWords
 unfolding row
-row-is-five t lp = refl
+row-length t lp = refl
 
--- the report is five numbers to a loop
-pub rows-length : (t : ℕ) (ls : List Loop) → length (rows t ls) ≡ 5 * length ls
+-- the report is a row to a loop
+pub rows-length : (t : ℕ) (ls : List Loop) → length (rows t ls) ≡ rowWords * length ls
 unfolding rows row
 rows-length t [] = refl
 rows-length t (l ∷ ls) = omega (arith, rows-length t ls)
 
 -- the rows from the i-th on are the rows of the loops from the i-th on
-pub rows-from : (t : ℕ) (ls : List Loop) (i : ℕ) → drop (5 * i) (rows t ls) ≡ rows t (drop i ls)
+pub rows-from : (t : ℕ) (ls : List Loop) (i : ℕ) → drop (rowWords * i) (rows t ls) ≡ rows t (drop i ls)
 unfolding rows row
 rows-from t ls zero = refl
-rows-from t [] (suc i) = drop-nil (5 * suc i)
+rows-from t [] (suc i) = drop-nil (rowWords * suc i)
 rows-from t (l ∷ ls) (suc i) =
-    let five : 5 * suc i ≡ 5 + 5 * i = omega arith in
-    ap (λ (n : ℕ). drop n (row t l ++ rows t ls)) five ∙ drop-append-add (row t l) (rows t ls) (5 * i) ∙ rows-from t ls i
+    let further : rowWords * suc i ≡ rowWords + rowWords * i = omega arith in
+    ap (λ (n : ℕ). drop n (row t l ++ rows t ls)) further ∙ drop-append-add (row t l) (rows t ls) (rowWords * i) ∙ rows-from t ls i

@@ -2,47 +2,29 @@
 -- Assumes nothing.
 use native.Mathlib.Omega.{arith}
 use mathlib.Core.Path.{_≡_, sym, _∙_, ap, subst}
-use mathlib.Core.List.{List, [], _∷_, List·Memᴰ}
-use Prim.Native.Nat.{ℕ, zero, suc, _*_, _≤_}
-use lib.IntN.{ℤ, pos, negsuc, natAbs}
+use mathlib.Core.List.{List, List·Memᴰ}
+use Prim.Native.Nat.{ℕ, _*_, _≤_}
+use lib.IntN.{ℤ, pos, natAbs}
 use lib.ListN.{length}
 use Rattle.laws.specs.Range.{Between}
 use Rattle.book.specs.Limits.{mostLines, mostDifference, mostLength}
 use Rattle.book.specs.Good.{GoodLine, GoodBook, GoodLines}
 use Rattle.book.specs.declared.Book.{Book}
 use Rattle.book.proofs.Goods.{good-lines}
-use Rattle.network.specs.Standing.{Line, line, keep, standingFrom, standing}
+use Rattle.network.specs.Standing.{Line, standing}
 use Rattle.network.specs.Sound.{Sound}
 use Rattle.network.specs.Field.{HasLine}
-use Rattle.network.proofs.Corrected.{of-standing, standing-sound}
+use Rattle.network.proofs.Standing.{of-standing, few-standing}
+use Rattle.network.proofs.Corrected.{standing-sound}
 use Rattle.network.proofs.Entries.{tree-lines-count}
 use Rattle.loops.proofs.EachLoop.{loops-are-counted}
 use Rattle.loops.proofs.Row.{rows-length}
+use Rattle.loops.specs.Row.{rowWords}
 use Rattle.loops.specs.Report.{loopsOf, reportOf}
 
 -- two whole numbers that are natural are equal where their sizes are
 natural : {lo hi : ℕ} {x y : ℤ} → Between lo hi x → Between lo hi y → natAbs x ≡ natAbs y → x ≡ y
 natural f t e = f .is ∙ ap pos e ∙ sym (t .is)
-
--- no more lines stand than there are
-few-stand : (k : ℕ) (lines : List ℤ) → 5 * length (standingFrom k lines) ≤ length lines
-unfolding standingFrom
-few-stand k [] = omega arith
-few-stand k (f ∷ []) = omega arith
-few-stand k (f ∷ t ∷ []) = omega arith
-few-stand k (f ∷ t ∷ d ∷ []) = omega arith
-few-stand k (f ∷ t ∷ d ∷ n ∷ []) = omega arith
-few-stand k (f ∷ t ∷ d ∷ n ∷ s ∷ rest) = go s (few-stand (suc k) rest)
-  where
-    go : (s : ℤ) → 5 * length (standingFrom (suc k) rest) ≤ length rest
-        → 5 * length (keep s (line k (natAbs f) (natAbs t) d (natAbs n)) (standingFrom (suc k) rest)) ≤ suc (suc (suc (suc (suc (length rest)))))
-    go (pos zero) h = omega arith
-    go (pos (suc x)) h = omega arith
-    go (negsuc x) h = omega arith
-
-pub few-standing : (lines : List ℤ) → 5 * length (standing lines) ≤ length lines
-unfolding standing
-few-standing lines = few-stand 1 lines
 
 -- the numbers of a line that the table limits
 pub record LineLimits (l : Line) : Type 0 where
@@ -73,7 +55,7 @@ module _ (k : Book) (lines : List ℤ) (good : GoodLines k lines) where
   few-loops =
       omega (arith, loops-are-counted (k .marks) (standing lines) lines-sound, tree-lines-count (k .marks) (standing lines) lines-sound, few-standing lines, good .whole)
 
-  pub report-length : length (reportOf (k .marks) (k .tolerance) lines) ≡ length (loopsOf (k .marks) lines) * 5
+  pub report-length : length (reportOf (k .marks) (k .tolerance) lines) ≡ length (loopsOf (k .marks) lines) * rowWords
   unfolding reportOf
   report-length = omega (arith, rows-length (k .tolerance) (loopsOf (k .marks) lines))
 

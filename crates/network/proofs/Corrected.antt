@@ -1,127 +1,68 @@
--- The lent book and its standing lines: what a line of the book is, and what re-run and withdrawal make of the lines. Assumes nothing.
-use Prim.Native.Nat.{ℕ, zero, suc, _+_, _≤_}
+-- The lent book and its standing lines: when they are sound, and what re-run and withdrawal make of them. Assumes nothing.
+use Prim.Native.Nat.{ℕ, zero, suc, _+_, _≤_, _<_}
 use native.Mathlib.Omega.{arith}
 use mathlib.Core.Path.{_≡_, refl, sym, _∙_, ap, ap₂, subst}
 use mathlib.Core.Bool.{Bool, cond}
-use mathlib.Core.List.{List, [], _∷_, List·Memᴰ, List·Memᴰ·head, List·Memᴰ·tail, List·Memᴰ·not-nil}
+use mathlib.Core.List.{List, [], _∷_, List·Memᴰ, List·Memᴰ·head, List·Memᴰ·tail}
+use lib.Dec.{lit<}
 use lib.IntN.{ℤ, pos, negsuc, natAbs}
-use lib.ListN.{length, getD, set}
+use lib.ListN.{length, set, drop, length-set, length-drop}
+use lib.Seq.{drop-set-lt, drop-set-add}
 use borrow.Author.Tests.{eq-eqb, ne-eqb}
 use Rattle.book.specs.Limits.{leastLength}
-use Rattle.book.specs.Line.{lineWords}
+use Rattle.book.specs.Line.{lineWords, fromField, toField, differenceField, lengthField, standingField}
+use Rattle.book.specs.Line.{place, field, fromAt, toAt, lengthAt, standingAt}
+use Rattle.book.proofs.Places.{field-set, field-kept, line-kept}
 use Rattle.network.specs.Standing.{Line, line, keep, standingFrom, standing}
 use Rattle.network.specs.Sound.{Placed, Sound}
-use Rattle.network.specs.Field.{fromField, toField, differenceField, lengthField, standingField, place, field, HasLine, lineAt, StandsAt}
+use Rattle.network.specs.Field.{HasLine, lineAt}
 use Rattle.network.specs.Redone.{measured, newDifference, redone}
 use Rattle.network.specs.Without.{without}
-use Rattle.network.proofs.Standing.{from-on, rising-standing}
+use Rattle.network.proofs.Standing.{standing-first, from-on, of-standing, rising-standing}
 use Rattle.network.proofs.Withdrawn.{without-none}
-
--- ---- one line further into the book
-
-place-on : (j k : ℕ) → place (suc j) k ≡ suc (suc (suc (suc (suc (place j k)))))
-place-on j k = omega arith
-
-field-on : (a c d e s : ℤ) (rest : List ℤ) (j k : ℕ) → field (a ∷ c ∷ d ∷ e ∷ s ∷ rest) (suc j) k ≡ field rest j k
-field-on a c d e s rest j k = ap (λ (n : ℕ). getD (a ∷ c ∷ d ∷ e ∷ s ∷ rest) n (pos 0)) (place-on j k)
-
-lineAt-on : (n : ℕ) (a c d e s : ℤ) (rest : List ℤ) (j : ℕ) → lineAt n (a ∷ c ∷ d ∷ e ∷ s ∷ rest) (suc j) ≡ lineAt n rest j
-lineAt-on n a c d e s rest j =
-    rw (field-on a c d e s rest j fromField, field-on a c d e s rest j toField, field-on a c d e s rest j differenceField, field-on a c d e s rest j lengthField)
-
--- a book that has a line is its first line and the rest
-data FirstLine : List ℤ → Type 0 where
-  first-line : (a c d e s : ℤ) (rest : List ℤ) → FirstLine (a ∷ c ∷ d ∷ e ∷ s ∷ rest)
-
-has-first : (book : List ℤ) → lineWords ≤ length book → FirstLine book
-has-first [] h = absurd (omega arith)
-has-first (a ∷ []) h = absurd (omega arith)
-has-first (a ∷ c ∷ []) h = absurd (omega arith)
-has-first (a ∷ c ∷ d ∷ []) h = absurd (omega arith)
-has-first (a ∷ c ∷ d ∷ e ∷ []) h = absurd (omega arith)
-has-first (a ∷ c ∷ d ∷ e ∷ s ∷ rest) h = first-line a c d e s rest
-
--- ---- the standing lines are the lines of the book that stand
-
-stands-on : (k i : ℕ) (a c d e s : ℤ) (rest : List ℤ) (l : Line) → StandsAt rest i (suc k + i) l → StandsAt (a ∷ c ∷ d ∷ e ∷ s ∷ rest) (suc i) (k + suc i) l
-stands-on k i a c d e s rest l w =
-    let n : suc k + i ≡ k + suc i = omega arith in
-    record {
-      isThere = omega (arith, w .isThere);
-      beyond = w .beyond;
-      stands = field-on a c d e s rest i standingField ∙ w .stands;
-      its = w .its ∙ ap (λ (x : ℕ). lineAt x rest i) n ∙ sym (lineAt-on (k + suc i) a c d e s rest i);
-    }
-
-of-standingFrom : (k : ℕ) (book : List ℤ) (l : Line) → List·Memᴰ l (standingFrom k book) → (i : ℕ) × StandsAt book i (k + i) l
-unfolding standingFrom
-of-standingFrom k [] l m = absurd (List·Memᴰ·not-nil m)
-of-standingFrom k (a ∷ []) l m = absurd (List·Memᴰ·not-nil m)
-of-standingFrom k (a ∷ c ∷ []) l m = absurd (List·Memᴰ·not-nil m)
-of-standingFrom k (a ∷ c ∷ d ∷ []) l m = absurd (List·Memᴰ·not-nil m)
-of-standingFrom k (a ∷ c ∷ d ∷ e ∷ []) l m = absurd (List·Memᴰ·not-nil m)
-of-standingFrom k (a ∷ c ∷ d ∷ e ∷ s ∷ rest) l m = go s m (of-standingFrom (suc k) rest l)
-  where
-    on : (s : ℤ) → (i : ℕ) × StandsAt rest i (suc k + i) l → (i : ℕ) × StandsAt (a ∷ c ∷ d ∷ e ∷ s ∷ rest) i (k + i) l
-    on s (i, w) = (suc i, stands-on k i a c d e s rest l w)
-
-    go : (s : ℤ) → List·Memᴰ l (keep s (line k (natAbs a) (natAbs c) d (natAbs e)) (standingFrom (suc k) rest))
-        → (List·Memᴰ l (standingFrom (suc k) rest) → (i : ℕ) × StandsAt rest i (suc k + i) l) → (i : ℕ) × StandsAt (a ∷ c ∷ d ∷ e ∷ s ∷ rest) i (k + i) l
-    go (pos zero) i ih = on (pos zero) (ih i)
-    go (negsuc x) i ih = on (negsuc x) (ih i)
-    go (pos (suc x)) (List·Memᴰ·tail i) ih = on (pos (suc x)) (ih i)
-    go (pos (suc x)) (List·Memᴰ·head z) ih =
-        let n : k ≡ k + 0 = omega arith in
-        (0, record { isThere = omega arith; beyond = x; stands = refl; its = z ∙ ap (λ (y : ℕ). line y (natAbs a) (natAbs c) d (natAbs e)) n })
-
-in-standingFrom : (k : ℕ) (book : List ℤ) (i : ℕ) (l : Line) → StandsAt book i (k + i) l → List·Memᴰ l (standingFrom k book)
-unfolding standingFrom
-in-standingFrom k book zero l w = go book (has-first book (omega (arith, w .isThere))) w
-  where
-    go : (book : List ℤ) → FirstLine book → StandsAt book zero (k + 0) l → List·Memᴰ l (standingFrom k book)
-    go _ (first-line a c d e s rest) w =
-        let n : k + 0 ≡ k = omega arith in
-        subst (λ (z : ℤ). List·Memᴰ l (keep z (line k (natAbs a) (natAbs c) d (natAbs e)) (standingFrom (suc k) rest))) (sym (w .stands))
-        (List·Memᴰ·head (w .its ∙ ap (λ (y : ℕ). line y (natAbs a) (natAbs c) d (natAbs e)) n))
-in-standingFrom k book (suc i) l w = go book (has-first book (omega (arith, w .isThere))) w (λ k rest. in-standingFrom k rest i l)
-  where
-    go : (book : List ℤ) → FirstLine book → StandsAt book (suc i) (k + suc i) l
-        → ((k : ℕ) (rest : List ℤ) → StandsAt rest i (k + i) l → List·Memᴰ l (standingFrom k rest)) → List·Memᴰ l (standingFrom k book)
-    go _ (first-line a c d e s rest) w ih = later s (ih (suc k) rest (record {
-      isThere = omega (arith, w .isThere);
-      beyond = w .beyond;
-      stands = sym (field-on a c d e s rest i standingField) ∙ w .stands;
-      its = w .its ∙ lineAt-on (k + suc i) a c d e s rest i ∙ ap (λ (x : ℕ). lineAt x rest i) n;
-    }))
-      where
-        n : k + suc i ≡ suc k + i
-        n = omega arith
-
-        later : (s : ℤ) → List·Memᴰ l (standingFrom (suc k) rest) → List·Memᴰ l (keep s (line k (natAbs a) (natAbs c) d (natAbs e)) (standingFrom (suc k) rest))
-        later (pos zero) j = j
-        later (pos (suc x)) j = List·Memᴰ·tail j
-        later (negsuc x) j = j
-
--- a standing line is a line of the book that stands, numbered from 1
-pub of-standing : (book : List ℤ) (l : Line) → List·Memᴰ l (standing book) → (i : ℕ) × StandsAt book i (suc i) l
-unfolding standing
-of-standing book l m = let w = of-standingFrom 1 book l m in (w .0, subst (λ (n : ℕ). StandsAt book (w .0) n l) (omega arith) (w .1))
-
--- and every line of the book that stands is one
-pub in-standing : (book : List ℤ) (i : ℕ) (l : Line) → StandsAt book i (suc i) l → List·Memᴰ l (standing book)
-unfolding standing
-in-standing book i l w = in-standingFrom 1 book i l (subst (λ (n : ℕ). StandsAt book i n l) (omega arith) w)
 
 -- a book whose standing lines pass their test is sound
 pub standing-sound : (b : ℕ) (book : List ℤ)
-    → ((i : ℕ) → HasLine book i → Placed b (lineAt (suc i) book i) × (natAbs (field book i fromField) ≡ natAbs (field book i toField) → ⊥) × (leastLength ≤ natAbs (field book i lengthField)))
+    → ((i : ℕ) → HasLine book i → Placed b (lineAt (suc i) book i)
+    × (natAbs (fromAt book i) ≡ natAbs (toAt book i) → ⊥) × (leastLength ≤ natAbs (lengthAt book i)))
     → Sound b (standing book)
 standing-sound b book h = record {
   placed = λ l m. let w = of-standing book l m in subst (Placed b) (sym (w .1 .its)) (h (w .0) (w .1 .isThere) .0);
   apart = λ l m. let w = of-standing book l m in subst (λ (k : Line). k .from ≡ k .to → ⊥) (sym (w .1 .its)) (h (w .0) (w .1 .isThere) .1);
-  long-enough = λ l m. let w = of-standing book l m in subst (λ (k : Line). leastLength ≤ k .length) (sym (w .1 .its)) (h (w .0) (w .1 .isThere) .2);
+  long-enough = λ l m. let w = of-standing book l m in
+      subst (λ (k : Line). leastLength ≤ k .length) (sym (w .1 .its)) (h (w .0) (w .1 .isThere) .2);
   rising = rising-standing book;
 }
+
+-- ---- a number of a line is set
+
+module _ (k : ℕ) (book : List ℤ) (f : ℕ) (z : ℤ) (inside : f < lineWords) where
+  -- of the first line: the rest stays
+  set-first : lineWords ≤ length book → standingFrom k (set book (place 0 f) z)
+      ≡ keep (standingAt (set book (place 0 f) z) 0) (lineAt k (set book (place 0 f) z) 0) (standingFrom (suc k) (drop lineWords book))
+  set-first h =
+      let there : lineWords ≤ length (set book (place 0 f) z) = simp length-set h in
+      standing-first k (set book (place 0 f) z) there ∙ rw (drop-set-lt lineWords book (place 0 f) z (omega arith))
+
+  -- of a later line: the first stays
+  set-later : (i : ℕ) → lineWords ≤ length book → standingFrom k (set book (place (suc i) f) z)
+      ≡ keep (standingAt book 0) (lineAt k book 0) (standingFrom (suc k) (set (drop lineWords book) (place i f) z))
+  set-later i h =
+      let there : lineWords ≤ length (set book (place (suc i) f) z) = simp length-set h in
+      let on : place (suc i) f ≡ lineWords + place i f = omega arith in
+      standing-first k (set book (place (suc i) f) z) there
+      ∙ rw (
+        same standingField (lit< tt),
+        same fromField (lit< tt),
+        same toField (lit< tt),
+        same differenceField (lit< tt),
+        same lengthField (lit< tt),
+      )
+      (ap (λ (ls : List ℤ). keep (standingAt book 0) (lineAt k book 0) (standingFrom (suc k) ls))
+      (ap (λ (n : ℕ). drop lineWords (set book n z)) on ∙ drop-set-add lineWords book (place i f) z))
+    where
+      same : (m : ℕ) → m < lineWords → field m (set book (place (suc i) f) z) 0 ≡ field m book 0
+      same m g = line-kept book (suc i) f z 0 (λ e. omega arith) m inside g
 
 -- ---- re-run: "sets the line's difference to the new one"
 
@@ -132,84 +73,90 @@ redone-none : (n : ℕ) (d : ℤ) (lines : List Line) → ((l : Line) → List·
 redone-none n d [] h = refl
 redone-none n d (l ∷ ls) h = ap₂ _∷_ (other-line n d l (h l (List·Memᴰ·head refl))) (redone-none n d ls (λ k i. h k (List·Memᴰ·tail i)))
 
-rerun-from : (k i : ℕ) (book : List ℤ) (d : ℤ) → HasLine book i → standingFrom k (set book (place i differenceField) d) ≡ redone (k + i) d (standingFrom k book)
-unfolding standingFrom
-rerun-from k zero book d h = go book (has-first book (omega arith))
+redone-keep : (n : ℕ) (d s : ℤ) (l : Line) (ls : List Line)
+    → redone n d (keep s l ls) ≡ keep s (measured (newDifference n d) l) (redone n d ls)
+unfolding keep
+redone-keep n d (pos zero) l ls = refl
+redone-keep n d (pos (suc x)) l ls = refl
+redone-keep n d (negsuc x) l ls = refl
+
+rerun-from : (k i : ℕ) (book : List ℤ) (d : ℤ) → HasLine book i
+    → standingFrom k (set book (place i differenceField) d) ≡ redone (k + i) d (standingFrom k book)
+rerun-from k zero book d h =
+    let first : lineWords ≤ length book = omega arith in
+    let n : k + 0 ≡ k = omega arith in
+    let rest = standingFrom (suc k) (drop lineWords book) in
+    let others : redone k d rest ≡ rest = redone-none k d rest (λ l i z. omega (arith, from-on (suc k) (drop lineWords book) l i, z)) in
+    let new = line k (natAbs (fromAt book 0)) (natAbs (toAt book 0)) d (natAbs (lengthAt book 0)) in
+    let its : measured (newDifference k d) (lineAt k book 0) ≡ new
+    = rw (eq-eqb k k refl) in
+    set-first k book differenceField d (lit< tt) first
+    ∙ rw (
+      same standingField (lit< tt) (λ e. omega arith),
+      same fromField (lit< tt) (λ e. omega arith),
+      same toField (lit< tt) (λ e. omega arith),
+      same lengthField (lit< tt) (λ e. omega arith),
+      field-set book 0 differenceField d (omega arith),
+      n,
+      standing-first k book first,
+    )
+    (sym (redone-keep k d (standingAt book 0) (lineAt k book 0) rest ∙ ap₂ (keep (standingAt book 0)) its others))
   where
-    go : (book : List ℤ) → FirstLine book → standingFrom k (set book (place 0 differenceField) d) ≡ redone (k + 0) d (standingFrom k book)
-    go _ (first-line a c old e s rest) = rw n (here s)
-      where
-        n : k + 0 ≡ k
-        n = omega arith
-
-        others : redone k d (standingFrom (suc k) rest) ≡ standingFrom (suc k) rest
-        others = redone-none k d (standingFrom (suc k) rest) (λ l i z. omega (arith, from-on (suc k) rest l i, z))
-
-        here : (s : ℤ) → keep s (line k (natAbs a) (natAbs c) d (natAbs e)) (standingFrom (suc k) rest)
-            ≡ redone k d (keep s (line k (natAbs a) (natAbs c) old (natAbs e)) (standingFrom (suc k) rest))
-        here (pos zero) = sym others
-        here (negsuc x) = sym others
-        here (pos (suc x)) = ap₂ _∷_ (ap (λ (t : Bool). line k (natAbs a) (natAbs c) (cond t d old) (natAbs e)) (sym (eq-eqb k k refl))) (sym others)
-rerun-from k (suc i) book d h = go book (has-first book (omega arith)) h (λ k book. rerun-from k i book d)
-  where
-    go : (book : List ℤ) → FirstLine book → HasLine book (suc i)
-        → ((k : ℕ) (book : List ℤ) → HasLine book i → standingFrom k (set book (place i differenceField) d) ≡ redone (k + i) d (standingFrom k book))
-        → standingFrom k (set book (place (suc i) differenceField) d) ≡ redone (k + suc i) d (standingFrom k book)
-    go _ (first-line a c old e s rest) h ih = rw (place-on i differenceField, n) (later s (ih (suc k) rest (omega arith)))
-      where
-        n : k + suc i ≡ suc k + i
-        n = omega arith
-
-        later : (s : ℤ) → standingFrom (suc k) (set rest (place i differenceField) d) ≡ redone (suc k + i) d (standingFrom (suc k) rest)
-            → keep s (line k (natAbs a) (natAbs c) old (natAbs e)) (standingFrom (suc k) (set rest (place i differenceField) d))
-            ≡ redone (suc k + i) d (keep s (line k (natAbs a) (natAbs c) old (natAbs e)) (standingFrom (suc k) rest))
-        later (pos zero) q = q
-        later (negsuc x) q = q
-        later (pos (suc x)) q = ap₂ _∷_ (sym (other-line (suc k + i) d (line k (natAbs a) (natAbs c) old (natAbs e)) (λ z. omega (arith, z)))) q
+    same : (m : ℕ) → m < lineWords → (m ≡ differenceField → ⊥) → field m (set book (place 0 differenceField) d) 0 ≡ field m book 0
+    same m g a = field-kept book 0 differenceField d m (lit< tt) g a 0
+rerun-from k (suc i) book d h =
+    let first : lineWords ≤ length book = omega arith in
+    let n : suc k + i ≡ k + suc i = omega arith in
+    let rest = standingFrom (suc k) (drop lineWords book) in
+    let its = other-line (k + suc i) d (lineAt k book 0) (λ z. omega (arith, z)) in
+    let later = rerun-from (suc k) i (drop lineWords book) d (simp length-drop (omega arith)) ∙ ap (λ (x : ℕ). redone x d rest) n in
+    set-later k book differenceField d (lit< tt) i first
+    ∙ sym (ap (redone (k + suc i) d) (standing-first k book first) ∙ redone-keep (k + suc i) d (standingAt book 0) (lineAt k book 0) rest
+    ∙ ap₂ (keep (standingAt book 0)) its (sym later))
 
 -- setting the difference of line i, from 0, re-runs the line of number i + 1
-pub rerun-sets-difference : (book : List ℤ) (i : ℕ) (d : ℤ) → HasLine book i → standing (set book (place i differenceField) d) ≡ redone (suc i) d (standing book)
+pub rerun-sets-difference : (book : List ℤ) (i : ℕ) (d : ℤ) → HasLine book i
+    → standing (set book (place i differenceField) d) ≡ redone (suc i) d (standing book)
 unfolding standing
 rerun-sets-difference book i d h = rerun-from 1 i book d h ∙ ap (λ (n : ℕ). redone n d (standingFrom 1 book)) (omega arith)
 
 -- ---- withdrawal: "its standing to 0"
 
-withdrawal-from : (k i : ℕ) (book : List ℤ) → HasLine book i → standingFrom k (set book (place i standingField) (pos 0)) ≡ without (k + i) (standingFrom k book)
-unfolding standingFrom without
-withdrawal-from k zero book h = go book (has-first book (omega arith))
-  where
-    go : (book : List ℤ) → FirstLine book → standingFrom k (set book (place 0 standingField) (pos 0)) ≡ without (k + 0) (standingFrom k book)
-    go _ (first-line a c d e s rest) = rw n (here s)
-      where
-        n : k + 0 ≡ k
-        n = omega arith
+without-here : (n : ℕ) (s : ℤ) (l : Line) (ls : List Line) → l .number ≡ n → without n (keep s l ls) ≡ without n ls
+unfolding keep without
+without-here n (pos zero) l ls e = refl
+without-here n (pos (suc x)) l ls e = rw (eq-eqb (l .number) n e)
+without-here n (negsuc x) l ls e = refl
 
-        others : without k (standingFrom (suc k) rest) ≡ standingFrom (suc k) rest
-        others = without-none k (standingFrom (suc k) rest) (λ l i z. omega (arith, from-on (suc k) rest l i, z))
+without-keep : (n : ℕ) (s : ℤ) (l : Line) (ls : List Line) → (l .number ≡ n → ⊥) → without n (keep s l ls) ≡ keep s l (without n ls)
+unfolding keep without
+without-keep n (pos zero) l ls h = refl
+without-keep n (pos (suc x)) l ls h = rw (ne-eqb (l .number) n h)
+without-keep n (negsuc x) l ls h = refl
 
-        here : (s : ℤ) → standingFrom (suc k) rest ≡ without k (keep s (line k (natAbs a) (natAbs c) d (natAbs e)) (standingFrom (suc k) rest))
-        here (pos zero) = sym others
-        here (negsuc x) = sym others
-        here (pos (suc x)) = rw (eq-eqb k k refl) (sym others)
-withdrawal-from k (suc i) book h = go book (has-first book (omega arith)) h (λ k book. withdrawal-from k i book)
-  where
-    go : (book : List ℤ) → FirstLine book → HasLine book (suc i)
-        → ((k : ℕ) (book : List ℤ) → HasLine book i → standingFrom k (set book (place i standingField) (pos 0)) ≡ without (k + i) (standingFrom k book))
-        → standingFrom k (set book (place (suc i) standingField) (pos 0)) ≡ without (k + suc i) (standingFrom k book)
-    go _ (first-line a c d e s rest) h ih = rw (place-on i standingField, n) (later s (ih (suc k) rest (omega arith)))
-      where
-        n : k + suc i ≡ suc k + i
-        n = omega arith
-
-        later : (s : ℤ) → standingFrom (suc k) (set rest (place i standingField) (pos 0)) ≡ without (suc k + i) (standingFrom (suc k) rest)
-            → keep s (line k (natAbs a) (natAbs c) d (natAbs e)) (standingFrom (suc k) (set rest (place i standingField) (pos 0)))
-            ≡ without (suc k + i) (keep s (line k (natAbs a) (natAbs c) d (natAbs e)) (standingFrom (suc k) rest))
-        later (pos zero) q = q
-        later (negsuc x) q = q
-        later (pos (suc x)) q =
-            rw (ne-eqb k (suc k + i) (λ z. omega (arith, z))) (ap (λ (ls : List Line). line k (natAbs a) (natAbs c) d (natAbs e) ∷ ls) q)
+withdrawal-from : (k i : ℕ) (book : List ℤ) → HasLine book i
+    → standingFrom k (set book (place i standingField) (pos 0)) ≡ without (k + i) (standingFrom k book)
+unfolding keep
+withdrawal-from k zero book h =
+    let first : lineWords ≤ length book = omega arith in
+    let n : k + 0 ≡ k = omega arith in
+    let rest = standingFrom (suc k) (drop lineWords book) in
+    let others : without k rest ≡ rest = without-none k rest (λ l i z. omega (arith, from-on (suc k) (drop lineWords book) l i, z)) in
+    set-first k book standingField (pos 0) (lit< tt) first
+    ∙ rw (field-set book 0 standingField (pos 0) (omega arith), n, standing-first k book first)
+    (sym (without-here k (standingAt book 0) (lineAt k book 0) rest refl ∙ others))
+withdrawal-from k (suc i) book h =
+    let first : lineWords ≤ length book = omega arith in
+    let n : suc k + i ≡ k + suc i = omega arith in
+    let rest = standingFrom (suc k) (drop lineWords book) in
+    let later = withdrawal-from (suc k) i (drop lineWords book) (simp length-drop (omega arith)) ∙ ap (λ (x : ℕ). without x rest) n in
+    set-later k book standingField (pos 0) (lit< tt) i first
+    ∙ sym (ap (without (k + suc i)) (standing-first k book first)
+    ∙ without-keep (k + suc i) (standingAt book 0) (lineAt k book 0) rest (λ z. omega (arith, z))
+    ∙ ap (keep (standingAt book 0) (lineAt k book 0)) (sym later))
 
 -- setting the standing of line i, from 0, to 0 withdraws the line of number i + 1
-pub withdrawal-sets-standing : (book : List ℤ) (i : ℕ) → HasLine book i → standing (set book (place i standingField) (pos 0)) ≡ without (suc i) (standing book)
+pub withdrawal-sets-standing : (book : List ℤ) (i : ℕ) → HasLine book i
+    → standing (set book (place i standingField) (pos 0)) ≡ without (suc i) (standing book)
 unfolding standing
 withdrawal-sets-standing book i h = withdrawal-from 1 i book h ∙ ap (λ (n : ℕ). without n (standingFrom 1 book)) (omega arith)

@@ -1,12 +1,13 @@
 -- The lent book is drawn: of each half of its standing lines what ends has, and their chains. Assumes nothing.
-use Prim.Native.Nat.{ℕ, _+_, _*_, _-_, _/_, _≤_, _<_}
+use Prim.Native.Nat.{ℕ, _+_, _*_, _-_, _≤_, _<_}
 use mathlib.Core.Path.{_≡_}
 use mathlib.Core.Bool.{true, false}
 use mathlib.Core.List.{List}
 use lib.IntN.{ℤ, pos, natAbs}
-use lib.ListN.{length, getD, set}
+use lib.ListN.{length, set}
 use Rattle.network.specs.Standing.{standing}
 use Rattle.laws.specs.Tests.{eqZ}
+use Rattle.book.specs.Line.{lineWords, fromField, toField, field, lengthAt, standingAt, lineCount}
 use Rattle.book.specs.Good.{GoodLine}
 use Rattle.chains.specs.Chains.{Bounded, Heads, Given, halves, numberLimit}
 use Rattle.chains.specs.Link.{RoomChains, Joined}
@@ -14,7 +15,7 @@ use Rattle.chains.specs.Listed.{Listed}
 
 -- one entry e, the line of this number
 pub record Entry (n number : ℕ) (e : List ℤ) (ends head next : List ℕ) : Type 0 where
-  pub whole : length e ≡ 5
+  pub whole : length e ≡ lineWords
   pub some-mark : 0 < n
   pub few-marks : n ≤ halves
   pub good : GoodLine (n - 1) e 0
@@ -22,22 +23,22 @@ pub record Entry (n number : ℕ) (e : List ℤ) (ends head next : List ℕ) : T
   pub ends-at : halves ≤ length ends
   pub chains : RoomChains n head next
 
--- what an entry says of its half to the end at this place of the entry: length and mark
+-- what an entry says of its half to the end in field k: length and mark
 abbrev pub endOf : List ℤ → ℕ → ℕ
-endOf e place = natAbs (getD e 3 (pos 0)) * halves + natAbs (getD e place (pos 0))
+endOf e k = natAbs (lengthAt e 0) * halves + natAbs (field k e 0)
 
 pub data Drew (number : ℕ) (e : List ℤ) (ends head next ends′ head′ next′ : List ℕ) : Type 0 where
-  withdrawn : eqZ (getD e 4 (pos 0)) (pos 0) ≡ true → ends′ ≡ ends → head′ ≡ head → next′ ≡ next
+  withdrawn : eqZ (standingAt e 0) (pos 0) ≡ true → ends′ ≡ ends → head′ ≡ head → next′ ≡ next
       → Drew number e ends head next ends′ head′ next′
-  drawn : eqZ (getD e 4 (pos 0)) (pos 0) ≡ false → ends′ ≡ set (set ends (number * 2) (endOf e 1)) (number * 2 + 1) (endOf e 0)
+  drawn : eqZ (standingAt e 0) (pos 0) ≡ false → ends′ ≡ set (set ends (number * 2) (endOf e toField)) (number * 2 + 1) (endOf e fromField)
       → Joined ends′ head next head′ next′ number → Drew number e ends head next ends′ head′ next′
 
 -- lines of a book of n - 1 marks, each good, and room to draw them
 pub record Sheet (n : ℕ) (ls : List ℤ) (ends head next : List ℕ) : Type 0 where
   pub some-mark : 0 < n
   pub few-marks : n ≤ halves
-  pub few : length ls / 5 + 1 < numberLimit
-  pub good : (i : ℕ) → i < length ls / 5 → GoodLine (n - 1) ls i
+  pub few : lineCount ls + 1 < numberLimit
+  pub good : (i : ℕ) → i < lineCount ls → GoodLine (n - 1) ls i
   pub ends-at : halves ≤ length ends
   pub chains : RoomChains n head next
 
@@ -45,5 +46,5 @@ pub record Sheet (n : ℕ) (ls : List ℤ) (ends head next : List ℕ) : Type 0 
 pub record BookDrawn (n : ℕ) (ls : List ℤ) (ends head next : List ℕ) : Type 0 where
   pub bounded : Bounded n ends
   pub heads : Heads n head next
-  pub listed : Listed (standing ls) n (length ls / 5 + 1) ends
+  pub listed : Listed (standing ls) n (lineCount ls + 1) ends
   pub given : Given (standing ls) n head next ends

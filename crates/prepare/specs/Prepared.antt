@@ -1,12 +1,13 @@
 -- The book drawn and its tree planted.
 -- Assumes nothing.
-use Prim.Native.Nat.{ℕ, _+_, _*_, _-_, _/_, _≤_, _<_}
+use Prim.Native.Nat.{ℕ, _+_, _*_, _-_, _≤_, _<_}
 use mathlib.Core.List.{List}
 use lib.IntN.{ℤ}
 use lib.ListN.{length}
 use Rattle.network.specs.Standing.{standing}
 use Rattle.network.specs.Tree.{tree}
 use Rattle.nearest.specs.Heap.{leafLimit}
+use Rattle.book.specs.Line.{lineCount}
 use Rattle.book.specs.Good.{GoodLine}
 use Rattle.chains.specs.Chains.{Bounded, halves}
 use Rattle.chains.specs.Link.{RoomChains}
@@ -17,8 +18,8 @@ use Rattle.tree.specs.Plant.{Holding, Below}
 pub record Good (n : ℕ) (ls : List ℤ) : Type 0 where
   pub some-mark : 0 < n
   pub few-marks : n ≤ leafLimit
-  pub few-lines : length ls / 5 + 1 ≤ leafLimit
-  pub good : (i : ℕ) → i < length ls / 5 → GoodLine (n - 1) ls i
+  pub few-lines : lineCount ls + 1 ≤ leafLimit
+  pub good : (i : ℕ) → i < lineCount ls → GoodLine (n - 1) ls i
 
 -- room for the network
 pub record RoomNet (n : ℕ) (ends head next : List ℕ) : Type 0 where
@@ -34,6 +35,6 @@ pub record RoomPlant (n : ℕ) (best seg order : List ℕ) : Type 0 where
 -- ends and the tree of the standing lines
 pub record BookPlanted (n : ℕ) (ls : List ℤ) (ends best order : List ℕ) : Type 0 where
   pub bounded : Bounded n ends
-  pub listed : Listed (standing ls) n (length ls / 5 + 1) ends
+  pub listed : Listed (standing ls) n (lineCount ls + 1) ends
   pub holding : Holding (tree (n - 1) (standing ls)) best order ends
   pub below : Below n order

@@ -16,12 +16,12 @@ fn draw_line(
     ensures { λ _. ⌜ Drew number (now (e .entry)) (now (ends .entry)) (now (head .entry)) (now (next .entry)) (now (ends .exit))
         (now (head .exit)) (now (next .exit)) ⌝ }
 {
-    if signed::same(e[4], 0) {
+    if signed::same(e[Line::STANDING], 0) {
         return;
     }
-    let from = signed::index(e[0]) as u64;
-    let to = signed::index(e[1]) as u64;
-    let length = signed::index(e[3]) as u64;
+    let from = signed::index(e[Line::FROM]) as u64;
+    let to = signed::index(e[Line::TO]) as u64;
+    let length = signed::index(e[Line::LENGTH]) as u64;
     ends[number * 2] = length * chains::HALVES + to;
     ends[number * 2 + 1] = length * chains::HALVES + from;
     chains::join(ends, head, next, n, number);

@@ -14,7 +14,7 @@ use Rattle.book.specs.declared.Book.{Book}
 use Rattle.network.specs.Standing.{Line, standing}
 use Rattle.network.specs.Codes.{codeOf, codes}
 use Rattle.network.specs.Walk.{Pass, wayLength}
-use Rattle.network.proofs.Corrected.{of-standing}
+use Rattle.network.proofs.Standing.{of-standing}
 use Rattle.loops.specs.Loops.{Loop, loops}
 use Rattle.loops.specs.Row.{signed, misclosure, within, verdict, closingNumber, row}
 use Rattle.loops.specs.Report.{loopsOf}

@@ -3,16 +3,18 @@
 use Prim.Native.Nat.{ℕ, zero, suc, _+_, _*_, _/_, _%_, _≤_, _<_, zero-le}
 use native.Mathlib.Omega.{arith}
 use mathlib.Core.Path.{_≡_, refl, sym, _∙_, ap, subst}
-use mathlib.Core.List.{List, [], _∷_}
+use mathlib.Core.List.{List, _∷_}
 use mathlib.Core.Bool.{Bool, true, false}
 use lib.Dec.{eqb}
-use lib.ListN.{length, getD, drop, length-set, drop-of-length-le}
+use lib.ListN.{length, getD, length-set}
 use lib.IntN.{ℤ, pos, natAbs, negℤ}
 use borrow.Author.Tests.{eqb-true, eqb-false, eq-eqb, ne-eqb}
 use Rattle.laws.specs.Tests.{eqZ}
 use Rattle.book.specs.Line.{fromAt, toAt, differenceAt, lengthAt, standingAt}
-use Rattle.network.specs.Standing.{standingFrom, standing}
-use Rattle.fields.specs.Places.{standsFrom, Place, Lines}
+use Rattle.network.specs.Standing.{standing}
+use Rattle.network.specs.Field.{standsFrom}
+use Rattle.network.proofs.Standing.{stands-none}
+use Rattle.fields.specs.Places.{Place, Lines}
 use Rattle.divisions.specs.Weight.{weightOf}
 use Rattle.sights.specs.Sights.{sight, sightsOf}
 use Rattle.sights.specs.Chains.{sightAt, chained, chain, Nodes, Heads, Pushed, Linked, Room, Empty}
@@ -98,16 +100,13 @@ module _ (lines : List ℤ) where
       holds = λ v h. rw (stands-here lines i (at .whole) (at .good .standing) stands) (holds₂ v h);
     }
 
-  past : {b : ℕ} (n : ℕ) → Lines lines b n → length lines ≤ 5 * n
-  past n good = omega (arith, good .whole)
-
   -- before the first line, and after the last
   pub linked-none : (b n : ℕ) (head next half : List ℕ) → Lines lines b n → Empty head b → Linked lines head next half b n 0 (standsFrom lines n)
-  unfolding standingFrom chained sightsOf
+  unfolding chained sightsOf
   linked-none b n head next half good empty = record {
     nodes = record { nexts = zero-le; halves = zero-le; falls = λ j l. absurd (omega arith); names = λ j l. absurd (omega arith) };
     heads = record { heads = empty .heads; low = λ v l. omega (arith, empty .none v l) };
-    holds = λ v l. let e : drop (5 * n) lines ≡ [] = drop-of-length-le lines (past n good) in rw (empty .none v l, e);
+    holds = λ v l. rw (empty .none v l, stands-none lines n (omega (arith, good .whole)));
   }
 
   pub linked-all : (b n c i : ℕ) (head next half : List ℕ) → i ≤ 0 → Linked lines head next half b n c (standsFrom lines i) → Linked lines head next half b n c (standing lines)

@@ -1,20 +1,22 @@
 -- The arrays of the start hold what the definitions say: places in the tree, heights of roots, pieces without a held mark.
 -- Assumes nothing.
-use Prim.Native.Nat.{ℕ, zero, suc, _+_, _*_, _≤_, _<_}
+use Prim.Native.Nat.{ℕ, zero, suc, _+_, _≤_, _<_}
 use native.Mathlib.Omega.{arith}
 use mathlib.Core.Path.{_≡_, refl, sym, _∙_, ap, subst}
 use mathlib.Core.Bool.{Bool, true, false, cond}
 use mathlib.Core.List.{List, [], _∷_, List·Memᴰ, List·Memᴰ·head, List·Memᴰ·tail, List·Memᴰ·not-nil}
 use mathlib.Core.Option.{Option, none, some}
 use lib.Dec.{eqb}
-use lib.ListN.{length, getD, drop, drop-of-length-le}
+use lib.ListN.{length, getD}
 use lib.IntN.{ℤ, pos, natAbs, _-ℤ_}
 use Rattle.laws.specs.Tests.{eqZ}
 use Rattle.laws.specs.Scan.{firstFrom, firstBad}
 use Rattle.book.specs.Line.{fromAt, toAt, differenceAt, standingAt}
-use Rattle.network.specs.Standing.{Line, standingFrom, standing}
+use Rattle.network.specs.Standing.{Line, standing}
+use Rattle.network.specs.Field.{HasLine, standsFrom}
 use Rattle.network.specs.Tree.{Entry, Tree}
-use Rattle.fields.specs.Places.{standsFrom, Lines}
+use Rattle.network.proofs.Standing.{stands-none}
+use Rattle.fields.specs.Places.{Lines}
 use Rattle.start.specs.Start.{Rooted, up, down, enters, rootedBy, rootHeight}
 use Rattle.start.specs.Along.{Entered, none-yet, by-root, by-line, sideOf, cameIn, rooting}
 use Rattle.fields.proofs.Stands.{lineHere, stands-not, stands-here}
@@ -28,11 +30,8 @@ pub record Named (lines : List ℤ) (n : ℕ) (l : Line) : Type 0 where
 
 module _ (lines : List ℤ) (b n : ℕ) (good : Lines lines b n) where
   named-from : (k i : ℕ) → i + k ≡ n → (l : Line) → List·Memᴰ l (standsFrom lines i) → Named lines n l
-  unfolding standingFrom
   named-from zero i e l m =
-      let p : length lines ≤ 5 * i = omega (arith, good .whole) in
-      let d : drop (5 * i) lines ≡ [] = drop-of-length-le lines p in
-      absurd (List·Memᴰ·not-nil (subst (λ (x : List ℤ). List·Memᴰ l (standingFrom (suc i) x)) d m))
+      absurd (List·Memᴰ·not-nil (rw (stands-none lines i (omega (arith, good .whole))) at m))
   named-from (suc k) i e l m =
       by (omega (arith, good .whole)) (λ r. named-from k (i + 1) (omega arith) l r) (eqZ (standingAt lines i) (pos 0)) refl
     where
@@ -40,7 +39,8 @@ module _ (lines : List ℤ) (b n : ℕ) (good : Lines lines b n) where
       there (List·Memᴰ·head q) rest = record { place = i; inside = omega arith; is = q }
       there (List·Memᴰ·tail q) rest = rest q
 
-      by : i * 5 + 5 ≤ length lines → (List·Memᴰ l (standsFrom lines (i + 1)) → Named lines n l) → (t : Bool) → eqZ (standingAt lines i) (pos 0) ≡ t → Named lines n l
+      by : HasLine lines i → (List·Memᴰ l (standsFrom lines (i + 1)) → Named lines n l) → (t : Bool) → eqZ (standingAt lines i) (pos 0) ≡ t
+          → Named lines n l
       by w rest true t = rest (subst (λ (ls : List Line). List·Memᴰ l ls) (sym (stands-not lines i w t)) m)
       by w rest false t = there (subst (λ (ls : List Line). List·Memᴰ l ls) (stands-here lines i w (good .each i (omega arith) .standing) t) m) rest
 

@@ -19,7 +19,8 @@ use Rattle.book.specs.Good.{GoodLine}
 use Rattle.book.specs.declared.Book.{Book}
 use Rattle.network.specs.Standing.{standing}
 use Rattle.network.specs.Field.{HasLine, lineAt}
-use Rattle.network.proofs.Corrected.{in-standing, withdrawal-sets-standing}
+use Rattle.network.proofs.Standing.{in-standing}
+use Rattle.network.proofs.Corrected.{withdrawal-sets-standing}
 use Rattle.loops.proofs.Withdrawal.{loops-never-grow}
 use Rattle.book.specs.Good.{GoodLines}
 use Rattle.survey.specs.Stands.{Stands}

@@ -7,7 +7,7 @@ use lib.IntN.{ℤ}
 use lib.ListN.{length, length-map}
 use Rattle.book.specs.declared.Book.{Book}
 use Rattle.network.specs.Standing.{Line, standing}
-use Rattle.network.specs.Field.{differenceField}
+use Rattle.book.specs.Line.{differenceField}
 use Rattle.network.specs.Redone.{newDifference, redone, redonePass}
 use Rattle.network.specs.Tree.{tree, pieces}
 use Rattle.network.proofs.Corrected.{rerun-sets-difference}

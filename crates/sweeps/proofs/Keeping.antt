@@ -16,7 +16,7 @@ use Rattle.sights.specs.Sights.{Sight}
 use Rattle.sweeps.specs.Sweeps.{moveOf, Swept, still, moved, placed, visited, hasMoved, visit, sweep, Settled, onward, settleFrom}
 use Rattle.sweeps.specs.Squares.{moveMark}
 use Rattle.sweeps.specs.Kept.{Kept, KeptTo}
-use Rattle.fields.proofs.Stands.{eqZ-zero}
+use Rattle.laws.proofs.Inside.{eqZ-true}
 
 module _ (P : List ℤ → Type 0) where
   placed-kept : (o s : Bool) (m : ℕ) (z : ℤ) (hs : List ℤ) → (o ≡ false → P (setHeight hs m z)) → Kept P (placed o s m z hs)
@@ -98,7 +98,7 @@ module _ (sights : ℕ → List Sight) (isHeld : ℕ → Bool) where
       let d = moveOf (sights m) gs m in
       placed-still (λ fs. Quiet hs fs m) (workHeightOut (height gs m +ℤ d)) (eqZ d (pos 0)) m (height gs m +ℤ d) gs
       (λ e.
-      let z : d ≡ pos 0 = eqZ-zero d e in
+      let z : d ≡ pos 0 = eqZ-true d (pos 0) e in
       let s : setHeight gs m (height gs m +ℤ d) ≡ gs = rw (z, +ℤ-idr) (set-getD gs (m - 1) (pos 0)) in
       rw s (quiet-more hs gs k q (λ _. subst (λ (x : List ℤ). moveOf (sights m) x m ≡ pos 0) (q .same) z)))
 

@@ -1,12 +1,14 @@
 -- A good book and room for the work give what each step asks for, and the steps give the table of its loops. Assumes nothing.
-use Prim.Native.Nat.{ℕ, suc, _+_, _*_, _-_, _/_, _≤_, _<_}
+use Prim.Native.Nat.{ℕ, suc, _+_, _*_, _-_, _≤_, _<_}
 use native.Mathlib.Omega.{arith}
 use mathlib.Core.Path.{_≡_, refl, sym, _∙_, ap, ap₂, subst}
 use mathlib.Core.List.{List, [], _∷_, _++_}
 use lib.IntN.{ℤ}
 use lib.ListN.{length, length-append}
+use Rattle.book.specs.Line.{lineCount}
 use Rattle.book.specs.Good.{GoodLine, GoodLines}
 use Rattle.book.specs.declared.Book.{Book}
+use Rattle.book.proofs.Places.{count-of}
 use Rattle.network.specs.Standing.{standing}
 use Rattle.network.specs.Tree.{tree, pieces}
 use Rattle.loops.specs.Loops.{Loop, loops}
@@ -14,7 +16,8 @@ use Rattle.loops.specs.LinesInAll.{linesInAll, mostLinesInAll}
 use Rattle.loops.specs.Report.{loopsOf, piecesOf}
 use Rattle.loops.specs.Table.{runsOf, Table}
 use Rattle.loops.proofs.LinesInAll.{lines-in-all-at-most}
-use Rattle.loops.proofs.Sounding.{lines-sound, few-standing, few-loops}
+use Rattle.network.proofs.Standing.{few-standing}
+use Rattle.loops.proofs.Sounding.{lines-sound, few-loops}
 use Rattle.loops.proofs.Table.{codes-length}
 use Rattle.network.specs.Codes.{codes}
 use Rattle.chains.specs.Listed.{Listed}
@@ -31,8 +34,8 @@ runs-length (lp ∷ ls) = length-append (codes lp) (runsOf ls) ∙ ap₂ (λ (a 
 
 module _ (k : Book) (ls : List ℤ) (g : GoodLines k ls) where
   -- the count of lines, by the slice and by the book
-  lines-are : length ls / 5 ≡ k .lines
-  lines-are = omega (arith, g .whole)
+  lines-are : lineCount ls ≡ k .lines
+  lines-are = count-of ls (k .lines) (g .whole)
 
   marks-are : k .marks + 1 - 1 ≡ k .marks
   marks-are = omega arith

@@ -1,6 +1,7 @@
-use Prim.Native.Nat.{_≤_, _/_}
+use Prim.Native.Nat.{_≤_}
 use mathlib.Core.Path.{_≡_, refl}
 use lib.ListN.{length}
+use Rattle.book.specs.Line.{lineCount}
 use Rattle.prepare.proofs.Drawing.{DrawingAt, draw-start, entry-asked, draw-turn, draw-end}
 use native.Mathlib.Omega.{arith}
 use Rattle.prepare.proofs.draw_book.Statement.{statement}
@@ -8,7 +9,8 @@ use Rattle.prepare.proofs.draw_book.Tie as tie
 
 abbrev Inv-loop : tie.InvT-loop
 Inv-loop lines ends₀ head₀ next₀ n j₀ ends head next j =
-    (j ≤ length lines / 5) × (length ends ≡ length ends₀) × (length head ≡ length head₀) × (length next ≡ length next₀) × DrawingAt n lines j ends head next
+    (j ≤ lineCount lines) × (length ends ≡ length ends₀) × (length head ≡ length head₀) × (length next ≡ length next₀)
+    × DrawingAt n lines j ends head next
 
 abbrev μ-loop : tie.MeasureT-loop
 μ-loop lines ends₀ head₀ next₀ n j₀ ends head next j = j

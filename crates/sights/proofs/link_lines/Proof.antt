@@ -1,7 +1,7 @@
 use mathlib.Core.Path.{_≡_, refl, _∙_}
 use Prim.Native.Nat.{_+_, _-_, _*_, _≤_}
 use native.Mathlib.Omega.{arith}
-use Rattle.fields.specs.Places.{standsFrom}
+use Rattle.network.specs.Field.{standsFrom}
 use Rattle.sights.specs.Chains.{Linked}
 use Rattle.fields.proofs.Stands.{place-of}
 use Rattle.sights.proofs.Linking.{linked-none, linked-all}
