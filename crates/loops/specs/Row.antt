@@ -61,6 +61,22 @@ closingNumber (p ∷ ps) = p .line .number
 abbrev pub rowWords : ℕ
 rowWords = 5
 
+-- which of them is which
+abbrev pub rowClosing : ℕ
+rowClosing = 0
+
+abbrev pub rowCount : ℕ
+rowCount = 1
+
+abbrev pub rowLength : ℕ
+rowLength = 2
+
+abbrev pub rowMisclosure : ℕ
+rowMisclosure = 3
+
+abbrev pub rowVerdict : ℕ
+rowVerdict = 4
+
 -- "A report row is five numbers: closing line, count of lines, length, misclosure, verdict"
 unfoldable pub row : ℕ → Loop → List ℤ
 unfolding wayLength misclosure verdict

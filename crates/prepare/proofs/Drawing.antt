@@ -77,7 +77,8 @@ module _ (n : ℕ) (ls : List ℤ) where
   -- ---- one line more
 
   module _ (j : ℕ) (ends head next ends′ head′ next′ : List ℕ) (lt : suc j ≤ lineCount ls) (few : lineCount ls + 1 < numberLimit)
-      (few-marks : n ≤ halves) (pos-n : 0 < n) (room : RoomChains n head next) (good : GoodLine (n - 1) ls j) (d : DrawingAt (suc j) ends head next) where
+      (few-marks : n ≤ halves) (pos-n : 0 < n) (room : RoomChains n head next)
+      (good : GoodLine (n - 1) ls j) (d : DrawingAt (suc j) ends head next) where
     abbrev e : List ℤ
     e = entryAt ls j
 

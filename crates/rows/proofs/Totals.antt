@@ -15,6 +15,7 @@ use Rattle.laws.proofs.Size.{size-neg}
 use Rattle.laws.proofs.Lists.{filled}
 use Rattle.book.specs.Limits.{mostMarks, mostDifference, mostLength, mostTolerance}
 use Rattle.book.specs.Line.{lineCount, differenceAt}
+use Rattle.loops.specs.Row.{rowWords, rowClosing, rowCount, rowLength, rowMisclosure, rowVerdict}
 use Rattle.rows.specs.Sums.{lineOf, lengthBy, riseBy, lengthOf, riseOf, verdictOf, rowOf, Measured, Runs, squareLimit}
 
 module _ (ls : List ℤ) (run : List ℕ) where
@@ -88,11 +89,11 @@ pub verdict-over : (t : ℕ) (m : ℤ) (len size : ℕ) → size ≡ natAbs m �
 unfolding verdictOf
 verdict-over t m len size e h = rw (← e, lt-leb (size * size) (10 * (t * t * len)) h)
 
--- ---- five numbers stored
+-- ---- the numbers of a row, stored
 
-pub five : (out : List ℤ) {a b c d e a′ b′ c′ d′ e′ : ℤ} → length out ≡ 5 → a ≡ a′ → b ≡ b′ → c ≡ c′ → d ≡ d′ → e ≡ e′
-    → set (set (set (set (set out 0 a) 1 b) 2 c) 3 d) 4 e ≡ a′ ∷ b′ ∷ c′ ∷ d′ ∷ e′ ∷ []
-five out {a} {b} {c} {d} {e} h p q r s t = filled (a ∷ b ∷ c ∷ d ∷ e ∷ []) out h ∙ rw (p, q, r, s, t)
+pub row-stored : (out : List ℤ) {a b c d e a′ b′ c′ d′ e′ : ℤ} → length out ≡ rowWords → a ≡ a′ → b ≡ b′ → c ≡ c′ → d ≡ d′ → e ≡ e′
+    → set (set (set (set (set out rowClosing a) rowCount b) rowLength c) rowMisclosure d) rowVerdict e ≡ a′ ∷ b′ ∷ c′ ∷ d′ ∷ e′ ∷ []
+row-stored out {a} {b} {c} {d} {e} h p q r s t = filled (a ∷ b ∷ c ∷ d ∷ e ∷ []) out h ∙ rw (p, q, r, s, t)
 
 -- ---- a row by its sums
 

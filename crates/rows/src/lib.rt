@@ -13,8 +13,18 @@ ghost use Rattle.rows.specs.Sums.{lengthBy, riseBy, lengthOf, riseOf, ve
 use book::Book;
 use book::line::Line;
 
-// "A report row is five numbers": of one row, and of the report of any book.
+// "A report row is five numbers": how many, which is which, and how many the report of any book has.
 pub const ROW_WORDS: usize = 5;
+
+pub const ROW_CLOSING: usize = 0;
+
+pub const ROW_COUNT: usize = 1;
+
+pub const ROW_LENGTH: usize = 2;
+
+pub const ROW_MISCLOSURE: usize = 3;
+
+pub const ROW_VERDICT: usize = 4;
 
 pub const ROWS_WORDS: usize = Book::MAX_LINES * ROW_WORDS;
 
@@ -84,7 +94,7 @@ fn verdict(misclosure: i64, t: usize, metres: usize) -> i64
     1
 }
 
-// The five numbers of a row.
+// The numbers of a row.
 fn write_row(
     out: &mut [i64],
     number: usize,
@@ -96,11 +106,11 @@ fn write_row(
     requires { ⌜ length (now out) ≡ rowWords ⌝ ∗ ⌜ (number < 2 ^ 63) × (count < 2 ^ 63) × (metres < 2 ^ 63) ⌝ }
     ensures { λ _. ⌜ now (out .exit) ≡ pos number ∷ pos count ∷ pos metres ∷ misclosure ∷ verdict ∷ [] ⌝ }
 {
-    out[0] = signed::signed_count(number);
-    out[1] = signed::signed_count(count);
-    out[2] = signed::signed_count(metres);
-    out[3] = misclosure;
-    out[4] = verdict;
+    out[ROW_CLOSING] = signed::signed_count(number);
+    out[ROW_COUNT] = signed::signed_count(count);
+    out[ROW_LENGTH] = signed::signed_count(metres);
+    out[ROW_MISCLOSURE] = misclosure;
+    out[ROW_VERDICT] = verdict;
 }
 
 // The row of the loop with this run, at the tolerance t.

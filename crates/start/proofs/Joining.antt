@@ -40,7 +40,8 @@ module _ (lines : List ℤ) (b n : ℕ) (good : Lines lines b n) where
       there (List·Memᴰ·head q) rest = record { place = i; inside = omega arith; is = q }
       there (List·Memᴰ·tail q) rest = rest q
 
-      by : HasLine lines i → (List·Memᴰ l (standsFrom lines (i + 1)) → Named lines n l) → (t : Bool) → eqZ (standingAt lines i) (pos 0) ≡ t → Named lines n l
+      by : HasLine lines i → (List·Memᴰ l (standsFrom lines (i + 1)) → Named lines n l) → (t : Bool) → eqZ (standingAt lines i) (pos 0) ≡ t
+          → Named lines n l
       by w rest true t = rest (subst (λ (ls : List Line). List·Memᴰ l ls) (sym (stands-not lines i w t)) m)
       by w rest false t = there (subst (λ (ls : List Line). List·Memᴰ l ls) (stands-here lines i w (good .each i (omega arith) .standing) t) m) rest
 

@@ -9,7 +9,8 @@ use Rattle.prepare.proofs.draw_book.Tie as tie
 
 abbrev Inv-loop : tie.InvT-loop
 Inv-loop lines ends₀ head₀ next₀ n j₀ ends head next j =
-    (j ≤ lineCount lines) × (length ends ≡ length ends₀) × (length head ≡ length head₀) × (length next ≡ length next₀) × DrawingAt n lines j ends head next
+    (j ≤ lineCount lines) × (length ends ≡ length ends₀) × (length head ≡ length head₀) × (length next ≡ length next₀)
+    × DrawingAt n lines j ends head next
 
 abbrev μ-loop : tie.MeasureT-loop
 μ-loop lines ends₀ head₀ next₀ n j₀ ends head next j = j

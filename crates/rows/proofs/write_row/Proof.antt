@@ -2,7 +2,7 @@ use mir.Facts.{toZ-ofZ}
 use native.Mathlib.Omega.{arith}
 use lib.ListN.{length-set}
 use Rattle.laws.proofs.Signed.{stored}
-use Rattle.rows.proofs.Totals.{five}
+use Rattle.rows.proofs.Totals.{row-stored}
 use borrow.Author.Needs.{needs}
 use Rattle.rows.proofs.write_row.Statement.{statement}
 use Rattle.rows.proofs.write_row.Tie as tie
@@ -35,7 +35,12 @@ same-length : tie.Need-same-length
 same-length c = search needs
 
 returns : tie.Need-returns
-returns c = five (c .before .before .before .args .out .now) (c .before .before .before .pre .0) (stored _ (c .before .before .signed-count .ok) (c .before .before .signed-count .ensures)) (stored _ (c .before .signed-count2 .ok) (c .before .signed-count2 .ensures)) (stored _ (c .signed-count3 .ok) (c .signed-count3 .ensures)) (toZ-ofZ (c .before .before .before .fits .misclosure)) (toZ-ofZ (c .before .before .before .fits .verdict))
+returns c =
+    let entry : tie.Start = search in
+    let first = c .before .before .signed-count in
+    let second = c .before .signed-count2 in
+    row-stored (entry .args .out .now) (entry .pre .0) (stored _ (first .ok) (first .ensures)) (stored _ (second .ok) (second .ensures))
+    (stored _ (c .signed-count3 .ok) (c .signed-count3 .ensures)) (toZ-ofZ (entry .fits .misclosure)) (toZ-ofZ (entry .fits .verdict))
 
 pub write-row-spec : {M : Type 1} → statement M
 write-row-spec =
