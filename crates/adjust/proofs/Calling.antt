@@ -6,6 +6,7 @@ use mathlib.Core.List.{List, _++_}
 use lib.ListN.{length, drop}
 use lib.IntN.{ℤ}
 use borrow.Author.Tests.{lt-ltb, le-ltb}
+use Rattle.book.specs.Lent.{Lent}
 use Rattle.book.specs.Good.{GoodBook}
 use Rattle.book.specs.declared.Book.{Book}
 use Rattle.adjust.specs.Adjusted.{Outcome, done, refused, adjustment}
@@ -14,8 +15,8 @@ use Rattle.adjust.specs.Call.{adjusted, givenBy, adjustGood, GoodEntries
 use Rattle.adjust.specs.declared.Adjusted.{Adjusted}
 
 -- a tested book has good entries
-pub good-entries : (k : Book) (b t : ℤ) (held lines : List ℤ) → GoodBook k b t held lines → GoodEntries k held lines
-good-entries k b t held lines g = record {
+pub good-entries : (k : Book) (book : Lent) → GoodBook k book → GoodEntries k (book .held) (book .lines)
+good-entries k book g = record {
   some-mark = g .a-mark;
   few = g .few-marks;
   lines-good = record { few = g .few-lines; whole = g .whole-lines; each = g .each-line };

@@ -7,6 +7,7 @@ use lib.Dec.{ltb}
 use lib.ListN.{length, drop}
 use lib.IntN.{ℤ}
 use Rattle.book.specs.Limits.{mostMarks}
+use Rattle.book.specs.Lent.{Lent}
 use Rattle.book.specs.Test.{testOf}
 use Rattle.book.specs.declared.Book.{Book}
 use Rattle.book.specs.declared.Tested.{Tested}
@@ -40,9 +41,9 @@ unfolding adjustGood
 adjustTested held lines out (Refused r) = adjusted (answer (r .number) (r .place) 0) out
 adjustTested held lines out (Good k) = adjustGood k held lines out
 
-unfoldable pub adjustOf : ℤ → ℤ → List ℤ → List ℤ → List ℤ → Given
+unfoldable pub adjustOf : Lent → List ℤ → Given
 unfolding adjustTested testOf
-adjustOf b t held lines out = adjustTested held lines out (testOf b t held lines)
+adjustOf book out = adjustTested (book .held) (book .lines) out (testOf book)
 
 -- What the adjustment uses of a tested book: its counts, and that every held entry and every line is good
 pub record GoodEntries (k : Book) (held lines : List ℤ) : Type 0 where

@@ -2,3 +2,4 @@ pub mod Made
 pub mod Lines
 pub mod Goods
 pub mod Passing
+pub mod IfGood

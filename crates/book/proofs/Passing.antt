@@ -12,6 +12,7 @@ use Rattle.book.specs.Limits.{leastMarks, mostMarks, leastLines, mostLin
 use Rattle.book.specs.Height.{heldHeightOut}
 use Rattle.book.specs.Held.{markAt, heightAt, heldOut, heldBefore, heldBad, firstBadHeld}
 use Rattle.book.specs.Line.{fromAt, toAt, differenceAt, lengthAt, standingAt, lineAt, differenceOut, lineFault, lineOf, entryOf, lineBad, firstBadLine}
+use Rattle.book.specs.Lent.{Lent}
 use Rattle.book.specs.Test.{bookOut, torn, testOf}
 use Rattle.book.specs.Good.{GoodLine, GoodHeld, GoodBook}
 use Rattle.book.specs.declared.Book.{Book}
@@ -34,12 +35,12 @@ held-passes b held i g =
     rw (between-inside (g .mark), size-inside mostHeldHeight (heightAt held i) (g .height), none-any (λ j. eqZ (markAt held j) (markAt held i)) i (λ j l. apart-eqZ (markAt held j) (markAt held i) (g .once j l)))
 
 -- a book inside every limit passes the test
-pub good-passes : (k : Book) (b t : ℤ) (held lines : List ℤ) → GoodBook k b t held lines → testOf b t held lines ≡ Good k
+pub good-passes : (k : Book) (book : Lent) → GoodBook k book → testOf book ≡ Good k
 unfolding testOf torn bookOut outN firstBadHeld firstBadLine
-good-passes k b t held lines g =
+good-passes k book g =
     rw (
-      eq-eqb (length held % 2) 0 (omega (arith, g .whole-held)),
-      eq-eqb (length lines % 5) 0 (omega (arith, g .whole-lines)),
+      eq-eqb (length (book .held) % 2) 0 (omega (arith, g .whole-held)),
+      eq-eqb (length (book .lines) % 5) 0 (omega (arith, g .whole-lines)),
       h,
       n,
       g .marks,
@@ -50,14 +51,14 @@ good-passes k b t held lines g =
       le-ltb mostHeld (k .held) (g .few-held),
       le-ltb (k .lines) leastLines (omega arith),
       le-ltb mostLines (k .lines) (g .few-lines),
-      none-first (heldBad (pos (k .marks)) held) (k .held) (λ i l. held-passes (k .marks) held i (g .each-held i l)),
-      none-first (lineBad (pos (k .marks)) lines) (k .lines) (λ i l. line-passes (k .marks) lines i (g .each-line i l)),
+      none-first (heldBad (pos (k .marks)) (book .held)) (k .held) (λ i l. held-passes (k .marks) (book .held) i (g .each-held i l)),
+      none-first (lineBad (pos (k .marks)) (book .lines)) (k .lines) (λ i l. line-passes (k .marks) (book .lines) i (g .each-line i l)),
     )
   where
-    h : length held / 2 ≡ k .held
+    h : length (book .held) / 2 ≡ k .held
     h = omega (arith, g .whole-held)
 
-    n : length lines / 5 ≡ k .lines
+    n : length (book .lines) / 5 ≡ k .lines
     n = omega (arith, g .whole-lines)
 
 -- the line at place i is made of its entry

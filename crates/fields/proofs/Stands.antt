@@ -14,6 +14,7 @@ use Rattle.laws.specs.Range.{Between}
 use Rattle.book.specs.Line.{fromAt, toAt, differenceAt, lengthAt, standingAt}
 use Rattle.network.specs.Standing.{Line, line, keep}
 use Rattle.network.proofs.Standing.{standing-clause}
+use Rattle.book.specs.Lent.{Lent}
 use Rattle.book.specs.Test.{testOf}
 use Rattle.fields.specs.Places.{standsFrom, Place, Lines}
 use Rattle.book.specs.declared.Book.{Book}
@@ -62,7 +63,7 @@ module _ (lines : List ℤ) where
   place-of b n i good l = record { inside = l; few = good .few; whole = omega (arith, good .whole); good = good .each i l }
 
 -- the lines of a good book
-pub lines-of : (b t : ℤ) (held lines : List ℤ) (k : Book) → testOf b t held lines ≡ Good k → Lines lines (k .marks) (k .lines)
-lines-of b t held lines k e =
-    let g = tested-good b t held lines k e in
+pub lines-of : (book : Lent) (k : Book) → testOf book ≡ Good k → Lines (book .lines) (k .marks) (k .lines)
+lines-of book k e =
+    let g = tested-good book k e in
     record { few = g .few-lines; whole = g .whole-lines; each = g .each-line }

@@ -10,6 +10,7 @@ use lib.IntN.{ℤ, pos}
 use Rattle.book.specs.Limits.{mostMarks, mostLines, mostHeld, mostTolerance}
 use Rattle.book.specs.Held.{heldWords}
 use Rattle.book.specs.Line.{lineWords}
+use Rattle.book.specs.Lent.{Lent, lent}
 use Rattle.book.specs.Test.{bookOut, counts, testOf}
 use Rattle.book.specs.declared.Book.{Book}
 use Rattle.book.specs.declared.Tested.{Tested}
@@ -40,6 +41,9 @@ statedH file = be 2 file 9
 abbrev pub statedN : List ℕ → ℕ
 statedN file = be 2 file 11
 
+abbrev pub statedCounts : List ℕ → Book
+statedCounts file = counts (pos (statedB file)) (pos (statedT file)) (statedH file) (statedN file)
+
 -- "A file has 13 + 10h + 12n bytes"
 abbrev pub fileLength : ℕ → ℕ → ℕ
 fileLength h n = 13 + h * 10 + n * 12
@@ -53,7 +57,7 @@ headOf file =
     (cond (not (eqb (statedVersion file) 1)) (head.the-variants.Refused 3)
     (cond (bookOut (pos (statedB file)) (pos (statedT file)) (statedH file) (statedN file)) (head.the-variants.Refused 4)
     (cond (not (eqb (length file) (fileLength (statedH file) (statedN file)))) (head.the-variants.Refused 5)
-    (head.the-variants.States (counts (pos (statedB file)) (pos (statedT file)) (statedH file) (statedN file)))))))
+    (head.the-variants.States (statedCounts file))))))
 
 -- the numbers that the file's held entries and lines put into memory
 unfoldable pub heldOf : List ℕ → ℕ → List ℤ
@@ -63,6 +67,10 @@ heldOf file h = entries Held file 13 h
 unfoldable pub linesOf : List ℕ → ℕ → ℕ → List ℤ
 unfolding entries
 linesOf file h n = entries Line file (13 + h * 10) n
+
+-- the book of the counts k that they make, as every call is lent one
+abbrev pub bookIn : List ℕ → Book → Lent
+bookIn file k = lent (pos (k .marks)) (pos (k .tolerance)) (heldOf file (k .held)) (linesOf file (k .held) (k .lines))
 
 -- "After a refusal the counts are 0"
 abbrev pub refusal : ℕ → ℕ → ReadAnswer
@@ -99,9 +107,8 @@ testedOf file k held lines (Refused r) = answered held lines (refusal (r .number
 testedOf file k held lines (Good book) = roomOf file k held lines
 
 unfoldable pub bodyOf : List ℕ → Book → List ℤ → List ℤ → Outcome
-unfolding testedOf testOf
-bodyOf file k held lines =
-    testedOf file k held lines (testOf (pos (k .marks)) (pos (k .tolerance)) (heldOf file (k .held)) (linesOf file (k .held) (k .lines)))
+unfolding testedOf testOf heldOf linesOf
+bodyOf file k held lines = testedOf file k held lines (testOf (bookIn file k))
 
 unfoldable pub afterHead : List ℕ → List ℤ → List ℤ → Head → Outcome
 unfolding bodyOf

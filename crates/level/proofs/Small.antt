@@ -17,6 +17,7 @@ use Rattle.laws.proofs.Scans.{first-most}
 use Rattle.book.specs.Limits.{mostDifference, mostLines}
 use Rattle.book.specs.Line.{differenceOut, standingAt}
 use Rattle.book.specs.Height.{workHeightOut}
+use Rattle.book.specs.Lent.{Lent}
 use Rattle.book.specs.Test.{testOf}
 use Rattle.book.specs.declared.Book.{Book}
 use Rattle.book.specs.declared.Refusal.{Refusal}
@@ -94,84 +95,84 @@ list-small list out small =
     (λ _. unlisted-small 10 0 (omega arith) (omega arith))
     (λ fits. let f = ltb-false (length out) (length list) fits in record { number = omega arith; place = omega arith; entries = omega arith })
 
-module _ (b t : ℤ) (held lines : List ℤ) where
+module _ (book : Lent) where
   -- the test's own refusals
-  tested-small : (r : Refusal) → testOf b t held lines ≡ Refused r → SmallAnswer (refusal (r .number) (r .place))
-  tested-small r e = let n = tested-numbered b t held lines r e in refusal-small (r .number) (r .place) (omega (arith, n .high)) (n .near)
+  tested-small : (r : Refusal) → testOf book ≡ Refused r → SmallAnswer (refusal (r .number) (r .place))
+  tested-small r e = let n = tested-numbered book r e in refusal-small (r .number) (r .place) (omega (arith, n .high)) (n .near)
 
-  good-of : (k : Book) → testOf b t held lines ≡ Good k → GoodLines k lines
-  good-of k e = good-lines k b t held lines (tested-good b t held lines k e)
+  good-of : (k : Book) → testOf book ≡ Good k → GoodLines k (book .lines)
+  good-of k e = good-lines k book (tested-good book k e)
 
-  pub survey-small : (rows : List ℤ) → SmallAnswer (surveyOf b t held lines rows .answer)
+  pub survey-small : (rows : List ℤ) → SmallAnswer (surveyOf book rows .answer)
   unfolding surveyOf surveyTested surveyGood
-  survey-small rows = go (testOf b t held lines) refl
+  survey-small rows = go (testOf book) refl
     where
-      go : (x : Tested) → testOf b t held lines ≡ x → SmallAnswer (surveyTested lines rows x .answer)
+      go : (x : Tested) → testOf book ≡ x → SmallAnswer (surveyTested (book .lines) rows x .answer)
       go (Refused r) e = tested-small r e
       go (Good k) e =
-          cond-ind (λ (s : Surveyed). SmallAnswer (s .answer)) (ltb (length rows) (length (reportOf (k .marks) (k .tolerance) lines))) _ _
+          cond-ind (λ (s : Surveyed). SmallAnswer (s .answer)) (ltb (length rows) (length (reportOf (k .marks) (k .tolerance) (book .lines)))) _ _
           (λ _. refusal-small 10 0 (omega arith) (omega arith))
-          (λ _. counted-small k lines (good-of k e))
+          (λ _. counted-small k (book .lines) (good-of k e))
 
   module _ (report : List ℤ) (number : ℤ) where
     -- a correction leaves a good book good
-    corrected-small : (new : List ℤ) → ((k : Book) → testOf b t held lines ≡ Good k → noLine lines number ≡ false → GoodLines k new)
-        → SmallAnswer (correctTested lines report number new (testOf b t held lines) .answer)
+    corrected-small : (new : List ℤ) → ((k : Book) → testOf book ≡ Good k → noLine (book .lines) number ≡ false → GoodLines k new)
+        → SmallAnswer (correctTested (book .lines) report number new (testOf book) .answer)
     unfolding correctTested correctGood
-    corrected-small new good = go (testOf b t held lines) refl
+    corrected-small new good = go (testOf book) refl
       where
-        go : (x : Tested) → testOf b t held lines ≡ x → SmallAnswer (correctTested lines report number new x .answer)
+        go : (x : Tested) → testOf book ≡ x → SmallAnswer (correctTested (book .lines) report number new x .answer)
         go (Refused r) e = tested-small r e
         go (Good k) e =
-            cond-ind (λ (s : Corrected). SmallAnswer (s .answer)) (noLine lines number) _ _
+            cond-ind (λ (s : Corrected). SmallAnswer (s .answer)) (noLine (book .lines) number) _ _
             (λ _. refusal-small 8 0 (omega arith) (omega arith))
             (λ stands.
-            cond-ind (λ (s : Corrected). SmallAnswer (s .answer)) (otherReport report (reportOf (k .marks) (k .tolerance) lines)) _ _
+            cond-ind (λ (s : Corrected). SmallAnswer (s .answer)) (otherReport report (reportOf (k .marks) (k .tolerance) (book .lines))) _ _
             (λ _. refusal-small 9 0 (omega arith) (omega arith))
             (λ _. counted-small k new (good k e stands)))
 
-    pub rerun-small : (difference : ℤ) → SmallAnswer (rerunOf b t held lines report number difference .answer)
+    pub rerun-small : (difference : ℤ) → SmallAnswer (rerunOf book report number difference .answer)
     unfolding rerunOf differenceOut
     rerun-small difference =
         cond-ind (λ (s : Corrected). SmallAnswer (s .answer)) (differenceOut difference) _ _
         (λ _. refusal-small 4 0 (omega arith) (omega arith))
-        (λ inside. corrected-small (rerunLines lines number difference)
-        (λ k e stands. rerun-lines-good k lines (good-of k e) number (natAbs number - 1) (stands-of lines number stands) difference (size-within mostDifference difference inside)))
+        (λ inside. corrected-small (rerunLines (book .lines) number difference)
+        (λ k e stands. rerun-lines-good k (book .lines) (good-of k e) number (natAbs number - 1) (stands-of (book .lines) number stands) difference (size-within mostDifference difference inside)))
 
-    pub withdraw-small : SmallAnswer (withdrawOf b t held lines report number .answer)
+    pub withdraw-small : SmallAnswer (withdrawOf book report number .answer)
     unfolding withdrawOf
-    withdraw-small = corrected-small (withdrawLines lines number) (λ k e stands. withdrawn-lines-good k lines (good-of k e) number (natAbs number - 1) (stands-of lines number stands))
+    withdraw-small = corrected-small (withdrawLines (book .lines) number) (λ k e stands. withdrawn-lines-good k (book .lines) (good-of k e) number (natAbs number - 1) (stands-of (book .lines) number stands))
 
   module _ (out : List ℤ) (small : Small (length out)) where
-    untested-small : (r : Refusal) → testOf b t held lines ≡ Refused r → SmallListed (unlisted (r .number) (r .place))
-    untested-small r e = let n = tested-numbered b t held lines r e in unlisted-small (r .number) (r .place) (omega (arith, n .high)) (n .near)
+    untested-small : (r : Refusal) → testOf book ≡ Refused r → SmallListed (unlisted (r .number) (r .place))
+    untested-small r e = let n = tested-numbered book r e in unlisted-small (r .number) (r .place) (omega (arith, n .high)) (n .near)
 
-    pub listing-small : (number : ℤ) → SmallListed (listingOf b t held lines number out .answer)
+    pub listing-small : (number : ℤ) → SmallListed (listingOf book number out .answer)
     unfolding listingOf listingTested listingGood
-    listing-small number = go (testOf b t held lines) refl
+    listing-small number = go (testOf book) refl
       where
-        go : (x : Tested) → testOf b t held lines ≡ x → SmallListed (listingTested lines number out x .answer)
+        go : (x : Tested) → testOf book ≡ x → SmallListed (listingTested (book .lines) number out x .answer)
         go (Refused r) e = untested-small r e
         go (Good k) e =
-            cond-ind (λ (o : Listing). SmallListed (o .answer)) (outZ (pos 1) (pos (length (loopsOf (k .marks) lines))) number) _ _
+            cond-ind (λ (o : Listing). SmallListed (o .answer)) (outZ (pos 1) (pos (length (loopsOf (k .marks) (book .lines)))) number) _ _
             (λ _. unlisted-small 8 0 (omega arith) (omega arith))
-            (λ _. list-small (map listed (loopAt (loopsOf (k .marks) lines) (natAbs number - 1))) out small)
+            (λ _. list-small (map listed (loopAt (loopsOf (k .marks) (book .lines)) (natAbs number - 1))) out small)
 
-    pub listings-small : SmallListed (listingsOf b t held lines out .answer)
+    pub listings-small : SmallListed (listingsOf book out .answer)
     unfolding listingsOf listingsTested listingsGood
-    listings-small = go (testOf b t held lines) refl
+    listings-small = go (testOf book) refl
       where
-        go : (x : Tested) → testOf b t held lines ≡ x → SmallListed (listingsTested lines out x .answer)
+        go : (x : Tested) → testOf book ≡ x → SmallListed (listingsTested (book .lines) out x .answer)
         go (Refused r) e = untested-small r e
-        go (Good k) e = list-small (listings (loopsOf (k .marks) lines)) out small
+        go (Good k) e = list-small (listings (loopsOf (k .marks) (book .lines))) out small
 
-    pub not-checked-small : SmallListed (notCheckedOf b t held lines out .answer)
+    pub not-checked-small : SmallListed (notCheckedOf book out .answer)
     unfolding notCheckedOf notCheckedTested
-    not-checked-small = go (testOf b t held lines) refl
+    not-checked-small = go (testOf book) refl
       where
-        go : (x : Tested) → testOf b t held lines ≡ x → SmallListed (notCheckedTested lines out x .answer)
+        go : (x : Tested) → testOf book ≡ x → SmallListed (notCheckedTested (book .lines) out x .answer)
         go (Refused r) e = untested-small r e
-        go (Good k) e = list-small (uncheckedOf (k .marks) lines) out small
+        go (Good k) e = list-small (uncheckedOf (k .marks) (book .lines)) out small
 
   module _ (heights : List ℤ) (line : ℤ) where
     rate-refusal-small : (number place : ℕ) → number ≤ 13 → place ≤ mostLines → SmallRate (refusedRate number place)
@@ -179,14 +180,14 @@ module _ (b t : ℤ) (held lines : List ℤ) where
     rate-refusal-small number place high near = record { number = omega arith; place = omega arith; line = omega arith }
 
     -- the line itself is one of the book's
-    line-small : (i : ℕ) → natAbs line ≤ mostLines → SmallRate (lineRate heights lines (natAbs line) i)
+    line-small : (i : ℕ) → natAbs line ≤ mostLines → SmallRate (lineRate heights (book .lines) (natAbs line) i)
     unfolding lineRate
     line-small i near =
-        cond-ind SmallRate (eqZ (standingAt lines i) (pos 0)) _ _
+        cond-ind SmallRate (eqZ (standingAt (book .lines) i) (pos 0)) _ _
         (λ _. record { number = omega arith; place = omega arith; line = omega arith })
         (λ _. record { number = omega arith; place = omega arith; line = omega arith })
 
-    good-small : (k : Book) → k .lines ≤ mostLines → length heights ≤ mostLines → SmallRate (goodRate heights lines k line)
+    good-small : (k : Book) → k .lines ≤ mostLines → length heights ≤ mostLines → SmallRate (goodRate heights (book .lines) k line)
     unfolding goodRate firstHigh
     good-small k few short =
         cond-ind SmallRate (outZ (pos 1) (pos (k .lines)) line) _ _
@@ -196,13 +197,13 @@ module _ (b t : ℤ) (held lines : List ℤ) where
         (λ _. rate-refusal-small 13 (firstHigh heights) (omega arith) (omega (arith, first-most (λ i. workHeightOut (getD heights i (pos 0))) (length heights))))
         (λ _. line-small (natAbs line - 1) (omega (arith, between 1 (k .lines) line inside .high))))
 
-    pub rate-small : SmallRate (rateAnswer b t held lines heights line)
+    pub rate-small : SmallRate (rateAnswer book heights line)
     unfolding rateAnswer
     rate-small =
-        cond-ind SmallRate (eqZ (pos (length heights)) b) _ _
-        (λ same. go same (testOf b t held lines) refl)
+        cond-ind SmallRate (eqZ (pos (length heights)) (book .b)) _ _
+        (λ same. go same (testOf book) refl)
         (λ _. rate-refusal-small 4 0 (omega arith) (omega arith))
       where
-        go : eqZ (pos (length heights)) b ≡ true → (x : Tested) → testOf b t held lines ≡ x → SmallRate (testedRate heights lines line x)
-        go same (Refused r) e = let n = tested-numbered b t held lines r e in rate-refusal-small (r .number) (r .place) (omega (arith, n .high)) (n .near)
-        go same (Good k) e = let g = tested-good b t held lines k e in good-small k (g .few-lines) (omega (arith, marks-of b t held lines k e (length heights) same, g .few-marks))
+        go : eqZ (pos (length heights)) (book .b) ≡ true → (x : Tested) → testOf book ≡ x → SmallRate (testedRate heights (book .lines) line x)
+        go same (Refused r) e = let n = tested-numbered book r e in rate-refusal-small (r .number) (r .place) (omega (arith, n .high)) (n .near)
+        go same (Good k) e = let g = tested-good book k e in good-small k (g .few-lines) (omega (arith, marks-of book k e (length heights) same, g .few-marks))

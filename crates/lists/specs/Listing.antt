@@ -7,6 +7,7 @@ use lib.Dec.{ltb}
 use lib.ListN.{length, drop}
 use lib.IntN.{ℤ, pos, natAbs}
 use Rattle.laws.specs.Tests.{outZ}
+use Rattle.book.specs.Lent.{Lent}
 use Rattle.book.specs.Test.{testOf}
 use Rattle.book.specs.declared.Book.{Book}
 use Rattle.book.specs.declared.Tested.{Tested}
@@ -50,9 +51,9 @@ unfolding listingGood
 listingTested lines number out (Refused r) = listing (unlisted (r .number) (r .place)) out
 listingTested lines number out (Good k) = listingGood k lines number out
 
-unfoldable pub listingOf : ℤ → ℤ → List ℤ → List ℤ → ℤ → List ℤ → Listing
+unfoldable pub listingOf : Lent → ℤ → List ℤ → Listing
 unfolding listingTested testOf
-listingOf b t held lines number out = listingTested lines number out (testOf b t held lines)
+listingOf book number out = listingTested (book .lines) number out (testOf book)
 
 -- the lines of all loops, "loop by loop"
 unfoldable pub listingsGood : Book → List ℤ → List ℤ → Listing
@@ -64,6 +65,6 @@ unfolding listingsGood
 listingsTested lines out (Refused r) = listing (unlisted (r .number) (r .place)) out
 listingsTested lines out (Good k) = listingsGood k lines out
 
-unfoldable pub listingsOf : ℤ → ℤ → List ℤ → List ℤ → List ℤ → Listing
+unfoldable pub listingsOf : Lent → List ℤ → Listing
 unfolding listingsTested testOf
-listingsOf b t held lines out = listingsTested lines out (testOf b t held lines)
+listingsOf book out = listingsTested (book .lines) out (testOf book)

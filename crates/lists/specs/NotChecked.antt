@@ -3,6 +3,7 @@
 use mathlib.Core.List.{List, map}
 use Prim.Native.Nat.{ℕ}
 use lib.IntN.{ℤ, pos}
+use Rattle.book.specs.Lent.{Lent}
 use Rattle.book.specs.Test.{testOf}
 use Rattle.book.specs.declared.Tested.{Tested}
 use Rattle.book.specs.declared.Tested.the-variants.{Good, Refused}
@@ -21,6 +22,6 @@ unfolding uncheckedOf listOf
 notCheckedTested lines out (Refused r) = listing (unlisted (r .number) (r .place)) out
 notCheckedTested lines out (Good k) = listOf (uncheckedOf (k .marks) lines) out
 
-unfoldable pub notCheckedOf : ℤ → ℤ → List ℤ → List ℤ → List ℤ → Listing
+unfoldable pub notCheckedOf : Lent → List ℤ → Listing
 unfolding notCheckedTested testOf
-notCheckedOf b t held lines out = notCheckedTested lines out (testOf b t held lines)
+notCheckedOf book out = notCheckedTested (book .lines) out (testOf book)

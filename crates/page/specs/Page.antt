@@ -8,7 +8,7 @@ use Rattle.book.specs.Test.{testOf}
 use Rattle.book.specs.declared.Book.{Book}
 use Rattle.book.specs.declared.Tested.{Tested}
 use Rattle.book.specs.declared.Tested.the-variants.{Good, Refused}
-use Rattle.file.specs.Read.{headOf, heldOf, linesOf}
+use Rattle.file.specs.Read.{headOf, heldOf, linesOf, bookIn}
 use Rattle.file.specs.declared.Head as head
 use Rattle.file.specs.declared.Head.{Head}
 use Rattle.network.specs.Path.{wayLength}
@@ -48,9 +48,7 @@ testedPage k lines (Good book) = bookPage (k .marks) (k .tolerance) (k .lines) l
 unfoldable pub statedPage : List ℕ → Head → List ℕ
 unfolding testedPage refusedText testOf heldOf linesOf
 statedPage file (head.the-variants.Refused number) = refusedText number 0
-statedPage file (head.the-variants.States k) =
-    let lines = linesOf file (k .held) (k .lines) in
-    testedPage k lines (testOf (pos (k .marks)) (pos (k .tolerance)) (heldOf file (k .held)) lines)
+statedPage file (head.the-variants.States k) = testedPage k (linesOf file (k .held) (k .lines)) (testOf (bookIn file k))
 
 -- of a file
 unfoldable pub pageOf : List ℕ → List ℕ

@@ -13,6 +13,7 @@ use Rattle.laws.specs.Range.{Between}
 use Rattle.book.specs.Limits.{mostDifference}
 use Rattle.book.specs.Line.{lengthAt, standingAt, lineAt}
 use Rattle.book.specs.Height.{workHeightOut}
+use Rattle.book.specs.Lent.{Lent}
 use Rattle.book.specs.Test.{testOf}
 use Rattle.fields.specs.Heights.{height}
 use Rattle.book.specs.declared.Book.{Book}
@@ -77,6 +78,6 @@ testedRate heights lines line (Refused r) = refusedRate (r .number) (r .place)
 testedRate heights lines line (Good book) = goodRate heights lines book line
 
 -- 4: "heights lent to be read not b in number"; then the book's own refusals
-unfoldable pub rateAnswer : ℤ → ℤ → List ℤ → List ℤ → List ℤ → ℤ → RateAnswer
+unfoldable pub rateAnswer : Lent → List ℤ → ℤ → RateAnswer
 unfolding refusedRate goodRate testOf
-rateAnswer b t held lines heights line = cond (eqZ (pos (length heights)) b) (testedRate heights lines line (testOf b t held lines)) (refusedRate 4 0)
+rateAnswer book heights line = cond (eqZ (pos (length heights)) (book .b)) (testedRate heights (book .lines) line (testOf book)) (refusedRate 4 0)

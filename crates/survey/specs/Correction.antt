@@ -7,6 +7,7 @@ use lib.ListN.{length, drop, set, replicate}
 use lib.IntN.{ℤ, pos, natAbs}
 use Rattle.laws.specs.Tests.{outZ, eqZ}
 use Rattle.book.specs.Line.{lineWords, differenceField, standingField, lineCount, standingAt, differenceOut}
+use Rattle.book.specs.Lent.{Lent}
 use Rattle.book.specs.Test.{testOf}
 use Rattle.book.specs.declared.Book.{Book}
 use Rattle.book.specs.declared.Tested.{Tested}
@@ -61,12 +62,12 @@ unfoldable pub withdrawLines : List ℤ → ℤ → List ℤ
 withdrawLines lines number = set lines (placeOf number standingField) (pos 0)
 
 -- 4 is also "a new difference outside its limit"
-unfoldable pub rerunOf : ℤ → ℤ → List ℤ → List ℤ → List ℤ → ℤ → ℤ → Corrected
+unfoldable pub rerunOf : Lent → List ℤ → ℤ → ℤ → Corrected
 unfolding correctTested testOf rerunLines differenceOut
-rerunOf b t held lines report number difference =
-    cond (differenceOut difference) (corrected (refusal 4 0) lines report)
-    (correctTested lines report number (rerunLines lines number difference) (testOf b t held lines))
+rerunOf book report number difference =
+    cond (differenceOut difference) (corrected (refusal 4 0) (book .lines) report)
+    (correctTested (book .lines) report number (rerunLines (book .lines) number difference) (testOf book))
 
-unfoldable pub withdrawOf : ℤ → ℤ → List ℤ → List ℤ → List ℤ → ℤ → Corrected
+unfoldable pub withdrawOf : Lent → List ℤ → ℤ → Corrected
 unfolding correctTested testOf withdrawLines
-withdrawOf b t held lines report number = correctTested lines report number (withdrawLines lines number) (testOf b t held lines)
+withdrawOf book report number = correctTested (book .lines) report number (withdrawLines (book .lines) number) (testOf book)

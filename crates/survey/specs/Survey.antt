@@ -5,6 +5,7 @@ use mathlib.Core.List.{List, _++_}
 use lib.Dec.{ltb}
 use lib.ListN.{length, drop}
 use lib.IntN.{ℤ}
+use Rattle.book.specs.Lent.{Lent}
 use Rattle.book.specs.Test.{testOf}
 use Rattle.book.specs.declared.Book.{Book}
 use Rattle.book.specs.declared.Tested.{Tested}
@@ -34,6 +35,6 @@ unfolding surveyGood
 surveyTested lines out (Refused r) = surveyed (refusal (r .number) (r .place)) out
 surveyTested lines out (Good k) = surveyGood k lines out
 
-unfoldable pub surveyOf : ℤ → ℤ → List ℤ → List ℤ → List ℤ → Surveyed
+unfoldable pub surveyOf : Lent → List ℤ → Surveyed
 unfolding surveyTested testOf
-surveyOf b t held lines out = surveyTested lines out (testOf b t held lines)
+surveyOf book out = surveyTested (book .lines) out (testOf book)
