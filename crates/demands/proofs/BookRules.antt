@@ -8,7 +8,7 @@ use lib.Dec.{ltb}
 use Rattle.book.specs.Lent.{Lent}
 use Rattle.book.specs.Held.{heldWords, heldCount, firstBadHeld}
 use Rattle.book.specs.Line.{lineWords, lineCount, firstBadLine}
-use Rattle.book.specs.Test.{torn, bookOut, countsOf, refused, testOf}
+use Rattle.book.specs.Test.{torn, bookOut, countsOf, refused, testOf, ifGood}
 use Rattle.book.specs.declared.Book.{Book}
 use Rattle.book.specs.declared.Refusal.{Refusal}
 use Rattle.book.specs.declared.Tested.the-variants.{Good, Refused}
@@ -49,13 +49,12 @@ past-rules (q ∷ rest) c k e = go (q .applies) refl e (past-rules rest c k)
 
 -- ---- the test
 
--- what follows the test keeps to the table of the book, and then to its own
-pub by-the-test : {A : Type 0} (book : Lent) (on : Tested → A) (more : List Rule) (refuse : ℕ → ℕ → A) (done : A)
+on-the-test : {A : Type 0} (book : Lent) (on : Tested → A) (more : List Rule) (refuse : ℕ → ℕ → A) (done : A)
     → ((r : Refusal) → on (Refused r) ≡ refuse (r .number) (r .place))
     → on (Good (countsOf book)) ≡ byRules more refuse done
     → on (testOf book) ≡ byRules (bookRules book more) refuse done
 unfolding testOf byRules bookFault
-by-the-test book on more refuse done f e =
+on-the-test book on more refuse done f e =
     go (torn heldWords (book .held)) (torn lineWords (book .lines)) (bookOut (book .b) (book .t) (heldCount (book .held)) (lineCount (book .lines))) (ltb 0 (firstBadHeld (book .b) (book .held))) (ltb 0 (firstBadLine (book .b) (book .lines)))
   where
     h : ℕ
@@ -74,11 +73,17 @@ by-the-test book on more refuse done f e =
     go false false false false true = f _
     go false false false false false = e
 
+-- what follows the test keeps to the table of the book, and then to its own
+pub by-the-test : {A : Type 0} (book : Lent) (go : Book → A) (more : List Rule) (refuse : ℕ → ℕ → A) (done : A)
+    → go (countsOf book) ≡ byRules more refuse done
+    → ifGood (testOf book) (λ r. refuse (r .number) (r .place)) go ≡ byRules (bookRules book more) refuse done
+by-the-test book go more refuse done e = on-the-test book (λ x. ifGood x (λ r. refuse (r .number) (r .place)) go) more refuse done (λ r. refl) e
+
 module _ (book : Lent) where
   -- 4, 6 and 7 are the whole test
   pub test-by-rules : testOf book ≡ byRules (bookRules book []) refused (Good (countsOf book))
   unfolding byRules
-  test-by-rules = by-the-test book (λ x. x) [] refused (Good (countsOf book)) (λ r. refl) refl
+  test-by-rules = on-the-test book (λ x. x) [] refused (Good (countsOf book)) (λ r. refl) refl
 
   -- a book of whose rules none applies passes
   pub passes-if : {more : List Rule} → None (bookRules book more) → testOf book ≡ Good (countsOf book)

@@ -19,7 +19,7 @@ use Rattle.laws.specs.Range.{Between}
 use Rattle.laws.proofs.Size.{between, size-sub}
 use Rattle.book.specs.Lent.{Lent}
 use Rattle.book.specs.Line.{fromAt, toAt, differenceAt, lengthAt, standingAt, lineCount}
-use Rattle.book.specs.Test.{countsOf, testOf}
+use Rattle.book.specs.Test.{countsOf, testOf, ifGood}
 use Rattle.book.specs.declared.Book.{Book}
 use Rattle.book.specs.declared.Tested.the-variants.{Good}
 use Rattle.network.specs.Standing.{standing}
@@ -33,14 +33,14 @@ use Rattle.sweeps.specs.Squares.{squares, moveMark}
 use Rattle.sweeps.specs.Kept.{Kept}
 use Rattle.sweeps.proofs.Best.{fairs-sound, sweep-not-worse}
 use Rattle.start.specs.Start.{heldHeight, isHeld, startHeights}
-use Rattle.rates.specs.Rates.{correctionAt, correctionOf, quotient, refusedRate, lineRate, goodRate, testedRate, rateAnswer, firstHigh}
+use Rattle.rates.specs.Rates.{correctionAt, correctionOf, quotient, refusedRate, lineRate, goodRate, rateAnswer, firstHigh}
 use Rattle.rates.proofs.Exact.{there-and-back}
 use Rattle.rates.proofs.Rating.{marks-of, working-lent}
 use Rattle.rates.specs.declared.Rate.the-variants.{PerKm, Withdrawn}
 use Rattle.rates.specs.declared.RateAnswer.{RateAnswer}
 use Rattle.adjust.specs.Adjusted.{done, unlessUnheld, ended, adjustment}
 use Rattle.adjust.specs.Answers.{answer}
-use Rattle.adjust.specs.Call.{Given, adjusted, givenBy, adjustTested, adjustOf}
+use Rattle.adjust.specs.Call.{Given, adjusted, givenBy, adjustGood, adjustOf}
 use Rattle.adjust.proofs.Promises.{as-many, never-worse, best-at-every-mark, held-marks-keep}
 use Rattle.demands.specs.Tables.{bookFault}
 use Rattle.demands.specs.Heights.{sweepsOf, unheldMark, stillMoves, wentOutside, outsideMark, countOf, heightsOf, sweepRules, adjustRules, adjustDone, AdjustmentKeepsToTable, marksHeights, heightRules, rateRules, ExactFloat, rateDone, RateKeepsToTable}
@@ -79,7 +79,7 @@ module _ (book : Lent) where
   unfolding adjustOf adjustRules sweepsOf unheldMark byRules
   adjustment-keeps-to-table out =
       keeps-to-table (λ n p. refl) (λ n p. refl) refl refl refl
-      (by-the-test book (adjustTested (book .held) (book .lines) out) (sweepRules book out) (λ n p. adjusted (answer n p 0) out) (adjustDone (sweepsOf (natAbs (book .b)) (book .held) (book .lines)) out) (λ r. refl)
+      (by-the-test book (λ k. adjustGood k (book .held) (book .lines) out) (sweepRules book out) (λ n p. adjusted (answer n p 0) out) (adjustDone (sweepsOf (natAbs (book .b)) (book .held) (book .lines)) out)
       (go (ltb (length out) (natAbs (book .b))) (unheldMark (natAbs (book .b)) (book .held) (book .lines)) (sweepsOf (natAbs (book .b)) (book .held) (book .lines))))
     where
       go : (x : Bool) (u : ℕ) (s : Settled) → cond x (adjusted (answer 10 0 0) out) (givenBy out (unlessUnheld u (λ _. ended s)))
@@ -96,9 +96,9 @@ module _ (book : Lent) where
   unfolding rateAnswer rateRules refusedRate goodRate byRules
   rate-keeps-to-table heights line =
       keeps-to-table (λ n p. refl) (λ n p. refl) (line-number heights (book .lines) (natAbs line) (natAbs line - 1) .0) (line-number heights (book .lines) (natAbs line) (natAbs line - 1) .1) refl
-      (cond-not (eqZ (pos (length heights)) (book .b)) (testedRate heights (book .lines) line (testOf book)) (refusedRate 4 0)
+      (cond-not (eqZ (pos (length heights)) (book .b)) (ifGood (testOf book) (λ r. refusedRate (r .number) (r .place)) (λ k. goodRate heights (book .lines) k line)) (refusedRate 4 0)
       ∙ ap (cond (not (eqZ (pos (length heights)) (book .b))) (refusedRate 4 0))
-      (by-the-test book (testedRate heights (book .lines) line) (heightRules book heights line) refusedRate (rateDone book heights line) (λ r. refl) refl)
+      (by-the-test book (λ k. goodRate heights (book .lines) k line) (heightRules book heights line) refusedRate (rateDone book heights line) refl)
       ∙ cond-or (not (eqZ (pos (length heights)) (book .b))) (bookFault book) (refusedRate 4 0) _)
 
   -- a refused adjustment: no sweeps, and the heights as they were

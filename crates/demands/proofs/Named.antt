@@ -23,12 +23,12 @@ use Rattle.book.specs.declared.Book.{Book}
 use Rattle.book.specs.declared.Tested.the-variants.{Good}
 use Rattle.loops.specs.Report.{reportOf}
 use Rattle.survey.specs.Report.{refusal}
-use Rattle.survey.specs.Survey.{surveyTested, surveyOf}
-use Rattle.lists.specs.Listing.{listingTested, listingOf, listingsTested, listingsOf}
-use Rattle.lists.specs.NotChecked.{notCheckedTested, notCheckedOf}
-use Rattle.survey.specs.Correction.{corrected, otherReport, correctGood, correctTested, rerunOf, withdrawOf}
+use Rattle.survey.specs.Survey.{surveyOf}
+use Rattle.lists.specs.Listing.{listingOf, listingsOf}
+use Rattle.lists.specs.NotChecked.{notCheckedOf}
+use Rattle.survey.specs.Correction.{corrected, otherReport, correctOf, correctGood, rerunOf, withdrawOf}
 use Rattle.rates.specs.Rates.{rateAnswer}
-use Rattle.adjust.specs.Call.{adjustTested, adjustOf}
+use Rattle.adjust.proofs.Calling.{by-refusal}
 use Rattle.demands.specs.Tables.{bookFault}
 use Rattle.demands.specs.Calls.{SameAtEveryCall}
 use Rattle.demands.specs.Corrections.{Stands}
@@ -40,7 +40,7 @@ use Rattle.demands.proofs.BookRules.{test-by-rules}
 
 -- a book that the test refuses gets the same refusal from every call
 pub faulty-book-same-at-every-call : (book : Lent) (number place : ℕ) → testOf book ≡ refused number place → SameAtEveryCall book number place
-unfolding surveyOf surveyTested listingOf listingTested listingsOf listingsTested notCheckedOf notCheckedTested withdrawOf rerunOf correctTested differenceOut adjustOf adjustTested rateAnswer
+unfolding surveyOf listingOf listingsOf notCheckedOf withdrawOf rerunOf correctOf differenceOut rateAnswer
 faulty-book-same-at-every-call book number place e = record {
   survey = λ out. rw e;
   listing-of = λ loop out. rw e;
@@ -48,7 +48,7 @@ faulty-book-same-at-every-call book number place e = record {
   not-checked = λ out. rw e;
   withdrawal = λ report line. rw e;
   re-run = λ report line difference small. rw (size-inside mostDifference difference small, e);
-  adjustment = λ out. rw e;
+  adjustment = λ out. by-refusal book out _ e;
   rate = λ heights line as-many. rw (as-many, eqZ-same (book .b), e);
 }
 
@@ -93,10 +93,10 @@ module _ (book : Lent) (report : List ℤ) (k : Book) (passes : testOf book ≡ 
 
   -- a withdrawal with a report that is not this book's is refused with 9, and lines and report stay as they are
   pub other-report-is-refused : withdrawOf book report number ≡ corrected (refusal 9 0) (book .lines) report
-  unfolding withdrawOf correctTested correctGood
+  unfolding withdrawOf correctOf correctGood
   other-report-is-refused = rw (passes, line-exactly-if-stands (book .lines) number .1 (i, stands), differs)
 
   -- and so is a re-run
   pub other-report-is-refused-in-rerun : (difference : ℤ) → natAbs difference ≤ mostDifference → rerunOf book report number difference ≡ corrected (refusal 9 0) (book .lines) report
-  unfolding rerunOf correctTested correctGood differenceOut
+  unfolding rerunOf correctOf correctGood differenceOut
   other-report-is-refused-in-rerun difference small = rw (size-inside mostDifference difference small, passes, line-exactly-if-stands (book .lines) number .1 (i, stands), differs)

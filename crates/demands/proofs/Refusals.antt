@@ -15,17 +15,17 @@ use Rattle.book.specs.Line.{lineWords, differenceOut}
 use Rattle.book.specs.Test.{torn, bookOut}
 use Rattle.book.specs.declared.Book.{Book}
 use Rattle.file.specs.Read as read
-use Rattle.file.specs.Read.{Outcome, answered, statedLength, statedVersion, statedT, statedB, statedH, statedN, statedCounts, fileLength, headOf, heldOf, linesOf, bookIn, roomOf, testedOf, bodyOf, afterHead, readOf}
+use Rattle.file.specs.Read.{Outcome, answered, statedLength, statedVersion, statedT, statedB, statedH, statedN, statedCounts, fileLength, headOf, heldOf, linesOf, bookIn, roomOf, bodyOf, afterHead, readOf}
 use Rattle.file.specs.declared.entry.Kind.the-variants as kind
 use Rattle.file.specs.declared.Head.the-variants as head
 use Rattle.file.proofs.Entries.{entries-length}
 use Rattle.loops.specs.Row.{listings}
 use Rattle.loops.specs.Report.{loopsOf}
 use Rattle.survey.specs.Report.{refusal, counted}
-use Rattle.survey.specs.Survey.{Surveyed, surveyed, surveyTested, surveyOf}
-use Rattle.lists.specs.Listing.{Listing, listing, unlisted, listingTested, listingOf, listingsTested, listingsOf}
-use Rattle.lists.specs.NotChecked.{uncheckedOf, notCheckedTested, notCheckedOf}
-use Rattle.survey.specs.Correction.{Corrected, corrected, correctTested, rerunLines, withdrawLines, rerunOf, withdrawOf}
+use Rattle.survey.specs.Survey.{Surveyed, surveyed, surveyGood, surveyOf}
+use Rattle.lists.specs.Listing.{Listing, listing, unlisted, listOf, listingGood, listingOf, listingsGood, listingsOf}
+use Rattle.lists.specs.NotChecked.{uncheckedOf, notCheckedOf}
+use Rattle.survey.specs.Correction.{Corrected, corrected, correctGood, rerunLines, withdrawLines, rerunOf, withdrawOf}
 use Rattle.demands.specs.Calls.{afresh, surveyDone, listDone, correctionDone, readDone, SurveyKeepsToTable, ListingKeepsToTable, ListingsKeepsToTable, NotCheckedKeepsToTable, RerunKeepsToTable, WithdrawalKeepsToTable, ReaderKeepsToTable}
 use Rattle.demands.specs.Tables.{bookFault, heldRule, lineRule, roomRule, roomsRule, surveyRules, loopListing, loopRules, correctionRules, listingRules, listingsRules, notCheckedRules, rerunRules, withdrawRules, fileRules}
 use Rattle.demands.proofs.Rules.{byRules, cond-or, keeps-to-table}
@@ -37,39 +37,39 @@ module _ (book : Lent) where
   unfolding surveyOf surveyRules byRules counted
   survey-keeps-to-table out =
       keeps-to-table (λ n p. refl) (λ n p. refl) refl refl refl
-      (by-the-test book (surveyTested (book .lines) out) (roomRule out (afresh book) ∷ []) (λ n p. surveyed (refusal n p) out) (surveyDone book out) (λ r. refl) refl)
+      (by-the-test book (λ k. surveyGood k (book .lines) out) (roomRule out (afresh book) ∷ []) (λ n p. surveyed (refusal n p) out) (surveyDone book out) refl)
 
   -- the listing of a loop keeps to its table: 4, 6, 7, 8, 10
   pub listing-keeps-to-table : (number : ℤ) (out : List ℤ) → ListingKeepsToTable book number out (listingOf book number out)
   unfolding listingOf listingRules loopListing byRules
   listing-keeps-to-table number out =
       keeps-to-table (λ n p. refl) (λ n p. refl) refl refl refl
-      (by-the-test book (listingTested (book .lines) number out) (loopRules book number out) (λ n p. listing (unlisted n p) out)
-      (listDone (loopListing book number) out) (λ r. refl) refl)
+      (by-the-test book (λ k. listingGood k (book .lines) number out) (loopRules book number out) (λ n p. listing (unlisted n p) out)
+      (listDone (loopListing book number) out) refl)
 
   -- the listing of all loops keeps to its table: 4, 6, 7, 10
   pub listings-keeps-to-table : (out : List ℤ) → ListingsKeepsToTable book out (listingsOf book out)
   unfolding listingsOf listingsRules byRules
   listings-keeps-to-table out =
       keeps-to-table (λ n p. refl) (λ n p. refl) refl refl refl
-      (by-the-test book (listingsTested (book .lines) out) (roomRule out (listings (loopsOf (natAbs (book .b)) (book .lines))) ∷ []) (λ n p. listing (unlisted n p) out)
-      (listDone (listings (loopsOf (natAbs (book .b)) (book .lines))) out) (λ r. refl) refl)
+      (by-the-test book (λ k. listingsGood k (book .lines) out) (roomRule out (listings (loopsOf (natAbs (book .b)) (book .lines))) ∷ []) (λ n p. listing (unlisted n p) out)
+      (listDone (listings (loopsOf (natAbs (book .b)) (book .lines))) out) refl)
 
   -- the not-checked list keeps to its table: 4, 6, 7, 10
   pub not-checked-keeps-to-table : (out : List ℤ) → NotCheckedKeepsToTable book out (notCheckedOf book out)
   unfolding notCheckedOf notCheckedRules byRules
   not-checked-keeps-to-table out =
       keeps-to-table (λ n p. refl) (λ n p. refl) refl refl refl
-      (by-the-test book (notCheckedTested (book .lines) out) (roomRule out (uncheckedOf (natAbs (book .b)) (book .lines)) ∷ []) (λ n p. listing (unlisted n p) out)
-      (listDone (uncheckedOf (natAbs (book .b)) (book .lines)) out) (λ r. refl) refl)
+      (by-the-test book (λ k. listOf (uncheckedOf (k .marks) (book .lines)) out) (roomRule out (uncheckedOf (natAbs (book .b)) (book .lines)) ∷ []) (λ n p. listing (unlisted n p) out)
+      (listDone (uncheckedOf (natAbs (book .b)) (book .lines)) out) refl)
 
   -- withdrawal keeps to its table: 4, 6, 7, 8, 9
   pub withdrawal-keeps-to-table : (report : List ℤ) (number : ℤ) → WithdrawalKeepsToTable book report number (withdrawOf book report number)
   unfolding withdrawOf withdrawRules byRules counted
   withdrawal-keeps-to-table report number =
       keeps-to-table (λ n p. refl) (λ n p. refl) refl refl refl
-      (by-the-test book (correctTested (book .lines) report number (withdrawLines (book .lines) number)) (correctionRules book report number)
-      (λ n p. corrected (refusal n p) (book .lines) report) (correctionDone book report (withdrawLines (book .lines) number)) (λ r. refl) refl)
+      (by-the-test book (λ k. correctGood k (book .lines) report number (withdrawLines (book .lines) number)) (correctionRules book report number)
+      (λ n p. corrected (refusal n p) (book .lines) report) (correctionDone book report (withdrawLines (book .lines) number)) refl)
 
   -- re-run keeps to its table: 4, 6, 7, 8, 9
   pub rerun-keeps-to-table : (report : List ℤ) (number difference : ℤ)
@@ -78,8 +78,8 @@ module _ (book : Lent) where
   rerun-keeps-to-table report number difference =
       keeps-to-table (λ n p. refl) (λ n p. refl) refl refl refl
       (ap (cond (differenceOut difference) (corrected (refusal 4 0) (book .lines) report))
-      (by-the-test book (correctTested (book .lines) report number (rerunLines (book .lines) number difference)) (correctionRules book report number)
-      (λ n p. corrected (refusal n p) (book .lines) report) (correctionDone book report (rerunLines (book .lines) number difference)) (λ r. refl) refl)
+      (by-the-test book (λ k. correctGood k (book .lines) report number (rerunLines (book .lines) number difference)) (correctionRules book report number)
+      (λ n p. corrected (refusal n p) (book .lines) report) (correctionDone book report (rerunLines (book .lines) number difference)) refl)
       ∙ cond-or (differenceOut difference) (bookFault book) (corrected (refusal 4 0) (book .lines) report) _)
 
   -- ---- "After a refusal the counts are 0 and no lent buffer has changed."
@@ -149,10 +149,10 @@ module _ (file : List ℕ) (held lines : List ℤ) where
   body : bookOut (pos (statedB file)) (pos (statedT file)) (statedH file) (statedN file) ≡ false
       → bodyOf file (statedCounts file) held lines
       ≡ byRules (heldRule (bookIn file (statedCounts file)) ∷ lineRule (bookIn file (statedCounts file)) ∷ roomsRule file held lines ∷ []) refuse (readDone file held lines)
-  unfolding bodyOf testedOf byRules refuse
+  unfolding bodyOf byRules refuse
   body e =
       by-the-test (bookIn file (statedCounts file))
-      (testedOf file (statedCounts file) held lines) (roomsRule file held lines ∷ []) refuse (readDone file held lines) (λ r. refl)
+      (λ _. roomOf file (statedCounts file) held lines) (roomsRule file held lines ∷ []) refuse (readDone file held lines)
       (room (statedCounts file))
       ∙ rw (no-other-fault e)
 

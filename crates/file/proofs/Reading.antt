@@ -14,11 +14,12 @@ use Rattle.book.specs.Held.{heldWords, heldCount}
 use Rattle.book.specs.Line.{lineWords, lineCount}
 use Rattle.book.specs.Test.{testOf}
 use Rattle.book.specs.Good.{GoodBook}
+use Rattle.book.proofs.IfGood.{either-way}
 use Rattle.book.proofs.Goods.{tested-good, tested-counts, tested-numbered}
 use Rattle.book.specs.declared.Book.{Book}
-use Rattle.book.specs.declared.Tested.{Tested}
+use Rattle.book.specs.declared.Refusal.{Refusal}
 use Rattle.book.specs.declared.Tested.the-variants.{Good, Refused}
-use Rattle.file.specs.Read.{Outcome, answered, refusal, done, heldOf, linesOf, bookIn, headOf, roomOf, testedOf, bodyOf, afterHead, readOf}
+use Rattle.file.specs.Read.{Outcome, answered, refusal, done, heldOf, linesOf, bookIn, headOf, roomOf, bodyOf, afterHead, readOf}
 use Rattle.file.specs.Owed.{BookRead, FileRefused}
 use Rattle.file.specs.declared.Head as head
 use Rattle.file.specs.declared.Head.{Head}
@@ -61,12 +62,14 @@ module _ (file : List ℕ) (held lines : List ℤ) where
       go false false = inl (record { book = k; answer = refl; good = good; held-now = refl; lines-now = refl })
 
   body : (k : Book) → ReadOrRefused (bodyOf file k held lines)
-  unfolding bodyOf testedOf GoodFile
-  body k = go (testOf (bookIn file k)) refl
+  unfolding bodyOf GoodFile
+  body k = either-way (bookIn file k) _ _ ReadOrRefused bad good
     where
-      go : (o : Tested) → testOf (bookIn file k) ≡ o → ReadOrRefused (testedOf file k held lines o)
-      go (Refused r) e = let w = tested-numbered (bookIn file k) r e in refuses (r .number) (r .place) (w .low) (omega (arith, w .high)) (w .near)
-      go (Good j) e =
+      bad : (r : Refusal) → testOf (bookIn file k) ≡ Refused r → ReadOrRefused (answered held lines (refusal (r .number) (r .place)))
+      bad r e = let w = tested-numbered (bookIn file k) r e in refuses (r .number) (r .place) (w .low) (omega (arith, w .high)) (w .near)
+
+      good : (j : Book) → testOf (bookIn file k) ≡ Good j → ReadOrRefused (roomOf file k held lines)
+      good j e =
           let same : j ≡ k = tested-counts (bookIn file k) j e ∙ rw (held-entries (k .held), line-entries (k .held) (k .lines)) in
           room-or-ten k (subst (λ (x : Book). GoodBook x (bookIn file k)) same (tested-good (bookIn file k) j e))
 

@@ -11,10 +11,8 @@ use Rattle.book.specs.Limits.{mostMarks, mostLines, mostHeld, mostTolerance}
 use Rattle.book.specs.Held.{heldWords}
 use Rattle.book.specs.Line.{lineWords}
 use Rattle.book.specs.Lent.{Lent, lent}
-use Rattle.book.specs.Test.{bookOut, counts, testOf}
+use Rattle.book.specs.Test.{bookOut, counts, testOf, ifGood}
 use Rattle.book.specs.declared.Book.{Book}
-use Rattle.book.specs.declared.Tested.{Tested}
-use Rattle.book.specs.declared.Tested.the-variants.{Good, Refused}
 use Rattle.file.specs.Wire.{be}
 use Rattle.file.specs.Entry.{entries}
 use Rattle.file.specs.declared.entry.Kind.the-variants.{Held, Line}
@@ -101,14 +99,10 @@ roomOf file k held lines =
     }))
 
 -- refusals 6 and 7 by the test of every call, then what comes after it
-unfoldable pub testedOf : List ℕ → Book → List ℤ → List ℤ → Tested → Outcome
-unfolding roomOf
-testedOf file k held lines (Refused r) = answered held lines (refusal (r .number) (r .place))
-testedOf file k held lines (Good book) = roomOf file k held lines
-
 unfoldable pub bodyOf : List ℕ → Book → List ℤ → List ℤ → Outcome
-unfolding testedOf testOf heldOf linesOf
-bodyOf file k held lines = testedOf file k held lines (testOf (bookIn file k))
+unfolding roomOf testOf heldOf linesOf
+bodyOf file k held lines =
+    ifGood (testOf (bookIn file k)) (λ r. answered held lines (refusal (r .number) (r .place))) (λ _. roomOf file k held lines)
 
 unfoldable pub afterHead : List ℕ → List ℤ → List ℤ → Head → Outcome
 unfolding bodyOf

@@ -2,9 +2,9 @@
 -- Assumes nothing.
 use Prim.Native.Nat.{ℕ, _-_, _≤_}
 use native.Mathlib.Omega.{arith}
-use mathlib.Core.Path.{_≡_, refl, sym, subst}
+use mathlib.Core.Path.{_≡_, sym, subst}
 use mathlib.Core.Logic.{inl, inr}
-use mathlib.Core.Bool.{true, false}
+use mathlib.Core.Bool.{false}
 use mathlib.Core.List.{List, map}
 use lib.Dec.{ltb}
 use borrow.Author.Tests.{ltb-false}
@@ -21,24 +21,24 @@ use Rattle.book.specs.Lent.{Lent}
 use Rattle.book.specs.Test.{testOf}
 use Rattle.book.specs.declared.Book.{Book}
 use Rattle.book.specs.declared.Refusal.{Refusal}
-use Rattle.book.specs.declared.Tested.{Tested}
 use Rattle.book.specs.declared.Tested.the-variants.{Good, Refused}
+use Rattle.book.proofs.IfGood.{either-way}
 use Rattle.book.proofs.Goods.{tested-good, tested-numbered}
 use Rattle.network.specs.Standing.{standing}
 use Rattle.network.proofs.Entries.{tree-lines-count}
 use Rattle.book.specs.Good.{GoodLines}
 use Rattle.loops.specs.Report.{loopsOf, reportOf, piecesOf}
 use Rattle.survey.specs.Report.{refusal, counted}
-use Rattle.survey.specs.Survey.{Surveyed, surveyGood, surveyTested, surveyOf}
-use Rattle.survey.specs.Correction.{Corrected, noLine, otherReport, correctGood, correctTested, rerunLines, withdrawLines, rerunOf, withdrawOf}
-use Rattle.lists.specs.Listing.{Listing, unlisted, listOf, listingGood, listingTested, listingOf, listingsGood, listingsTested, listingsOf}
-use Rattle.lists.specs.NotChecked.{uncheckedOf, notCheckedTested, notCheckedOf}
+use Rattle.survey.specs.Survey.{Surveyed, surveyGood, surveyOf}
+use Rattle.survey.specs.Correction.{Corrected, noLine, otherReport, correctGood, correctOf, rerunLines, withdrawLines, rerunOf, withdrawOf}
+use Rattle.lists.specs.Listing.{Listing, unlisted, listOf, listingGood, listingOf, listingsGood, listingsOf}
+use Rattle.lists.specs.NotChecked.{uncheckedOf, notCheckedOf}
 use Rattle.loops.specs.Loops.{loopAt}
 use Rattle.loops.specs.Row.{listed, listings}
 use Rattle.book.proofs.Goods.{good-lines}
 use Rattle.loops.proofs.Sounding.{lines-sound, few-loops}
 use Rattle.survey.proofs.Corrected.{stands-of, rerun-lines-good, withdrawn-lines-good}
-use Rattle.rates.specs.Rates.{refusedRate, lineRate, firstHigh, goodRate, testedRate, rateAnswer}
+use Rattle.rates.specs.Rates.{refusedRate, lineRate, firstHigh, goodRate, rateAnswer}
 use Rattle.rates.proofs.Rating.{marks-of}
 use Rattle.file.specs.Read.{readOf}
 use Rattle.file.proofs.Reading.{ReadOrRefused, read-or-refused}
@@ -104,32 +104,26 @@ module _ (book : Lent) where
   good-of k e = good-lines k book (tested-good book k e)
 
   pub survey-small : (rows : List ℤ) → SmallAnswer (surveyOf book rows .answer)
-  unfolding surveyOf surveyTested surveyGood
-  survey-small rows = go (testOf book) refl
-    where
-      go : (x : Tested) → testOf book ≡ x → SmallAnswer (surveyTested (book .lines) rows x .answer)
-      go (Refused r) e = tested-small r e
-      go (Good k) e =
-          cond-ind (λ (s : Surveyed). SmallAnswer (s .answer)) (ltb (length rows) (length (reportOf (k .marks) (k .tolerance) (book .lines)))) _ _
-          (λ _. refusal-small 10 0 (omega arith) (omega arith))
-          (λ _. counted-small k (book .lines) (good-of k e))
+  unfolding surveyOf surveyGood
+  survey-small rows =
+      either-way book _ _ (λ (s : Surveyed). SmallAnswer (s .answer)) tested-small (λ k e.
+      cond-ind (λ (s : Surveyed). SmallAnswer (s .answer)) (ltb (length rows) (length (reportOf (k .marks) (k .tolerance) (book .lines)))) _ _
+      (λ _. refusal-small 10 0 (omega arith) (omega arith))
+      (λ _. counted-small k (book .lines) (good-of k e)))
 
   module _ (report : List ℤ) (number : ℤ) where
     -- a correction leaves a good book good
     corrected-small : (new : List ℤ) → ((k : Book) → testOf book ≡ Good k → noLine (book .lines) number ≡ false → GoodLines k new)
-        → SmallAnswer (correctTested (book .lines) report number new (testOf book) .answer)
-    unfolding correctTested correctGood
-    corrected-small new good = go (testOf book) refl
-      where
-        go : (x : Tested) → testOf book ≡ x → SmallAnswer (correctTested (book .lines) report number new x .answer)
-        go (Refused r) e = tested-small r e
-        go (Good k) e =
-            cond-ind (λ (s : Corrected). SmallAnswer (s .answer)) (noLine (book .lines) number) _ _
-            (λ _. refusal-small 8 0 (omega arith) (omega arith))
-            (λ stands.
-            cond-ind (λ (s : Corrected). SmallAnswer (s .answer)) (otherReport report (reportOf (k .marks) (k .tolerance) (book .lines))) _ _
-            (λ _. refusal-small 9 0 (omega arith) (omega arith))
-            (λ _. counted-small k new (good k e stands)))
+        → SmallAnswer (correctOf book report number new .answer)
+    unfolding correctOf correctGood
+    corrected-small new good =
+        either-way book _ _ (λ (s : Corrected). SmallAnswer (s .answer)) tested-small (λ k e.
+        cond-ind (λ (s : Corrected). SmallAnswer (s .answer)) (noLine (book .lines) number) _ _
+        (λ _. refusal-small 8 0 (omega arith) (omega arith))
+        (λ stands.
+        cond-ind (λ (s : Corrected). SmallAnswer (s .answer)) (otherReport report (reportOf (k .marks) (k .tolerance) (book .lines))) _ _
+        (λ _. refusal-small 9 0 (omega arith) (omega arith))
+        (λ _. counted-small k new (good k e stands))))
 
     pub rerun-small : (difference : ℤ) → SmallAnswer (rerunOf book report number difference .answer)
     unfolding rerunOf differenceOut
@@ -148,31 +142,22 @@ module _ (book : Lent) where
     untested-small r e = let n = tested-numbered book r e in unlisted-small (r .number) (r .place) (omega (arith, n .high)) (n .near)
 
     pub listing-small : (number : ℤ) → SmallListed (listingOf book number out .answer)
-    unfolding listingOf listingTested listingGood
-    listing-small number = go (testOf book) refl
-      where
-        go : (x : Tested) → testOf book ≡ x → SmallListed (listingTested (book .lines) number out x .answer)
-        go (Refused r) e = untested-small r e
-        go (Good k) e =
-            cond-ind (λ (o : Listing). SmallListed (o .answer)) (outZ (pos 1) (pos (length (loopsOf (k .marks) (book .lines)))) number) _ _
-            (λ _. unlisted-small 8 0 (omega arith) (omega arith))
-            (λ _. list-small (map listed (loopAt (loopsOf (k .marks) (book .lines)) (natAbs number - 1))) out small)
+    unfolding listingOf listingGood
+    listing-small number =
+        either-way book _ _ (λ (o : Listing). SmallListed (o .answer)) untested-small (λ k e.
+        cond-ind (λ (o : Listing). SmallListed (o .answer)) (outZ (pos 1) (pos (length (loopsOf (k .marks) (book .lines)))) number) _ _
+        (λ _. unlisted-small 8 0 (omega arith) (omega arith))
+        (λ _. list-small (map listed (loopAt (loopsOf (k .marks) (book .lines)) (natAbs number - 1))) out small))
 
     pub listings-small : SmallListed (listingsOf book out .answer)
-    unfolding listingsOf listingsTested listingsGood
-    listings-small = go (testOf book) refl
-      where
-        go : (x : Tested) → testOf book ≡ x → SmallListed (listingsTested (book .lines) out x .answer)
-        go (Refused r) e = untested-small r e
-        go (Good k) e = list-small (listings (loopsOf (k .marks) (book .lines))) out small
+    unfolding listingsOf listingsGood
+    listings-small =
+        either-way book _ _ (λ (o : Listing). SmallListed (o .answer)) untested-small (λ k e. list-small (listings (loopsOf (k .marks) (book .lines))) out small)
 
     pub not-checked-small : SmallListed (notCheckedOf book out .answer)
-    unfolding notCheckedOf notCheckedTested
-    not-checked-small = go (testOf book) refl
-      where
-        go : (x : Tested) → testOf book ≡ x → SmallListed (notCheckedTested (book .lines) out x .answer)
-        go (Refused r) e = untested-small r e
-        go (Good k) e = list-small (uncheckedOf (k .marks) (book .lines)) out small
+    unfolding notCheckedOf
+    not-checked-small =
+        either-way book _ _ (λ (o : Listing). SmallListed (o .answer)) untested-small (λ k e. list-small (uncheckedOf (k .marks) (book .lines)) out small)
 
   module _ (heights : List ℤ) (line : ℤ) where
     rate-refusal-small : (number place : ℕ) → number ≤ 13 → place ≤ mostLines → SmallRate (refusedRate number place)
@@ -201,9 +186,8 @@ module _ (book : Lent) where
     unfolding rateAnswer
     rate-small =
         cond-ind SmallRate (eqZ (pos (length heights)) (book .b)) _ _
-        (λ same. go same (testOf book) refl)
+        (λ same.
+        either-way book _ _ SmallRate
+        (λ r e. let n = tested-numbered book r e in rate-refusal-small (r .number) (r .place) (omega (arith, n .high)) (n .near))
+        (λ k e. let g = tested-good book k e in good-small k (g .few-lines) (omega (arith, marks-of book k e (length heights) same, g .few-marks))))
         (λ _. rate-refusal-small 4 0 (omega arith) (omega arith))
-      where
-        go : eqZ (pos (length heights)) (book .b) ≡ true → (x : Tested) → testOf book ≡ x → SmallRate (testedRate heights (book .lines) line x)
-        go same (Refused r) e = let n = tested-numbered book r e in rate-refusal-small (r .number) (r .place) (omega (arith, n .high)) (n .near)
-        go same (Good k) e = let g = tested-good book k e in good-small k (g .few-lines) (omega (arith, marks-of book k e (length heights) same, g .few-marks))

@@ -12,12 +12,12 @@ use borrow.Author.Tests.{ne-eqb, le-ltb}
 use Rattle.book.specs.Line.{lineWords}
 use Rattle.book.specs.Held.{heldWords}
 use Rattle.book.specs.Limits.{mostLines, mostHeld}
-use Rattle.book.specs.Test.{testOf}
+use Rattle.book.specs.Test.{testOf, ifGood}
 use Rattle.book.specs.declared.Book.{Book}
 use Rattle.book.specs.declared.Tested.{Tested}
 use Rattle.book.specs.declared.Tested.the-variants.{Good, Refused}
 use Rattle.book.proofs.Goods.{tested-numbered}
-use Rattle.file.specs.Read.{Outcome, headOf, linesOf, bookIn, roomOf, testedOf, bodyOf, afterHead, readOf}
+use Rattle.file.specs.Read.{Outcome, answered, refusal, headOf, linesOf, bookIn, roomOf, bodyOf, afterHead, readOf}
 use Rattle.file.specs.Owed.{BookRead}
 use Rattle.file.specs.declared.Head as head
 use Rattle.file.specs.declared.Head.{Head}
@@ -29,7 +29,7 @@ use Rattle.file.proofs.Reading.{zero-is-read}
 use Rattle.book.specs.Good.{GoodLines}
 use Rattle.book.proofs.Goods.{good-lines}
 use Rattle.text.specs.Report.{refusedText}
-use Rattle.page.specs.Page.{bookPage, testedPage, statedPage, pageOf}
+use Rattle.page.specs.Page.{bookPage, statedPage, pageOf}
 
 -- of what was read: the book's report, or the refusal's line
 unfoldable pub readPage : Outcome → List ℕ
@@ -51,12 +51,13 @@ module _ (file : List ℕ) (held lines : List ℤ) (held-room : mostHeld * heldW
   )
 
   body-page : (k : Book) → k .held ≤ mostHeld → k .lines ≤ mostLines
-      → readPage (bodyOf file k held lines) ≡ testedPage k (linesOf file (k .held) (k .lines)) (testOf (bookIn file k))
-  unfolding readPage bodyOf testedOf testedPage
+      → readPage (bodyOf file k held lines) ≡ statedPage file (head.the-variants.States k)
+  unfolding readPage bodyOf statedPage
   body-page k h n = go (testOf (bookIn file k)) refl
     where
       go : (o : Tested) → testOf (bookIn file k) ≡ o
-          → readPage (testedOf file k held lines o) ≡ testedPage k (linesOf file (k .held) (k .lines)) o
+          → readPage (ifGood o (λ r. answered held lines (refusal (r .number) (r .place))) (λ _. roomOf file k held lines))
+          ≡ ifGood o (λ r. refusedText (r .number) (r .place)) (λ _. bookPage (k .marks) (k .tolerance) (k .lines) (linesOf file (k .held) (k .lines)))
       go (Refused r) e =
           let w = tested-numbered (bookIn file k) r e in
           rw (ne-eqb (r .number) 0 (λ z. omega (arith, w .low)))

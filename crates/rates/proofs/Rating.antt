@@ -1,8 +1,8 @@
 -- The rate call: what its tests tell.
 -- Assumes nothing.
 use Prim.Native.Nat.{ℕ, _≤_, zero-le}
-use mathlib.Core.Path.{_≡_, refl, sym, _∙_, ap, subst}
-use mathlib.Core.Bool.{Bool, true, false, cond}
+use mathlib.Core.Path.{_≡_, refl, subst}
+use mathlib.Core.Bool.{Bool, true, false}
 use mathlib.Core.List.{List}
 use lib.Dec.{ltb}
 use lib.ListN.{length, getD}
@@ -16,7 +16,7 @@ use Rattle.book.specs.Height.{workHeightOut}
 use Rattle.book.specs.Lent.{Lent}
 use Rattle.book.specs.Test.{testOf}
 use Rattle.fields.specs.Heights.{Working}
-use Rattle.rates.specs.Rates.{firstHigh, refusedRate, goodRate, testedRate, rateAnswer}
+use Rattle.rates.specs.Rates.{firstHigh, refusedRate, goodRate, rateAnswer}
 use Rattle.book.specs.declared.Book.{Book}
 use Rattle.book.specs.declared.Refusal.{Refusal}
 use Rattle.book.specs.declared.Tested.the-variants.{Good, Refused}
@@ -48,8 +48,8 @@ module _ (book : Lent) (heights : List ℤ) (line : ℤ) (r : RateAnswer) where
 
   pub rate-refused : eqZ (pos (length heights)) (book .b) ≡ true → (f : Refusal) → testOf book ≡ Refused f → r ≡ refusedRate (f .number) (f .place) → r ≡ rateAnswer book heights line
   unfolding rateAnswer
-  rate-refused q f h e = e ∙ sym (ap (λ (x : Bool). cond x (testedRate heights (book .lines) line (testOf book)) (refusedRate 4 0)) q ∙ ap (testedRate heights (book .lines) line) h)
+  rate-refused q f h e = rw (q, h) e
 
   pub rate-good : eqZ (pos (length heights)) (book .b) ≡ true → (k : Book) → testOf book ≡ Good k → r ≡ goodRate heights (book .lines) k line → r ≡ rateAnswer book heights line
   unfolding rateAnswer
-  rate-good q k h e = e ∙ sym (ap (λ (x : Bool). cond x (testedRate heights (book .lines) line (testOf book)) (refusedRate 4 0)) q ∙ ap (testedRate heights (book .lines) line) h)
+  rate-good q k h e = rw (q, h) e

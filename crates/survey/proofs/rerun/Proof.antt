@@ -3,7 +3,7 @@ use mathlib.Core.Path.{_≡_, sym, _∙_}
 use Rattle.book.specs.Lent.{lent}
 use Rattle.book.specs.Test.{testOf}
 use Rattle.book.proofs.Goods.{tested-good}
-use Rattle.survey.specs.Correction.{correctTested, rerunOf}
+use Rattle.survey.specs.Correction.{correctOf, rerunOf}
 use Prim.Native.Nat.{_≤_}
 use lib.IntN.{natAbs}
 use Rattle.book.specs.Limits.{mostDifference}
@@ -62,7 +62,7 @@ same-length : tie.Need-same-length
 same-length c = search needs
 
 returns-2 : tie.Need-returns-2
-unfolding rerunOf correctTested
+unfolding rerunOf correctOf
 returns-2 c =
     let after-test : tie.After-test = search in
     let else1 : tie.Else1 = search in
@@ -76,7 +76,7 @@ same-length-3 : tie.Need-same-length-3
 same-length-3 c = search needs
 
 returns-3 : tie.Need-returns-3
-unfolding rerunOf correctTested
+unfolding rerunOf correctOf
 returns-3 c =
     let after-book : tie.After-book = search in
     let after-test : tie.After-test = search in

@@ -2,7 +2,7 @@ use mathlib.Core.Path.{_≡_, sym, _∙_}
 use Rattle.book.specs.Lent.{lent}
 use Rattle.book.specs.Test.{testOf}
 use Rattle.book.proofs.Goods.{tested-good}
-use Rattle.survey.specs.Correction.{correctTested, withdrawOf}
+use Rattle.survey.specs.Correction.{correctOf, withdrawOf}
 use Rattle.book.proofs.Goods.{good-lines}
 use borrow.Author.Needs.{needs}
 use Rattle.survey.proofs.withdraw.Statement.{statement}
@@ -36,7 +36,7 @@ same-length : tie.Need-same-length
 same-length c = search needs
 
 returns : tie.Need-returns
-unfolding withdrawOf correctTested
+unfolding withdrawOf correctOf
 returns c =
     let after-test : tie.After-test = search in
     rw (← (tested after-test), c .before .before .r .given .1, c .refuse .ensures)
@@ -48,7 +48,7 @@ same-length-3 : tie.Need-same-length-3
 same-length-3 c = search needs
 
 returns-2 : tie.Need-returns-2
-unfolding withdrawOf correctTested
+unfolding withdrawOf correctOf
 returns-2 c =
     let after-book : tie.After-book = search in
     let after-test : tie.After-test = search in
