@@ -6,20 +6,35 @@ use mathlib.Core.List.{List, _++_}
 use lib.ListN.{length, drop}
 use lib.IntN.{ℤ}
 use borrow.Author.Tests.{lt-ltb, le-ltb}
+use Rattle.book.specs.Lent.{Lent}
+use Rattle.book.specs.Test.{testOf}
 use Rattle.book.specs.Good.{GoodBook}
 use Rattle.book.specs.declared.Book.{Book}
+use Rattle.book.specs.declared.Refusal.{Refusal}
+use Rattle.book.specs.declared.Tested.the-variants.{Good, Refused}
 use Rattle.book.proofs.Goods.{good-lines}
+use Rattle.book.proofs.IfGood.{if-refused, if-good}
 use Rattle.adjust.specs.Adjusted.{Outcome, done, refused, adjustment}
 use Rattle.adjust.specs.Answers.{answer, answered, Answers}
-use Rattle.adjust.specs.Call.{adjusted, givenBy, adjustGood, GoodEntries}
+use Rattle.adjust.specs.Call.{adjusted, givenBy, adjustGood, adjustOf, GoodEntries}
 use Rattle.adjust.specs.declared.Adjusted.{Adjusted}
 
 -- a tested book has good entries
-pub good-entries : (k : Book) (b t : ℤ) (held lines : List ℤ) → GoodBook k b t held lines → GoodEntries k held lines
-good-entries k b t held lines g = record {
-  lines-good = good-lines k b t held lines g;
+pub good-entries : (k : Book) (book : Lent) → GoodBook k book → GoodEntries k (book .held) (book .lines)
+good-entries k book g = record {
+  lines-good = good-lines k book g;
   held-good = record { few = g .few-held; whole = g .whole-held; each = g .each-held };
 }
+
+-- the call by the test of its book
+module _ (book : Lent) (out : List ℤ) where
+  pub by-refusal : (r : Refusal) → testOf book ≡ Refused r → adjustOf book out ≡ adjusted (answer (r .number) (r .place) 0) out
+  unfolding adjustOf
+  by-refusal = if-refused book (λ r. adjusted (answer (r .number) (r .place) 0) out) (λ k. adjustGood k (book .held) (book .lines) out)
+
+  pub by-good-book : (k : Book) → testOf book ≡ Good k → adjustOf book out ≡ adjustGood k (book .held) (book .lines) out
+  unfolding adjustOf
+  by-good-book = if-good book (λ r. adjusted (answer (r .number) (r .place) 0) out) (λ k. adjustGood k (book .held) (book .lines) out)
 
 -- what is given by an answer and the heights that it leaves
 module _ (a : Adjusted) (z out : List ℤ) where

@@ -6,10 +6,9 @@ use lib.Dec.{ltb}
 use lib.ListN.{length, drop}
 use lib.IntN.{ℤ}
 use Rattle.book.specs.Good.{GoodLines}
-use Rattle.book.specs.Test.{testOf}
+use Rattle.book.specs.Lent.{Lent}
+use Rattle.book.specs.Test.{testOf, ifGood}
 use Rattle.book.specs.declared.Book.{Book}
-use Rattle.book.specs.declared.Tested.{Tested}
-use Rattle.book.specs.declared.Tested.the-variants.{Good, Refused}
 use Rattle.start.specs.Along.{HeldEntries}
 use Rattle.adjust.specs.Adjusted.{Outcome, done, refused, adjustment}
 use Rattle.adjust.specs.Answers.{answer}
@@ -33,14 +32,11 @@ unfoldable pub adjustGood : Book → List ℤ → List ℤ → List ℤ → Give
 unfolding adjustment
 adjustGood k held lines out = cond (ltb (length out) (k .marks)) (adjusted (answer 10 0 0) out) (givenBy out (adjustment (k .marks) held lines))
 
-unfoldable pub adjustTested : List ℤ → List ℤ → List ℤ → Tested → Given
-unfolding adjustGood
-adjustTested held lines out (Refused r) = adjusted (answer (r .number) (r .place) 0) out
-adjustTested held lines out (Good k) = adjustGood k held lines out
-
-unfoldable pub adjustOf : ℤ → ℤ → List ℤ → List ℤ → List ℤ → Given
-unfolding adjustTested testOf
-adjustOf b t held lines out = adjustTested held lines out (testOf b t held lines)
+unfoldable pub adjustOf : Lent → List ℤ → Given
+unfolding adjustGood testOf
+adjustOf book out =
+    ifGood (testOf book) (λ r. adjusted (answer (r .number) (r .place) 0) out)
+    (λ k. adjustGood k (book .held) (book .lines) out)
 
 -- What the adjustment uses of a tested book: that every held entry and every line is good
 pub record GoodEntries (k : Book) (held lines : List ℤ) : Type 0 where

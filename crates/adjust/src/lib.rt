@@ -1,5 +1,6 @@
 // The public calls on a lent book: the adjustment by sweeps, and correction rates. Document 01, "Adjustment".
 ghost use mathlib.Core.Path.{_≡_};
+ghost use Rattle.book.specs.Lent.{lent};
 ghost use Rattle.rates.specs.Rates.{rateAnswer};
 ghost use Rattle.adjust.specs.Answers.{answer};
 ghost use Rattle.adjust.specs.Call.{adjusted, adjustOf};
@@ -29,7 +30,8 @@ pub(crate) fn refuse(number: usize, place: usize) -> Adjusted
 
 // The adjusted heights of the marks. Refusals 4, 6, 7, 10, 11, then 12 or 13 by whichever comes first; a refusal leaves the heights as they were.
 pub fn adjust(b: i64, t: i64, held: &[i64], lines: &[i64], heights: &mut [i64]) -> Adjusted
-    ensures { λ r. ⌜ adjusted r (now (heights .exit)) ≡ adjustOf b t (now (held .entry)) (now (lines .entry)) (now (heights .entry)) ⌝ }
+    ensures { λ r. ⌜ adjusted r (now (heights .exit))
+        ≡ adjustOf (lent b t (now (held .entry)) (now (lines .entry))) (now (heights .entry)) ⌝ }
 {
     match book::test(b, t, held, lines) {
         Tested::Refused(r) => refuse(r.number, r.place),
@@ -39,7 +41,7 @@ pub fn adjust(b: i64, t: i64, held: &[i64], lines: &[i64], heights: &mut [i64]) 
 
 // A line's correction rate by the lent heights. Refusals 4, 6, 7, 8 and 13.
 pub fn rate(b: i64, t: i64, held: &[i64], lines: &[i64], heights: &[i64], line: i64) -> RateAnswer
-    ensures { λ r. ⌜ r ≡ rateAnswer b t (now (held .entry)) (now (lines .entry)) (now (heights .entry)) line ⌝ }
+    ensures { λ r. ⌜ r ≡ rateAnswer (lent b t (now (held .entry)) (now (lines .entry))) (now (heights .entry)) line ⌝ }
 {
     if signed::same(signed::signed_count(heights.len()), b) {
         let tested = book::test(b, t, held, lines);

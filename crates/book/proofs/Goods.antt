@@ -18,7 +18,8 @@ use Rattle.book.specs.Limits.{leastMarks, mostMarks, leastLines, mostLin
 use Rattle.book.specs.Height.{heldHeightOut}
 use Rattle.book.specs.Held.{heldWords, markAt, heightAt, heldCount, heldOut, heldBefore, heldBad, firstBadHeld}
 use Rattle.book.specs.Line.{lineWords, fromAt, toAt, differenceAt, lengthAt, standingAt, lineCount, differenceOut, lineFault, lineBad, firstBadLine}
-use Rattle.book.specs.Test.{bookOut, counts, refused, torn, testOf}
+use Rattle.book.specs.Lent.{Lent}
+use Rattle.book.specs.Test.{bookOut, countsOf, refused, torn, testOf}
 use Rattle.book.specs.Good.{GoodLine, GoodHeld, GoodBook, GoodLines}
 use Rattle.book.specs.declared.Book.{Book}
 use Rattle.book.specs.declared.Refusal.{Refusal}
@@ -80,51 +81,51 @@ whole w slice e = let d = div-add-mod' (length slice) w in let z = eqb-true (len
 none-first : (n : ℕ) → ltb 0 n ≡ false → n ≡ 0
 none-first n e = let z = ltb-false 0 n e in omega arith
 
-module _ (b t : ℤ) (held lines : List ℤ) (k : Book) where
+module _ (book : Lent) (k : Book) where
   -- the counts of a book that passes are those that were lent
-  pub tested-counts : testOf b t held lines ≡ Good k → k ≡ counts b t (heldCount held) (lineCount lines)
+  pub tested-counts : testOf book ≡ Good k → k ≡ countsOf book
   unfolding testOf
   tested-counts e =
-      let p₁ = past (torn heldWords held) 4 0 _ k e in
-      let p₂ = past (torn lineWords lines) 4 0 _ k (p₁ .1) in
-      let p₃ = past (bookOut b t (heldCount held) (lineCount lines)) 4 0 _ k (p₂ .1) in
-      let p₄ = past (ltb 0 (firstBadHeld b held)) 6 (firstBadHeld b held) _ k (p₃ .1) in
-      let p₅ = past (ltb 0 (firstBadLine b lines)) 7 (firstBadLine b lines) _ k (p₄ .1) in
+      let p₁ = past (torn heldWords (book .held)) 4 0 _ k e in
+      let p₂ = past (torn lineWords (book .lines)) 4 0 _ k (p₁ .1) in
+      let p₃ = past (bookOut (book .b) (book .t) (heldCount (book .held)) (lineCount (book .lines))) 4 0 _ k (p₂ .1) in
+      let p₄ = past (ltb 0 (firstBadHeld (book .b) (book .held))) 6 (firstBadHeld (book .b) (book .held)) _ k (p₃ .1) in
+      let p₅ = past (ltb 0 (firstBadLine (book .b) (book .lines))) 7 (firstBadLine (book .b) (book .lines)) _ k (p₄ .1) in
       cc
 
   -- "An answer of 0": the book is inside every limit
-  pub tested-good : testOf b t held lines ≡ Good k → GoodBook k b t held lines
+  pub tested-good : testOf book ≡ Good k → GoodBook k book
   unfolding testOf bookOut firstBadHeld firstBadLine
   tested-good e =
-      let h = heldCount held in
-      let n = lineCount lines in
-      let p₁ = past (torn heldWords held) 4 0 _ k e in
-      let p₂ = past (torn lineWords lines) 4 0 _ k (p₁ .1) in
-      let p₃ = past (bookOut b t h n) 4 0 _ k (p₂ .1) in
-      let p₄ = past (ltb 0 (firstBadHeld b held)) 6 (firstBadHeld b held) _ k (p₃ .1) in
-      let p₅ = past (ltb 0 (firstBadLine b lines)) 7 (firstBadLine b lines) _ k (p₄ .1) in
+      let h = heldCount (book .held) in
+      let n = lineCount (book .lines) in
+      let p₁ = past (torn heldWords (book .held)) 4 0 _ k e in
+      let p₂ = past (torn lineWords (book .lines)) 4 0 _ k (p₁ .1) in
+      let p₃ = past (bookOut (book .b) (book .t) h n) 4 0 _ k (p₂ .1) in
+      let p₄ = past (ltb 0 (firstBadHeld (book .b) (book .held))) 6 (firstBadHeld (book .b) (book .held)) _ k (p₃ .1) in
+      let p₅ = past (ltb 0 (firstBadLine (book .b) (book .lines))) 7 (firstBadLine (book .b) (book .lines)) _ k (p₄ .1) in
       let q = tested-counts e in
-      let out₁ = outZ (pos leastMarks) (pos mostMarks) b in
-      let out₂ = outZ (pos leastTolerance) (pos mostTolerance) t in
+      let out₁ = outZ (pos leastMarks) (pos mostMarks) (book .b) in
+      let out₂ = outZ (pos leastTolerance) (pos mostTolerance) (book .t) in
       let out₃ = outN leastHeld mostHeld h in
       let out₄ = outN leastLines mostLines n in
       let o₃ = or-left (out₁ || out₂ || out₃) out₄ (p₃ .0) in
       let o₂ = or-left (out₁ || out₂) out₃ o₃ in
-      let marks = between leastMarks mostMarks b (or-left out₁ out₂ o₂) in
-      let tolerance = between leastTolerance mostTolerance t (or-right out₁ out₂ o₂) in
-      subst (λ (k : Book). GoodBook k b t held lines) (sym q) (record {
+      let marks = between leastMarks mostMarks (book .b) (or-left out₁ out₂ o₂) in
+      let tolerance = between leastTolerance mostTolerance (book .t) (or-right out₁ out₂ o₂) in
+      subst (λ (k : Book). GoodBook k book) (sym q) (record {
         marks = marks .is;
         a-mark = marks .low;
         few-marks = marks .high;
         tolerance = tolerance .is;
         a-tolerance = tolerance .low;
         small-tolerance = tolerance .high;
-        whole-held = whole heldWords held (p₁ .0);
+        whole-held = whole heldWords (book .held) (p₁ .0);
         few-held = inN-high leastHeld mostHeld h (or-right (out₁ || out₂) out₃ o₃);
-        whole-lines = whole lineWords lines (p₂ .0);
+        whole-lines = whole lineWords (book .lines) (p₂ .0);
         few-lines = inN-high leastLines mostLines n (or-right (out₁ || out₂ || out₃) out₄ (p₃ .0));
-        each-held = λ i l. good-held (natAbs b) held i (subst (λ (z : ℤ). heldBad z held i ≡ false) (marks .is) (none-bad (heldBad b held) h (none-first (firstBadHeld b held) (p₄ .0)) i l));
-        each-line = λ i l. good-line (natAbs b) lines i (subst (λ (z : ℤ). lineBad z lines i ≡ false) (marks .is) (none-bad (lineBad b lines) n (none-first (firstBadLine b lines) (p₅ .0)) i l));
+        each-held = λ i l. good-held (natAbs (book .b)) (book .held) i (subst (λ (z : ℤ). heldBad z (book .held) i ≡ false) (marks .is) (none-bad (heldBad (book .b) (book .held)) h (none-first (firstBadHeld (book .b) (book .held)) (p₄ .0)) i l));
+        each-line = λ i l. good-line (natAbs (book .b)) (book .lines) i (subst (λ (z : ℤ). lineBad z (book .lines) i ≡ false) (marks .is) (none-bad (lineBad (book .b) (book .lines)) n (none-first (firstBadLine (book .b) (book .lines)) (p₅ .0)) i l));
       })
 
 -- a refusal has a number of the table, and a place that is an entry's or 0
@@ -142,36 +143,36 @@ numbered : (t : Bool) (number place : ℕ) (rest : Tested) → (t ≡ true → N
 numbered true number place rest h n = h refl
 numbered false number place rest h n = n refl
 
-module _ (b t : ℤ) (held lines : List ℤ) where
-  few-entries : bookOut b t (heldCount held) (lineCount lines) ≡ false → (heldCount held ≤ mostHeld) × (lineCount lines ≤ mostLines)
+module _ (book : Lent) where
+  few-entries : bookOut (book .b) (book .t) (heldCount (book .held)) (lineCount (book .lines)) ≡ false → (heldCount (book .held) ≤ mostHeld) × (lineCount (book .lines) ≤ mostLines)
   unfolding bookOut
   few-entries e =
-      let out₁ = outZ (pos leastMarks) (pos mostMarks) b in
-      let out₂ = outZ (pos leastTolerance) (pos mostTolerance) t in
-      let out₃ = outN leastHeld mostHeld (heldCount held) in
-      let out₄ = outN leastLines mostLines (lineCount lines) in
+      let out₁ = outZ (pos leastMarks) (pos mostMarks) (book .b) in
+      let out₂ = outZ (pos leastTolerance) (pos mostTolerance) (book .t) in
+      let out₃ = outN leastHeld mostHeld (heldCount (book .held)) in
+      let out₄ = outN leastLines mostLines (lineCount (book .lines)) in
       let o₃ = or-left (out₁ || out₂ || out₃) out₄ e in
-      (inN-high leastHeld mostHeld (heldCount held) (or-right (out₁ || out₂) out₃ o₃), inN-high leastLines mostLines (lineCount lines) (or-right (out₁ || out₂ || out₃) out₄ e))
+      (inN-high leastHeld mostHeld (heldCount (book .held)) (or-right (out₁ || out₂) out₃ o₃), inN-high leastLines mostLines (lineCount (book .lines)) (or-right (out₁ || out₂ || out₃) out₄ e))
 
-  pub tested-numbered : (r : Refusal) → testOf b t held lines ≡ Refused r → Numbered r
+  pub tested-numbered : (r : Refusal) → testOf book ≡ Refused r → Numbered r
   unfolding testOf firstBadHeld firstBadLine
   tested-numbered r e =
       subst NumberedIf e
-      (numbered (torn heldWords held) 4 0 _ four (λ _.
-      numbered (torn lineWords lines) 4 0 _ four (λ _.
-      numbered (bookOut b t (heldCount held) (lineCount lines)) 4 0 _ four (λ inside.
+      (numbered (torn heldWords (book .held)) 4 0 _ four (λ _.
+      numbered (torn lineWords (book .lines)) 4 0 _ four (λ _.
+      numbered (bookOut (book .b) (book .t) (heldCount (book .held)) (lineCount (book .lines))) 4 0 _ four (λ inside.
       let few = few-entries inside in
-      let h = first-most (heldBad b held) (heldCount held) in
-      let n = first-most (lineBad b lines) (lineCount lines) in
-      numbered (ltb 0 (firstBadHeld b held)) 6 (firstBadHeld b held) _ (λ _. record { low = omega arith; high = omega arith; near = omega (arith, few .0, h) }) (λ _.
-      numbered (ltb 0 (firstBadLine b lines)) 7 (firstBadLine b lines) _ (λ _. record { low = omega arith; high = omega arith; near = omega (arith, few .1, n) }) (λ _. tt))))))
+      let h = first-most (heldBad (book .b) (book .held)) (heldCount (book .held)) in
+      let n = first-most (lineBad (book .b) (book .lines)) (lineCount (book .lines)) in
+      numbered (ltb 0 (firstBadHeld (book .b) (book .held))) 6 (firstBadHeld (book .b) (book .held)) _ (λ _. record { low = omega arith; high = omega arith; near = omega (arith, few .0, h) }) (λ _.
+      numbered (ltb 0 (firstBadLine (book .b) (book .lines))) 7 (firstBadLine (book .b) (book .lines)) _ (λ _. record { low = omega arith; high = omega arith; near = omega (arith, few .1, n) }) (λ _. tt))))))
     where
       four : {P : Type 0} → P → Numbered (record { number = 4; place = 0 })
       four p = record { low = omega arith; high = omega arith; near = omega arith }
 
 -- a good book has good lines
-pub good-lines : (k : Book) (b t : ℤ) (held lines : List ℤ) → GoodBook k b t held lines → GoodLines k lines
-good-lines k b t held lines g = record {
+pub good-lines : (k : Book) (book : Lent) → GoodBook k book → GoodLines k (book .lines)
+good-lines k book g = record {
   a-mark = g .a-mark;
   few-marks = g .few-marks;
   small-tolerance = g .small-tolerance;

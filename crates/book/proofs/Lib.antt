@@ -3,3 +3,4 @@ pub mod Places
 pub mod Lines
 pub mod Goods
 pub mod Passing
+pub mod IfGood

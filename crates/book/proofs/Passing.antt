@@ -13,6 +13,7 @@ use Rattle.book.specs.Height.{heldHeightOut}
 use Rattle.book.specs.Held.{heldWords, heldCount, markAt, heightAt, heldOut, heldBefore, heldBad, firstBadHeld}
 use Rattle.book.specs.Line.{lineWords, fromAt, toAt, differenceAt, lengthAt, standingAt, lineAt, entryAt, lineCount}
 use Rattle.book.specs.Line.{differenceOut, lineFault, lineOf, entryOf, lineBad, firstBadLine}
+use Rattle.book.specs.Lent.{Lent}
 use Rattle.book.specs.Test.{bookOut, torn, testOf}
 use Rattle.book.specs.Good.{GoodLine, GoodHeld, GoodBook}
 use Rattle.book.specs.declared.Book.{Book}
@@ -36,12 +37,12 @@ held-passes b held i g =
     rw (between-inside (g .mark), size-inside mostHeldHeight (heightAt held i) (g .height), none-any (λ j. eqZ (markAt held j) (markAt held i)) i (λ j l. apart-eqZ (markAt held j) (markAt held i) (g .once j l)))
 
 -- a book inside every limit passes the test
-pub good-passes : (k : Book) (b t : ℤ) (held lines : List ℤ) → GoodBook k b t held lines → testOf b t held lines ≡ Good k
+pub good-passes : (k : Book) (book : Lent) → GoodBook k book → testOf book ≡ Good k
 unfolding testOf torn bookOut outN firstBadHeld firstBadLine
-good-passes k b t held lines g =
+good-passes k book g =
     rw (
-      eq-eqb (length held % heldWords) 0 (omega (arith, g .whole-held)),
-      eq-eqb (length lines % lineWords) 0 (omega (arith, g .whole-lines)),
+      eq-eqb (length (book .held) % heldWords) 0 (omega (arith, g .whole-held)),
+      eq-eqb (length (book .lines) % lineWords) 0 (omega (arith, g .whole-lines)),
       h,
       n,
       g .marks,
@@ -52,15 +53,15 @@ good-passes k b t held lines g =
       le-ltb mostHeld (k .held) (g .few-held),
       le-ltb (k .lines) leastLines (omega arith),
       le-ltb mostLines (k .lines) (g .few-lines),
-      none-first (heldBad (pos (k .marks)) held) (k .held) (λ i l. held-passes (k .marks) held i (g .each-held i l)),
-      none-first (lineBad (pos (k .marks)) lines) (k .lines) (λ i l. line-passes (k .marks) lines i (g .each-line i l)),
+      none-first (heldBad (pos (k .marks)) (book .held)) (k .held) (λ i l. held-passes (k .marks) (book .held) i (g .each-held i l)),
+      none-first (lineBad (pos (k .marks)) (book .lines)) (k .lines) (λ i l. line-passes (k .marks) (book .lines) i (g .each-line i l)),
     )
   where
-    h : heldCount held ≡ k .held
+    h : heldCount (book .held) ≡ k .held
     h = omega (arith, g .whole-held)
 
-    n : lineCount lines ≡ k .lines
-    n = count-of lines (k .lines) (g .whole-lines)
+    n : lineCount (book .lines) ≡ k .lines
+    n = count-of (book .lines) (k .lines) (g .whole-lines)
 
 -- the line at place i is made of its entry
 pub line-is-made : (b : ℕ) (lines : List ℤ) (i : ℕ) → GoodLine b lines i → entryOf (pos b) (entryAt lines i) ≡ made.Good (lineAt lines i)

@@ -11,6 +11,7 @@ use Rattle.book.specs.Limits.{leastMarks, mostMarks, mostLines, mostHeld
 use Rattle.book.specs.Limits.{mostDifference, leastLength, mostLength, mostHeldHeight}
 use Rattle.book.specs.Held.{heldWords, markAt, heightAt}
 use Rattle.book.specs.Line.{lineWords, fromAt, toAt, differenceAt, lengthAt, standingAt}
+use Rattle.book.specs.Lent.{Lent}
 use Rattle.book.specs.declared.Book.{Book}
 
 -- the line at place i of a book of b marks
@@ -28,20 +29,20 @@ pub record GoodHeld (b : ℕ) (held : List ℤ) (i : ℕ) : Type 0 where
   pub height : natAbs (heightAt held i) ≤ mostHeldHeight
   pub once : (j : ℕ) → j < i → markAt held j ≡ markAt held i → ⊥
 
--- the book with the counts k
-pub record GoodBook (k : Book) (b t : ℤ) (held lines : List ℤ) : Type 0 where
-  pub marks : b ≡ pos (k .marks)
+-- the lent book, with the counts k
+pub record GoodBook (k : Book) (book : Lent) : Type 0 where
+  pub marks : book .b ≡ pos (k .marks)
   pub a-mark : leastMarks ≤ k .marks
   pub few-marks : k .marks ≤ mostMarks
-  pub tolerance : t ≡ pos (k .tolerance)
+  pub tolerance : book .t ≡ pos (k .tolerance)
   pub a-tolerance : leastTolerance ≤ k .tolerance
   pub small-tolerance : k .tolerance ≤ mostTolerance
-  pub whole-held : length held ≡ k .held * heldWords
+  pub whole-held : length (book .held) ≡ k .held * heldWords
   pub few-held : k .held ≤ mostHeld
-  pub whole-lines : length lines ≡ k .lines * lineWords
+  pub whole-lines : length (book .lines) ≡ k .lines * lineWords
   pub few-lines : k .lines ≤ mostLines
-  pub each-held : (i : ℕ) → i < k .held → GoodHeld (k .marks) held i
-  pub each-line : (i : ℕ) → i < k .lines → GoodLine (k .marks) lines i
+  pub each-held : (i : ℕ) → i < k .held → GoodHeld (k .marks) (book .held) i
+  pub each-line : (i : ℕ) → i < k .lines → GoodLine (k .marks) (book .lines) i
 
 -- what the work on the lines uses of it: its counts, its tolerance, and that every line is good
 pub record GoodLines (k : Book) (lines : List ℤ) : Type 0 where

@@ -2,5 +2,6 @@ pub mod Limits
 pub mod Height
 pub mod Held
 pub mod Line
+pub mod Lent
 pub mod Test
 pub mod Good

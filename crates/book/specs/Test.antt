@@ -10,7 +10,9 @@ use Rattle.laws.specs.Tests.{outZ, outN}
 use Rattle.book.specs.Limits.{leastMarks, mostMarks, leastLines, mostLines, leastHeld, mostHeld, leastTolerance, mostTolerance}
 use Rattle.book.specs.Held.{heldWords, heldCount, firstBadHeld}
 use Rattle.book.specs.Line.{lineWords, lineCount, firstBadLine}
+use Rattle.book.specs.Lent.{Lent}
 use Rattle.book.specs.declared.Book.{Book}
+use Rattle.book.specs.declared.Refusal.{Refusal}
 use Rattle.book.specs.declared.Tested.{Tested}
 use Rattle.book.specs.declared.Tested.the-variants.{Good, Refused}
 
@@ -25,8 +27,19 @@ bookOut b t h n =
 abbrev pub counts : ℤ → ℤ → ℕ → ℕ → Book
 counts b t h n = record { marks = natAbs b; tolerance = natAbs t; held = h; lines = n }
 
+-- the counts of a lent book
+abbrev pub countsOf : Lent → Book
+countsOf book = counts (book .b) (book .t) (heldCount (book .held)) (lineCount (book .lines))
+
+-- "An answer is a number (0 for done), a place (0 when done)": a refusal, and none
+abbrev pub refusal : ℕ → ℕ → Refusal
+refusal number place = record { number = number; place = place }
+
+abbrev pub noRefusal : Refusal
+noRefusal = refusal 0 0
+
 abbrev pub refused : ℕ → ℕ → Tested
-refused number place = Refused (record { number = number; place = place })
+refused number place = Refused (refusal number place)
 
 -- the book that the counts make, or refusal 4
 unfoldable pub bookOf : ℤ → ℤ → ℕ → ℕ → Tested
@@ -38,12 +51,17 @@ unfoldable pub torn : ℕ → List ℤ → Bool
 torn w slice = not (eqb (length slice % w) 0)
 
 -- what the test of a lent book answers
-unfoldable pub testOf : ℤ → ℤ → List ℤ → List ℤ → Tested
+unfoldable pub testOf : Lent → Tested
 unfolding torn bookOut firstBadHeld firstBadLine
-testOf b t held lines =
-    cond (torn heldWords held) (refused 4 0)
-    (cond (torn lineWords lines) (refused 4 0)
-    (cond (bookOut b t (heldCount held) (lineCount lines)) (refused 4 0)
-    (cond (ltb 0 (firstBadHeld b held)) (refused 6 (firstBadHeld b held))
-    (cond (ltb 0 (firstBadLine b lines)) (refused 7 (firstBadLine b lines))
-    (Good (counts b t (heldCount held) (lineCount lines)))))))
+testOf book =
+    cond (torn heldWords (book .held)) (refused 4 0)
+    (cond (torn lineWords (book .lines)) (refused 4 0)
+    (cond (bookOut (book .b) (book .t) (heldCount (book .held)) (lineCount (book .lines))) (refused 4 0)
+    (cond (ltb 0 (firstBadHeld (book .b) (book .held))) (refused 6 (firstBadHeld (book .b) (book .held)))
+    (cond (ltb 0 (firstBadLine (book .b) (book .lines))) (refused 7 (firstBadLine (book .b) (book .lines)))
+    (Good (countsOf book))))))
+
+-- "Each call tests all that it is lent": what a call gives of a book that is refused, and what of one that is good
+abbrev pub ifGood : {A : Type 0} → Tested → (Refusal → A) → (Book → A) → A
+ifGood (Refused r) refuse go = refuse r
+ifGood (Good k) refuse go = go k

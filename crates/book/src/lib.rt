@@ -2,7 +2,8 @@
 // Document 01, "The book" and "Refusal numbers" 4, 6 and 7.
 ghost use mathlib.Core.Path.{_≡_};
 ghost use Prim.Native.Nat.{_/_};
-ghost use Rattle.book.specs.Test.{bookOf, refused, testOf};
+ghost use Rattle.book.specs.Lent.{lent};
+ghost use Rattle.book.specs.Test.{bookOf, noRefusal, refusal, refused, testOf};
 
 pub mod height;
 pub mod held;
@@ -73,15 +74,30 @@ impl Book {
     }
 }
 
+impl Refusal {
+    pub fn new(number: usize, place: usize) -> Refusal
+        ensures { λ r. ⌜ r ≡ refusal number place ⌝ }
+    {
+        Refusal { number, place }
+    }
+
+    // Done.
+    pub fn none() -> Refusal
+        ensures { λ r. ⌜ r ≡ noRefusal ⌝ }
+    {
+        Refusal::new(0, 0)
+    }
+}
+
 fn refuse(number: usize, place: usize) -> Tested
     ensures { λ r. ⌜ r ≡ refused number place ⌝ }
 {
-    Tested::Refused(Refusal { number, place })
+    Tested::Refused(Refusal::new(number, place))
 }
 
 // The test of a lent book: 4, then 6, then 7.
 pub fn test(b: i64, t: i64, held: &[i64], lines: &[i64]) -> Tested
-    ensures { λ r. ⌜ r ≡ testOf b t (now (held .entry)) (now (lines .entry)) ⌝ }
+    ensures { λ r. ⌜ r ≡ testOf (lent b t (now (held .entry)) (now (lines .entry))) ⌝ }
 {
     if held.len() % Held::WORDS != 0 {
         return refuse(4, 0);

@@ -5,10 +5,10 @@ use mathlib.Core.Path.{_≡_, refl, _∙_, ap, sym}
 use Prim.Native.Nat.{ℕ}
 use native.Mathlib.Omega.{arith}
 use lib.Dec.{ltb}
-use lib.IntN.{ℤ}
+use Rattle.book.specs.Lent.{Lent}
 use Rattle.book.specs.Held.{heldWords, heldCount, firstBadHeld}
 use Rattle.book.specs.Line.{lineWords, lineCount, firstBadLine}
-use Rattle.book.specs.Test.{torn, bookOut, counts, refused, testOf}
+use Rattle.book.specs.Test.{torn, bookOut, countsOf, refused, testOf, ifGood}
 use Rattle.book.specs.declared.Book.{Book}
 use Rattle.book.specs.declared.Refusal.{Refusal}
 use Rattle.book.specs.declared.Tested.the-variants.{Good, Refused}
@@ -49,23 +49,22 @@ past-rules (q ∷ rest) c k e = go (q .applies) refl e (past-rules rest c k)
 
 -- ---- the test
 
--- what follows the test keeps to the table of the book, and then to its own
-pub by-the-test : {A : Type 0} (b t : ℤ) (held lines : List ℤ) (on : Tested → A) (more : List Rule) (refuse : ℕ → ℕ → A) (done : A)
+on-the-test : {A : Type 0} (book : Lent) (on : Tested → A) (more : List Rule) (refuse : ℕ → ℕ → A) (done : A)
     → ((r : Refusal) → on (Refused r) ≡ refuse (r .number) (r .place))
-    → on (Good (counts b t (heldCount held) (lineCount lines))) ≡ byRules more refuse done
-    → on (testOf b t held lines) ≡ byRules (bookRules b t held lines more) refuse done
+    → on (Good (countsOf book)) ≡ byRules more refuse done
+    → on (testOf book) ≡ byRules (bookRules book more) refuse done
 unfolding testOf byRules bookFault
-by-the-test b t held lines on more refuse done f e =
-    go (torn heldWords held) (torn lineWords lines) (bookOut b t (heldCount held) (lineCount lines)) (ltb 0 (firstBadHeld b held)) (ltb 0 (firstBadLine b lines))
+on-the-test book on more refuse done f e =
+    go (torn heldWords (book .held)) (torn lineWords (book .lines)) (bookOut (book .b) (book .t) (heldCount (book .held)) (lineCount (book .lines))) (ltb 0 (firstBadHeld (book .b) (book .held))) (ltb 0 (firstBadLine (book .b) (book .lines)))
   where
     h : ℕ
-    h = firstBadHeld b held
+    h = firstBadHeld (book .b) (book .held)
 
     l : ℕ
-    l = firstBadLine b lines
+    l = firstBadLine (book .b) (book .lines)
 
     go : (x y z s q : Bool)
-        → on (cond x (refused 4 0) (cond y (refused 4 0) (cond z (refused 4 0) (cond s (refused 6 h) (cond q (refused 7 l) (Good (counts b t (heldCount held) (lineCount lines))))))))
+        → on (cond x (refused 4 0) (cond y (refused 4 0) (cond z (refused 4 0) (cond s (refused 6 h) (cond q (refused 7 l) (Good (countsOf book)))))))
         ≡ cond (x || y || z) (refuse 4 0) (cond s (refuse 6 h) (cond q (refuse 7 l) (byRules more refuse done)))
     go true y z s q = f _
     go false true z s q = f _
@@ -74,19 +73,25 @@ by-the-test b t held lines on more refuse done f e =
     go false false false false true = f _
     go false false false false false = e
 
-module _ (b t : ℤ) (held lines : List ℤ) where
+-- what follows the test keeps to the table of the book, and then to its own
+pub by-the-test : {A : Type 0} (book : Lent) (go : Book → A) (more : List Rule) (refuse : ℕ → ℕ → A) (done : A)
+    → go (countsOf book) ≡ byRules more refuse done
+    → ifGood (testOf book) (λ r. refuse (r .number) (r .place)) go ≡ byRules (bookRules book more) refuse done
+by-the-test book go more refuse done e = on-the-test book (λ x. ifGood x (λ r. refuse (r .number) (r .place)) go) more refuse done (λ r. refl) e
+
+module _ (book : Lent) where
   -- 4, 6 and 7 are the whole test
-  pub test-by-rules : testOf b t held lines ≡ byRules (bookRules b t held lines []) refused (Good (counts b t (heldCount held) (lineCount lines)))
+  pub test-by-rules : testOf book ≡ byRules (bookRules book []) refused (Good (countsOf book))
   unfolding byRules
-  test-by-rules = by-the-test b t held lines (λ x. x) [] refused (Good (counts b t (heldCount held) (lineCount lines))) (λ r. refl) refl
+  test-by-rules = on-the-test book (λ x. x) [] refused (Good (countsOf book)) (λ r. refl) refl
 
   -- a book of whose rules none applies passes
-  pub passes-if : {more : List Rule} → None (bookRules b t held lines more) → testOf b t held lines ≡ Good (counts b t (heldCount held) (lineCount lines))
+  pub passes-if : {more : List Rule} → None (bookRules book more) → testOf book ≡ Good (countsOf book)
   unfolding byRules
   passes-if h = test-by-rules ∙ rw (first-of h, first-of (rest-of h), first-of (rest-of (rest-of h)))
 
   -- and of one that passes none applies
-  pub passes-only-if : (k : Book) → testOf b t held lines ≡ Good k → {more : List Rule} → None more → None (bookRules b t held lines more)
+  pub passes-only-if : (k : Book) → testOf book ≡ Good k → {more : List Rule} → None more → None (bookRules book more)
   passes-only-if k e h =
-      let w = past-rules (bookRules b t held lines []) (counts b t (heldCount held) (lineCount lines)) k (sym test-by-rules ∙ e) in
+      let w = past-rules (bookRules book []) (countsOf book) k (sym test-by-rules ∙ e) in
       none-and (first-of w) (none-and (first-of (rest-of w)) (none-and (first-of (rest-of (rest-of w))) h))

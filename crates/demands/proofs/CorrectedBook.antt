@@ -6,6 +6,7 @@ use native.Mathlib.Omega.{arith}
 use lib.IntN.{ℤ, pos, natAbs}
 use lib.ListN.{length, length-map, set, length-set}
 use lib.Seq.{getD-set-same, getD-set-other}
+use Rattle.book.specs.Lent.{Lent, withLines}
 use Rattle.book.specs.Good.{GoodBook, GoodLine}
 use Rattle.book.specs.Limits.{mostDifference}
 use Rattle.book.specs.declared.Book.{Book}
@@ -46,36 +47,40 @@ module _ (lines : List ℤ) (number : ℤ) (i : ℕ) (stands : Stands lines numb
   unfolding withdrawLines
   withdrawal-is-without = rw (place-is stands 4) (withdrawal-sets-standing lines i (has-line stands))
 
-  -- ---- the book stays good
+-- ---- the book stays good
 
-  module _ (k : Book) (b t : ℤ) (held : List ℤ) (good : GoodBook k b t held lines) where
-    -- only its lines are to be looked at again
-    with-lines : (p : ℕ) (v : ℤ) → ((j : ℕ) → GoodLine (k .marks) lines j → GoodLine (k .marks) (set lines p v) j) → GoodBook k b t held (set lines p v)
-    with-lines p v h = record {
-      marks = good .marks;
-      a-mark = good .a-mark;
-      few-marks = good .few-marks;
-      tolerance = good .tolerance;
-      a-tolerance = good .a-tolerance;
-      small-tolerance = good .small-tolerance;
-      whole-held = good .whole-held;
-      few-held = good .few-held;
-      whole-lines = length-set lines p v ∙ good .whole-lines;
-      few-lines = good .few-lines;
-      each-held = good .each-held;
-      each-line = λ j l. h j (good .each-line j l);
-    }
+module _ (book : Lent) (number : ℤ) (i : ℕ) (stands : Stands (book .lines) number i) (k : Book) (good : GoodBook k book) where
+  -- of the corrected book only its lines are to be looked at again
+  with-lines : (p : ℕ) (v : ℤ) → ((j : ℕ) → GoodLine (k .marks) (book .lines) j → GoodLine (k .marks) (set (book .lines) p v) j)
+      → GoodBook k (withLines book (set (book .lines) p v))
+  with-lines p v h = record {
+    marks = good .marks;
+    a-mark = good .a-mark;
+    few-marks = good .few-marks;
+    tolerance = good .tolerance;
+    a-tolerance = good .a-tolerance;
+    small-tolerance = good .small-tolerance;
+    whole-held = good .whole-held;
+    few-held = good .few-held;
+    whole-lines = length-set (book .lines) p v ∙ good .whole-lines;
+    few-lines = good .few-lines;
+    each-held = good .each-held;
+    each-line = λ j l. h j (good .each-line j l);
+  }
 
-    -- a book with a line re-run inside the limit is good
-    pub rerun-stays-good : (difference : ℤ) → natAbs difference ≤ mostDifference → GoodBook k b t held (rerunLines lines number difference)
-    unfolding rerunLines
-    rerun-stays-good d small = rw (place-is stands 2) (with-lines (i * 5 + 2) d (λ j g. rerun-good (k .marks) lines i 2 d (omega (arith, has-line stands)) j g refl small))
+  -- a book with a line re-run inside the limit is good
+  pub rerun-stays-good : (difference : ℤ) → natAbs difference ≤ mostDifference → GoodBook k (withLines book (rerunLines (book .lines) number difference))
+  unfolding rerunLines
+  rerun-stays-good d small =
+      rw (place-is stands 2)
+      (with-lines (i * 5 + 2) d (λ j g. rerun-good (k .marks) (book .lines) i 2 d (omega (arith, has-line stands)) j g refl small))
 
-    -- a book with a line withdrawn is good
-    pub withdrawal-stays-good : GoodBook k b t held (withdrawLines lines number)
-    unfolding withdrawLines
-    withdrawal-stays-good =
-        rw (place-is stands 4) (with-lines (i * 5 + 4) (pos 0) (λ j g. withdrawal-good (k .marks) lines i 4 (pos 0) (omega (arith, has-line stands)) j g refl refl))
+  -- a book with a line withdrawn is good
+  pub withdrawal-stays-good : GoodBook k (withLines book (withdrawLines (book .lines) number))
+  unfolding withdrawLines
+  withdrawal-stays-good =
+      rw (place-is stands 4)
+      (with-lines (i * 5 + 4) (pos 0) (λ j g. withdrawal-good (k .marks) (book .lines) i 4 (pos 0) (omega (arith, has-line stands)) j g refl refl))
 
 -- ---- the loops of the corrected book
 
@@ -94,10 +99,11 @@ module _ (lines : List ℤ) (number : ℤ) (i : ℕ) (stands : Stands lines numb
   pub rerun-keeps-rows : (b : ℕ) (difference : ℤ) → length (loopsOf b (rerunLines lines number difference)) ≡ length (loopsOf b lines)
   rerun-keeps-rows b d = ap length (rerun-loops b d) ∙ length-map (loopsOf b lines) (map (redonePass (suc i) d))
 
-  -- a withdrawal never adds a loop
-  pub withdrawal-adds-no-row : (k : Book) (b t : ℤ) (held : List ℤ) → GoodBook k b t held lines
-      → length (loopsOf (k .marks) (withdrawLines lines number)) ≤ length (loopsOf (k .marks) lines)
-  unfolding loopsOf
-  withdrawal-adds-no-row k b t held good =
-      rw (withdrawal-is-without lines number i stands)
-      (loops-never-grow (k .marks) (standing lines) (good-sound k b t held lines good) (lineAt (suc i) lines i) (its-line k lines (good-lines k b t held lines good) number i stands))
+-- a withdrawal never adds a loop
+pub withdrawal-adds-no-row : (book : Lent) (number : ℤ) (i : ℕ) → Stands (book .lines) number i → (k : Book) → GoodBook k book
+    → length (loopsOf (k .marks) (withdrawLines (book .lines) number)) ≤ length (loopsOf (k .marks) (book .lines))
+unfolding loopsOf
+withdrawal-adds-no-row book number i stands k good =
+    rw (withdrawal-is-without (book .lines) number i stands)
+    (loops-never-grow (k .marks) (standing (book .lines)) (good-sound k book good) (lineAt (suc i) (book .lines) i)
+    (its-line k (book .lines) (good-lines k book good) number i stands))

@@ -13,16 +13,17 @@ use Rattle.laws.proofs.Tests.{or-left, or-right}
 use Rattle.laws.specs.Range.{Between}
 use Rattle.laws.proofs.Size.{between, size-within}
 use Rattle.laws.proofs.Inside.{between-inside, size-inside}
+use Rattle.book.specs.Lent.{Lent, lent}
 use Rattle.book.specs.Limits.{mostDifference}
 use Rattle.book.specs.Held.{heldWords, heldCount}
 use Rattle.book.specs.Line.{lineWords, lineCount, differenceOut}
-use Rattle.book.specs.Test.{torn, bookOut, counts, testOf}
+use Rattle.book.specs.Test.{torn, bookOut, counts, countsOf, testOf}
 use Rattle.book.specs.Good.{GoodBook}
 use Rattle.book.specs.declared.Book.{Book}
 use Rattle.book.specs.declared.Tested.the-variants.{Good}
 use Rattle.book.proofs.Goods.{tested-good}
 use Rattle.book.proofs.Passing.{good-passes}
-use Rattle.file.specs.Read.{statedLength, statedVersion, statedT, statedB, statedH, statedN, fileLength, heldOf, linesOf, readOf}
+use Rattle.file.specs.Read.{statedLength, statedVersion, statedT, statedB, statedH, statedN, statedCounts, fileLength, heldOf, linesOf, bookIn, readOf}
 use Rattle.file.proofs.Reading.{held-entries, line-entries}
 use Rattle.loops.specs.Row.{listings}
 use Rattle.loops.specs.Report.{loopsOf}
@@ -37,85 +38,85 @@ use Rattle.demands.proofs.Meanings.{line-exactly-if-stands, report-exac
 use Rattle.demands.proofs.Refusals.{no-other-fault, survey-keeps-to-table, listing-keeps-to-table, listings-keeps-to-table, not-checked-keeps-to-table, reader-keeps-to-table, rerun-keeps-to-table, withdrawal-keeps-to-table}
 use Rattle.demands.proofs.BookRules.{None, none-in, none-and, first-of, rest-of, passes-if, passes-only-if}
 
-module _ (b t : ℤ) (held lines : List ℤ) where
+module _ (book : Lent) where
   -- a survey is done exactly if the book passes the test and its report has room
   pub survey-done-exactly-if : (out : List ℤ)
-      → (surveyOf b t held lines out .answer .number ≡ 0) ↔ ((k : Book) × (testOf b t held lines ≡ Good k) × (length (afresh b t lines) ≤ length out))
+      → (surveyOf book out .answer .number ≡ 0) ↔ ((k : Book) × (testOf book ≡ Good k) × (length (afresh book) ≤ length out))
   unfolding surveyRules
   survey-done-exactly-if out =
-      let w = survey-keeps-to-table b t held lines out .table .done-exactly-if in (
-        λ z. let h = w .0 z in (_, passes-if b t held lines h, ltb-false (length out) (length (afresh b t lines)) (first-of (rest-of (rest-of (rest-of h))))),
-        λ p. w .1 (passes-only-if b t held lines (p .0) (p .1) (none-and (le-ltb (length out) (length (afresh b t lines)) (p .2)) none-in)),
+      let w = survey-keeps-to-table book out .table .done-exactly-if in (
+        λ z. let h = w .0 z in (_, passes-if book h, ltb-false (length out) (length (afresh book)) (first-of (rest-of (rest-of (rest-of h))))),
+        λ p. w .1 (passes-only-if book (p .0) (p .1) (none-and (le-ltb (length out) (length (afresh book)) (p .2)) none-in)),
       )
 
   -- a listing is done exactly if the book passes the test, the loop's number is one of the book's, and the listing has room
-  pub listing-done-exactly-if : (loop : ℤ) (out : List ℤ) → (listingOf b t held lines loop out .answer .number ≡ 0)
-      ↔ ((k : Book) × (testOf b t held lines ≡ Good k) × Between 1 (length (loopsOf (natAbs b) lines)) loop × (length (loopListing (natAbs b) lines loop) ≤ length out))
+  pub listing-done-exactly-if : (loop : ℤ) (out : List ℤ) → (listingOf book loop out .answer .number ≡ 0)
+      ↔ ((k : Book) × (testOf book ≡ Good k) × Between 1 (length (loopsOf (natAbs (book .b)) (book .lines))) loop × (length (loopListing book loop) ≤ length out))
   unfolding listingRules
   listing-done-exactly-if loop out =
-      let w = listing-keeps-to-table b t held lines loop out .table .done-exactly-if in (
+      let w = listing-keeps-to-table book loop out .table .done-exactly-if in (
         λ z.
             let h = w .0 z in
             let own = rest-of (rest-of (rest-of h)) in
-            (_, passes-if b t held lines h, between 1 (length (loopsOf (natAbs b) lines)) loop (first-of own), ltb-false (length out) (length (loopListing (natAbs b) lines loop)) (first-of (rest-of own))),
-        λ p. w .1 (passes-only-if b t held lines (p .0) (p .1) (none-and (between-inside (p .2)) (none-and (le-ltb (length out) (length (loopListing (natAbs b) lines loop)) (p .3)) none-in))),
+            (_, passes-if book h, between 1 (length (loopsOf (natAbs (book .b)) (book .lines))) loop (first-of own), ltb-false (length out) (length (loopListing book loop)) (first-of (rest-of own))),
+        λ p. w .1 (passes-only-if book (p .0) (p .1) (none-and (between-inside (p .2)) (none-and (le-ltb (length out) (length (loopListing book loop)) (p .3)) none-in))),
       )
 
   -- the lines of all loops are listed exactly if the book passes the test and they have room
-  pub listings-done-exactly-if : (out : List ℤ) → (listingsOf b t held lines out .answer .number ≡ 0)
-      ↔ ((k : Book) × (testOf b t held lines ≡ Good k) × (length (listings (loopsOf (natAbs b) lines)) ≤ length out))
+  pub listings-done-exactly-if : (out : List ℤ) → (listingsOf book out .answer .number ≡ 0)
+      ↔ ((k : Book) × (testOf book ≡ Good k) × (length (listings (loopsOf (natAbs (book .b)) (book .lines))) ≤ length out))
   unfolding listingsRules
   listings-done-exactly-if out =
-      let w = listings-keeps-to-table b t held lines out .table .done-exactly-if in
-      let all = length (listings (loopsOf (natAbs b) lines)) in (
-        λ z. let h = w .0 z in (_, passes-if b t held lines h, ltb-false (length out) all (first-of (rest-of (rest-of (rest-of h))))),
-        λ p. w .1 (passes-only-if b t held lines (p .0) (p .1) (none-and (le-ltb (length out) all (p .2)) none-in)),
+      let w = listings-keeps-to-table book out .table .done-exactly-if in
+      let all = length (listings (loopsOf (natAbs (book .b)) (book .lines))) in (
+        λ z. let h = w .0 z in (_, passes-if book h, ltb-false (length out) all (first-of (rest-of (rest-of (rest-of h))))),
+        λ p. w .1 (passes-only-if book (p .0) (p .1) (none-and (le-ltb (length out) all (p .2)) none-in)),
       )
 
   -- a not-checked list is done exactly if the book passes the test and the list has room
   pub not-checked-done-exactly-if : (out : List ℤ)
-      → (notCheckedOf b t held lines out .answer .number ≡ 0) ↔ ((k : Book) × (testOf b t held lines ≡ Good k) × (length (uncheckedOf (natAbs b) lines) ≤ length out))
+      → (notCheckedOf book out .answer .number ≡ 0) ↔ ((k : Book) × (testOf book ≡ Good k) × (length (uncheckedOf (natAbs (book .b)) (book .lines)) ≤ length out))
   unfolding notCheckedRules
   not-checked-done-exactly-if out =
-      let w = not-checked-keeps-to-table b t held lines out .table .done-exactly-if in (
-        λ z. let h = w .0 z in (_, passes-if b t held lines h, ltb-false (length out) (length (uncheckedOf (natAbs b) lines)) (first-of (rest-of (rest-of (rest-of h))))),
-        λ p. w .1 (passes-only-if b t held lines (p .0) (p .1) (none-and (le-ltb (length out) (length (uncheckedOf (natAbs b) lines)) (p .2)) none-in)),
+      let w = not-checked-keeps-to-table book out .table .done-exactly-if in (
+        λ z. let h = w .0 z in (_, passes-if book h, ltb-false (length out) (length (uncheckedOf (natAbs (book .b)) (book .lines))) (first-of (rest-of (rest-of (rest-of h))))),
+        λ p. w .1 (passes-only-if book (p .0) (p .1) (none-and (le-ltb (length out) (length (uncheckedOf (natAbs (book .b)) (book .lines))) (p .2)) none-in)),
       )
 
   -- what 8 and 9 leave
-  correction-only-if : (report : List ℤ) (number : ℤ) → testOf b t held lines ≡ Good (counts b t (heldCount held) (lineCount lines)) → None (correctionRules b t lines report number)
-      → Acceptable b t held lines report number
+  correction-only-if : (report : List ℤ) (number : ℤ) → testOf book ≡ Good (countsOf book) → None (correctionRules book report number)
+      → Acceptable book report number
   correction-only-if report number e h =
-      let l = line-exactly-if-stands lines number .0 (first-of h) in
-      record { book = _; passes = e; line = l .0; stands = l .1; its-report = report-exactly-if-rows report (afresh b t lines) .0 (first-of (rest-of h)) }
+      let l = line-exactly-if-stands (book .lines) number .0 (first-of h) in
+      record { counts = _; passes = e; line = l .0; stands = l .1; its-report = report-exactly-if-rows report (afresh book) .0 (first-of (rest-of h)) }
 
-  correction-if : (report : List ℤ) (number : ℤ) → Acceptable b t held lines report number → None (correctionRules b t lines report number)
+  correction-if : (report : List ℤ) (number : ℤ) → Acceptable book report number → None (correctionRules book report number)
   correction-if report number a =
-      none-and (line-exactly-if-stands lines number .1 (a .line, a .stands)) (none-and (report-exactly-if-rows report (afresh b t lines) .1 (a .its-report)) none-in)
+      none-and (line-exactly-if-stands (book .lines) number .1 (a .line, a .stands)) (none-and (report-exactly-if-rows report (afresh book) .1 (a .its-report)) none-in)
 
   -- a withdrawal is done exactly if it is acceptable
-  pub withdrawal-done-exactly-if : (report : List ℤ) (number : ℤ) → (withdrawOf b t held lines report number .answer .number ≡ 0) ↔ Acceptable b t held lines report number
+  pub withdrawal-done-exactly-if : (report : List ℤ) (number : ℤ) → (withdrawOf book report number .answer .number ≡ 0) ↔ Acceptable book report number
   unfolding withdrawRules
   withdrawal-done-exactly-if report number =
-      let w = withdrawal-keeps-to-table b t held lines report number .table .done-exactly-if in (
-        λ z. correction-only-if report number (passes-if b t held lines (w .0 z)) (rest-of (rest-of (rest-of (w .0 z)))),
-        λ a. w .1 (passes-only-if b t held lines (a .book) (a .passes) (correction-if report number a)),
+      let w = withdrawal-keeps-to-table book report number .table .done-exactly-if in (
+        λ z. correction-only-if report number (passes-if book (w .0 z)) (rest-of (rest-of (rest-of (w .0 z)))),
+        λ a. w .1 (passes-only-if book (a .counts) (a .passes) (correction-if report number a)),
       )
 
   -- a re-run is done exactly if it is acceptable and the new difference is inside its limit
   pub rerun-done-exactly-if : (report : List ℤ) (number difference : ℤ)
-      → (rerunOf b t held lines report number difference .answer .number ≡ 0) ↔ ((natAbs difference ≤ mostDifference) × Acceptable b t held lines report number)
+      → (rerunOf book report number difference .answer .number ≡ 0) ↔ ((natAbs difference ≤ mostDifference) × Acceptable book report number)
   unfolding rerunRules differenceOut
   rerun-done-exactly-if report number difference =
-      let w = rerun-keeps-to-table b t held lines report number difference .table .done-exactly-if in (
+      let w = rerun-keeps-to-table book report number difference .table .done-exactly-if in (
         λ z.
             let h = w .0 z in
             let four = first-of h in
-            let fault = or-right (differenceOut difference) (bookFault b t held lines) four in
-            (size-within mostDifference difference (or-left (differenceOut difference) (bookFault b t held lines) four), correction-only-if report number (passes-if b t held lines (none-and fault (rest-of h))) (rest-of (rest-of (rest-of h)))),
+            let fault = or-right (differenceOut difference) (bookFault book) four in
+            (size-within mostDifference difference (or-left (differenceOut difference) (bookFault book) four), correction-only-if report number (passes-if book (none-and fault (rest-of h))) (rest-of (rest-of (rest-of h)))),
         λ p.
             let a = p .1 in
-            let h = passes-only-if b t held lines (a .book) (a .passes) (correction-if report number a) in
+            let h = passes-only-if book (a .counts) (a .passes) (correction-if report number a) in
             w .1 (none-and (rw (size-inside mostDifference difference (p .0)) (first-of h)) (rest-of h)),
       )
 
@@ -134,8 +135,11 @@ module _ (file : List ℕ) (held lines : List ℤ) where
   abbrev n : ℕ
   n = statedN file
 
+  abbrev book : Lent
+  book = bookIn file (statedCounts file)
+
   abbrev GoodWith : ℕ → ℕ → Type 0
-  GoodWith x y = GoodBook (counts b t x y) b t (heldOf file h) (linesOf file h n)
+  GoodWith x y = GoodBook (counts b t x y) book
 
   -- a file is read exactly if it is readable
   pub read-exactly-if-readable : (readOf file held lines .answer .number ≡ 0) ↔ Readable file held lines
@@ -156,33 +160,33 @@ module _ (file : List ℕ) (held lines : List ℤ) where
           let r₈ = rest-of r₇ in
           let few-held = ltb (length held) (h * heldWords) in
           let few-lines = ltb (length lines) (n * lineWords) in
-          let passes = passes-if b t (heldOf file h) (linesOf file h n) {more = []} (none-and (no-other-fault file held lines (first-of r₄)) (none-and (first-of r₆) (none-and (first-of r₇) none-in))) in
+          let passes = passes-if book {more = []} (none-and (no-other-fault file held lines (first-of r₄)) (none-and (first-of r₆) (none-and (first-of r₇) none-in))) in
           record {
             long-enough = ltb-false (length file) 13 (first-of r₁);
             its-length = eqb-true (statedLength file) (length file) (not-false (eqb (statedLength file) (length file)) (first-of r₂));
             version-one = eqb-true (statedVersion file) 1 (not-false (eqb (statedVersion file) 1) (first-of r₃));
             whole = eqb-true (length file) (fileLength h n) (not-false (eqb (length file) (fileLength h n)) (first-of r₅));
-            good = subst₂ GoodWith (held-entries file held lines h) (line-entries file held lines h n) (tested-good b t (heldOf file h) (linesOf file h n) _ passes);
+            good = subst₂ GoodWith (held-entries file held lines h) (line-entries file held lines h n) (tested-good book _ passes);
             room-for-held = ltb-false (length held) (h * heldWords) (or-left few-held few-lines (first-of r₈));
             room-for-lines = ltb-false (length lines) (n * lineWords) (or-right few-held few-lines (first-of r₈));
           }
 
       back : Readable file held lines → None (fileRules file held lines)
       back r =
-          let book = passes-only-if b t (heldOf file h) (linesOf file h n) (counts b t h n) (good-passes (counts b t h n) b t (heldOf file h) (linesOf file h n) (r .good)) {more = []} none-in in
-          let fault = or-right (torn heldWords (heldOf file h) || torn lineWords (linesOf file h n)) (bookOut b t (heldCount (heldOf file h)) (lineCount (linesOf file h n))) (first-of book) in
+          let rules = passes-only-if book (statedCounts file) (good-passes (statedCounts file) book (r .good)) {more = []} none-in in
+          let fault = or-right (torn heldWords (heldOf file h) || torn lineWords (linesOf file h n)) (bookOut b t (heldCount (heldOf file h)) (lineCount (linesOf file h n))) (first-of rules) in
           none-and (le-ltb (length file) 13 (r .long-enough))
           (none-and (rw (eq-eqb (statedLength file) (length file) (r .its-length)))
           (none-and (rw (eq-eqb (statedVersion file) 1 (r .version-one)))
           (none-and (rw (held-entries file held lines h, line-entries file held lines h n) at fault)
           (none-and (rw (eq-eqb (length file) (fileLength h n) (r .whole)))
-          (none-and (first-of (rest-of book))
-          (none-and (first-of (rest-of (rest-of book)))
+          (none-and (first-of (rest-of rules))
+          (none-and (first-of (rest-of (rest-of rules)))
           (none-and (rw (le-ltb (length held) (h * heldWords) (r .room-for-held), le-ltb (length lines) (n * lineWords) (r .room-for-lines))) none-in)))))))
 
   -- and the book that it leaves in the buffers passes the test of every call
   pub read-book-passes : let o = readOf file held lines in o .answer .number ≡ 0
-      → testOf (pos (o .answer .b)) (pos (o .answer .t)) (take (o .answer .h * heldWords) (o .held)) (take (o .answer .n * lineWords) (o .lines))
+      → testOf (lent (pos (o .answer .b)) (pos (o .answer .t)) (take (o .answer .h * heldWords) (o .held)) (take (o .answer .n * lineWords) (o .lines)))
       ≡ Good (record { marks = o .answer .b; tolerance = o .answer .t; held = o .answer .h; lines = o .answer .n })
   read-book-passes z =
       let good = read-exactly-if-readable .0 z .good in
@@ -190,4 +194,4 @@ module _ (file : List ℕ) (held lines : List ℤ) where
         reader-keeps-to-table file held lines .finished z,
         take-at (heldOf file h) (drop (h * heldWords) held) (h * heldWords) (good .whole-held),
         take-at (linesOf file h n) (drop (n * lineWords) lines) (n * lineWords) (good .whole-lines),
-      ) (good-passes (counts b t h n) b t (heldOf file h) (linesOf file h n) good)
+      ) (good-passes (statedCounts file) book good)

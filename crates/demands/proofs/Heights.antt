@@ -17,9 +17,9 @@ use Rattle.laws.specs.Tests.{eqZ}
 use Rattle.laws.proofs.Tests.{or-left, or-right}
 use Rattle.laws.specs.Range.{Between}
 use Rattle.laws.proofs.Size.{between, size-sub}
-use Rattle.book.specs.Held.{heldCount}
+use Rattle.book.specs.Lent.{Lent}
 use Rattle.book.specs.Line.{fromAt, toAt, differenceAt, lengthAt, standingAt, lineCount}
-use Rattle.book.specs.Test.{counts, testOf}
+use Rattle.book.specs.Test.{countsOf, testOf, ifGood}
 use Rattle.book.specs.declared.Book.{Book}
 use Rattle.book.specs.declared.Tested.the-variants.{Good}
 use Rattle.network.specs.Standing.{standing}
@@ -33,14 +33,14 @@ use Rattle.sweeps.specs.Squares.{squares, moveMark}
 use Rattle.sweeps.specs.Kept.{Kept}
 use Rattle.sweeps.proofs.Best.{fairs-sound, sweep-not-worse}
 use Rattle.start.specs.Start.{heldHeight, isHeld, startHeights}
-use Rattle.rates.specs.Rates.{correctionAt, correctionOf, quotient, refusedRate, lineRate, goodRate, testedRate, rateAnswer, firstHigh}
+use Rattle.rates.specs.Rates.{correctionAt, correctionOf, quotient, refusedRate, lineRate, goodRate, rateAnswer, firstHigh}
 use Rattle.rates.proofs.Exact.{there-and-back}
 use Rattle.rates.proofs.Rating.{marks-of, working-lent}
 use Rattle.rates.specs.declared.Rate.the-variants.{PerKm, Withdrawn}
 use Rattle.rates.specs.declared.RateAnswer.{RateAnswer}
 use Rattle.adjust.specs.Adjusted.{done, unlessUnheld, ended, adjustment}
 use Rattle.adjust.specs.Answers.{answer}
-use Rattle.adjust.specs.Call.{Given, adjusted, givenBy, adjustTested, adjustOf}
+use Rattle.adjust.specs.Call.{Given, adjusted, givenBy, adjustGood, adjustOf}
 use Rattle.adjust.proofs.Promises.{as-many, never-worse, best-at-every-mark, held-marks-keep}
 use Rattle.demands.specs.Tables.{bookFault}
 use Rattle.demands.specs.Heights.{sweepsOf, unheldMark, stillMoves, wentOutside, outsideMark, countOf, heightsOf, sweepRules, adjustRules, adjustDone, AdjustmentKeepsToTable, marksHeights, heightRules, rateRules, ExactFloat, rateDone, RateKeepsToTable}
@@ -73,14 +73,14 @@ line-number heights lines line i = go (eqZ (standingAt lines i) (pos 0))
     go true = (refl, refl)
     go false = (refl, refl)
 
-module _ (b t : ℤ) (held lines : List ℤ) where
+module _ (book : Lent) where
   -- the adjustment keeps to its table: 4, 6, 7, 10, 11, then 12 or 13
-  pub adjustment-keeps-to-table : (out : List ℤ) → AdjustmentKeepsToTable b t held lines out (adjustOf b t held lines out)
+  pub adjustment-keeps-to-table : (out : List ℤ) → AdjustmentKeepsToTable book out (adjustOf book out)
   unfolding adjustOf adjustRules sweepsOf unheldMark byRules
   adjustment-keeps-to-table out =
       keeps-to-table (λ n p. refl) (λ n p. refl) refl refl refl
-      (by-the-test b t held lines (adjustTested held lines out) (sweepRules b held lines out) (λ n p. adjusted (answer n p 0) out) (adjustDone (sweepsOf (natAbs b) held lines) out) (λ r. refl)
-      (go (ltb (length out) (natAbs b)) (unheldMark (natAbs b) held lines) (sweepsOf (natAbs b) held lines)))
+      (by-the-test book (λ k. adjustGood k (book .held) (book .lines) out) (sweepRules book out) (λ n p. adjusted (answer n p 0) out) (adjustDone (sweepsOf (natAbs (book .b)) (book .held) (book .lines)) out)
+      (go (ltb (length out) (natAbs (book .b))) (unheldMark (natAbs (book .b)) (book .held) (book .lines)) (sweepsOf (natAbs (book .b)) (book .held) (book .lines))))
     where
       go : (x : Bool) (u : ℕ) (s : Settled) → cond x (adjusted (answer 10 0 0) out) (givenBy out (unlessUnheld u (λ _. ended s)))
           ≡ cond x (adjusted (answer 10 0 0) out) (cond (ltb 0 u) (adjusted (answer 11 u 0) out) (cond (stillMoves s) (adjusted (answer 12 0 0) out)
@@ -92,22 +92,22 @@ module _ (b t : ℤ) (held lines : List ℤ) where
       go false (suc u) s = rw (lt-ltb 0 (suc u) (omega arith))
 
   -- the rate keeps to its table: 4, 6, 7, 8, 13
-  pub rate-keeps-to-table : (heights : List ℤ) (line : ℤ) → RateKeepsToTable b t held lines heights line (rateAnswer b t held lines heights line)
+  pub rate-keeps-to-table : (heights : List ℤ) (line : ℤ) → RateKeepsToTable book heights line (rateAnswer book heights line)
   unfolding rateAnswer rateRules refusedRate goodRate byRules
   rate-keeps-to-table heights line =
-      keeps-to-table (λ n p. refl) (λ n p. refl) (line-number heights lines (natAbs line) (natAbs line - 1) .0) (line-number heights lines (natAbs line) (natAbs line - 1) .1) refl
-      (cond-not (eqZ (pos (length heights)) b) (testedRate heights lines line (testOf b t held lines)) (refusedRate 4 0)
-      ∙ ap (cond (not (eqZ (pos (length heights)) b)) (refusedRate 4 0))
-      (by-the-test b t held lines (testedRate heights lines line) (heightRules lines heights line) refusedRate (rateDone lines heights line) (λ r. refl) refl)
-      ∙ cond-or (not (eqZ (pos (length heights)) b)) (bookFault b t held lines) (refusedRate 4 0) _)
+      keeps-to-table (λ n p. refl) (λ n p. refl) (line-number heights (book .lines) (natAbs line) (natAbs line - 1) .0) (line-number heights (book .lines) (natAbs line) (natAbs line - 1) .1) refl
+      (cond-not (eqZ (pos (length heights)) (book .b)) (ifGood (testOf book) (λ r. refusedRate (r .number) (r .place)) (λ k. goodRate heights (book .lines) k line)) (refusedRate 4 0)
+      ∙ ap (cond (not (eqZ (pos (length heights)) (book .b))) (refusedRate 4 0))
+      (by-the-test book (λ k. goodRate heights (book .lines) k line) (heightRules book heights line) refusedRate (rateDone book heights line) refl)
+      ∙ cond-or (not (eqZ (pos (length heights)) (book .b))) (bookFault book) (refusedRate 4 0) _)
 
   -- a refused adjustment: no sweeps, and the heights as they were
-  pub refused-adjustment-changes-nothing : (out : List ℤ) → let g = adjustOf b t held lines out in (g .answer .number ≡ 0 → ⊥) → (g .answer .sweeps ≡ 0) × (g .heights ≡ out)
+  pub refused-adjustment-changes-nothing : (out : List ℤ) → let g = adjustOf book out in (g .answer .number ≡ 0 → ⊥) → (g .answer .sweeps ≡ 0) × (g .heights ≡ out)
   refused-adjustment-changes-nothing out h = let e = adjustment-keeps-to-table out .refused h in
       (ap (λ (g : Given). g .answer .sweeps) e, ap (λ (g : Given). g .heights) e)
 
   -- "Of a refused call, line, correction and rate are 0"
-  pub refused-rate-is-zero : (heights : List ℤ) (line : ℤ) → let r = rateAnswer b t held lines heights line in (r .number ≡ 0 → ⊥)
+  pub refused-rate-is-zero : (heights : List ℤ) (line : ℤ) → let r = rateAnswer book heights line in (r .number ≡ 0 → ⊥)
       → (r .line ≡ 0) × (r .correction ≡ pos 0) × (r .rate ≡ PerKm (fin false 0 (pos 0)))
   unfolding refusedRate
   refused-rate-is-zero heights line h = let e = rate-keeps-to-table heights line .refused h in
@@ -115,53 +115,53 @@ module _ (b t : ℤ) (held lines : List ℤ) where
 
   -- ---- the rate of a call that is done
 
-  module _ (heights : List ℤ) (line : ℤ) (given : rateAnswer b t held lines heights line .number ≡ 0) where
+  module _ (heights : List ℤ) (line : ℤ) (given : rateAnswer book heights line .number ≡ 0) where
     abbrev at : ℕ
     at = natAbs line - 1
 
-    none-applies : None (rateRules b t held lines heights line)
+    none-applies : None (rateRules book heights line)
     none-applies = rate-keeps-to-table heights line .table .done-exactly-if .0 given
 
-    passed : testOf b t held lines ≡ Good (counts b t (heldCount held) (lineCount lines))
+    passed : testOf book ≡ Good (countsOf book)
     unfolding rateRules
     passed =
         let h = none-applies in
-        passes-if b t held lines {more = heightRules lines heights line} (none-and (or-right (not (eqZ (pos (length heights)) b)) (bookFault b t held lines) (first-of h)) (rest-of h))
+        passes-if book {more = heightRules book heights line} (none-and (or-right (not (eqZ (pos (length heights)) (book .b))) (bookFault book) (first-of h)) (rest-of h))
 
-    there : Between 1 (lineCount lines) line
+    there : Between 1 (lineCount (book .lines)) line
     unfolding rateRules
-    there = between 1 (lineCount lines) line (first-of (rest-of (rest-of (rest-of none-applies))))
+    there = between 1 (lineCount (book .lines)) line (first-of (rest-of (rest-of (rest-of none-applies))))
 
-    inside : Working heights (natAbs b)
+    inside : Working heights (natAbs (book .b))
     unfolding rateRules
     inside =
         let h = none-applies in
-        let many = not-false (eqZ (pos (length heights)) b) (or-left (not (eqZ (pos (length heights)) b)) (bookFault b t held lines) (first-of h)) in
-        working-lent heights (natAbs b) (marks-of b t held lines (counts b t (heldCount held) (lineCount lines)) passed (length heights) many)
+        let many = not-false (eqZ (pos (length heights)) (book .b)) (or-left (not (eqZ (pos (length heights)) (book .b))) (bookFault book) (first-of h)) in
+        working-lent heights (natAbs (book .b)) (marks-of book (countsOf book) passed (length heights) many)
         (no-mark (firstHigh heights) (first-of (rest-of (rest-of (rest-of (rest-of h))))))
 
     -- "Both numbers are exact as 64-bit floats"
-    pub both-numbers-are-exact : ExactFloat (correctionAt heights lines at) × ExactFloat (lengthAt lines at)
+    pub both-numbers-are-exact : ExactFloat (correctionAt heights (book .lines) at) × ExactFloat (lengthAt (book .lines) at)
     unfolding correctionAt correctionOf
     both-numbers-are-exact =
-        let g = lines-of b t held lines (counts b t (heldCount held) (lineCount lines)) passed .each at (omega (arith, there .low, there .high)) in
-        let x = height heights (natAbs (toAt lines at)) in
-        let y = height heights (natAbs (fromAt lines at)) in (
-          there-and-back (x -ℤ y -ℤ differenceAt lines at)
-              (omega (arith, size-sub (x -ℤ y) (differenceAt lines at), size-sub x y, inside .inside (natAbs (toAt lines at) - 1), inside .inside (natAbs (fromAt lines at) - 1), g .difference)),
-          there-and-back (lengthAt lines at) (omega (arith, g .long .high)),
+        let g = lines-of book (countsOf book) passed .each at (omega (arith, there .low, there .high)) in
+        let x = height heights (natAbs (toAt (book .lines) at)) in
+        let y = height heights (natAbs (fromAt (book .lines) at)) in (
+          there-and-back (x -ℤ y -ℤ differenceAt (book .lines) at)
+              (omega (arith, size-sub (x -ℤ y) (differenceAt (book .lines) at), size-sub x y, inside .inside (natAbs (toAt (book .lines) at) - 1), inside .inside (natAbs (fromAt (book .lines) at) - 1), g .difference)),
+          there-and-back (lengthAt (book .lines) at) (omega (arith, g .long .high)),
         )
 
     -- of a standing line: "adjusted minus observed difference", and the one rounded quotient of two whole numbers
-    pub rate-is-one-quotient : standingAt lines at ≡ pos 1 → let c = height heights (natAbs (toAt lines at)) -ℤ height heights (natAbs (fromAt lines at)) -ℤ differenceAt lines at in
-        rateAnswer b t held lines heights line
-        ≡ record { number = 0; place = 0; line = natAbs line; correction = c; rate = PerKm (div binary64 (ofInt binary64 c) (ofInt binary64 (lengthAt lines at))) }
+    pub rate-is-one-quotient : standingAt (book .lines) at ≡ pos 1 → let c = height heights (natAbs (toAt (book .lines) at)) -ℤ height heights (natAbs (fromAt (book .lines) at)) -ℤ differenceAt (book .lines) at in
+        rateAnswer book heights line
+        ≡ record { number = 0; place = 0; line = natAbs line; correction = c; rate = PerKm (div binary64 (ofInt binary64 c) (ofInt binary64 (lengthAt (book .lines) at))) }
     unfolding lineRate correctionAt correctionOf quotient eqZ
     rate-is-one-quotient stands = rate-keeps-to-table heights line .finished given ∙ rw stands
 
     -- "or that the line is withdrawn"; its correction is 0
-    pub withdrawn-line-has-no-rate : standingAt lines at ≡ pos 0
-        → rateAnswer b t held lines heights line ≡ record { number = 0; place = 0; line = natAbs line; correction = pos 0; rate = Withdrawn }
+    pub withdrawn-line-has-no-rate : standingAt (book .lines) at ≡ pos 0
+        → rateAnswer book heights line ≡ record { number = 0; place = 0; line = natAbs line; correction = pos 0; rate = Withdrawn }
     unfolding lineRate eqZ
     withdrawn-line-has-no-rate stands = rate-keeps-to-table heights line .finished given ∙ rw stands
 
@@ -174,8 +174,8 @@ module _ (b t : ℤ) (held lines : List ℤ) where
   have-settled unsettled x y = absurd (true≢false x)
 
   -- an adjustment is done exactly if the book passes the test, there is room for its heights, each piece has a held mark, and the sweeps settle
-  pub adjustment-done-exactly-if : (out : List ℤ) → (adjustOf b t held lines out .answer .number ≡ 0)
-      ↔ ((k : Book) × (testOf b t held lines ≡ Good k) × (natAbs b ≤ length out) × (unheldMark (natAbs b) held lines ≡ 0) × (n : ℕ) × (hs : List ℤ) × (sweepsOf (natAbs b) held lines ≡ settled n hs))
+  pub adjustment-done-exactly-if : (out : List ℤ) → (adjustOf book out .answer .number ≡ 0)
+      ↔ ((k : Book) × (testOf book ≡ Good k) × (natAbs (book .b) ≤ length out) × (unheldMark (natAbs (book .b)) (book .held) (book .lines) ≡ 0) × (n : ℕ) × (hs : List ℤ) × (sweepsOf (natAbs (book .b)) (book .held) (book .lines) ≡ settled n hs))
   unfolding adjustRules
   adjustment-done-exactly-if out =
       let w = adjustment-keeps-to-table out .table .done-exactly-if in (
@@ -184,78 +184,78 @@ module _ (b t : ℤ) (held lines : List ℤ) where
             let own = rest-of (rest-of (rest-of h)) in
             let ends = rest-of (rest-of own) in (
               _,
-              passes-if b t held lines h,
-              ltb-false (length out) (natAbs b) (first-of own),
-              no-mark (unheldMark (natAbs b) held lines) (first-of (rest-of own)),
+              passes-if book h,
+              ltb-false (length out) (natAbs (book .b)) (first-of own),
+              no-mark (unheldMark (natAbs (book .b)) (book .held) (book .lines)) (first-of (rest-of own)),
               _,
               _,
-              have-settled (sweepsOf (natAbs b) held lines) (first-of ends) (first-of (rest-of ends)),
+              have-settled (sweepsOf (natAbs (book .b)) (book .held) (book .lines)) (first-of ends) (first-of (rest-of ends)),
             ),
-        λ p. w .1 (passes-only-if b t held lines (p .0) (p .1) (none-and (le-ltb (length out) (natAbs b) (p .2)) (none-and (ap (ltb 0) (p .3)) (none-and (ap stillMoves (p .6)) (none-and (ap wentOutside (p .6)) none-in))))),
+        λ p. w .1 (passes-only-if book (p .0) (p .1) (none-and (le-ltb (length out) (natAbs (book .b)) (p .2)) (none-and (ap (ltb 0) (p .3)) (none-and (ap stillMoves (p .6)) (none-and (ap wentOutside (p .6)) none-in))))),
       )
 
-  module _ (out : List ℤ) (is-done : adjustOf b t held lines out .answer .number ≡ 0) where
+  module _ (out : List ℤ) (is-done : adjustOf book out .answer .number ≡ 0) where
     abbrev given : Given
-    given = adjustOf b t held lines out
+    given = adjustOf book out
 
-    passes : testOf b t held lines ≡ Good (counts b t (heldCount held) (lineCount lines))
+    passes : testOf book ≡ Good (countsOf book)
     unfolding adjustRules
-    passes = passes-if b t held lines (adjustment-keeps-to-table out .table .done-exactly-if .0 is-done)
+    passes = passes-if book (adjustment-keeps-to-table out .table .done-exactly-if .0 is-done)
 
-    good : Lines lines (natAbs b) (lineCount lines)
-    good = lines-of b t held lines (counts b t (heldCount held) (lineCount lines)) passes
+    good : Lines (book .lines) (natAbs (book .b)) (lineCount (book .lines))
+    good = lines-of book (countsOf book) passes
 
-    sweeps-are : sweepsOf (natAbs b) held lines ≡ settled (countOf (sweepsOf (natAbs b) held lines)) (heightsOf (sweepsOf (natAbs b) held lines))
+    sweeps-are : sweepsOf (natAbs (book .b)) (book .held) (book .lines) ≡ settled (countOf (sweepsOf (natAbs (book .b)) (book .held) (book .lines))) (heightsOf (sweepsOf (natAbs (book .b)) (book .held) (book .lines)))
     unfolding adjustRules
     sweeps-are =
         let ends = rest-of (rest-of (rest-of (rest-of (rest-of (adjustment-keeps-to-table out .table .done-exactly-if .0 is-done))))) in
-        have-settled (sweepsOf (natAbs b) held lines) (first-of ends) (first-of (rest-of ends))
+        have-settled (sweepsOf (natAbs (book .b)) (book .held) (book .lines)) (first-of ends) (first-of (rest-of ends))
 
-    outcome : adjustment (natAbs b) held lines ≡ done (countOf (sweepsOf (natAbs b) held lines)) (heightsOf (sweepsOf (natAbs b) held lines))
+    outcome : adjustment (natAbs (book .b)) (book .held) (book .lines) ≡ done (countOf (sweepsOf (natAbs (book .b)) (book .held) (book .lines))) (heightsOf (sweepsOf (natAbs (book .b)) (book .held) (book .lines)))
     unfolding adjustment sweepsOf unheldMark
     outcome = rw (adjustment-done-exactly-if out .0 is-done .3) (ap ended sweeps-are)
 
-    long : length (heightsOf (sweepsOf (natAbs b) held lines)) ≡ natAbs b
-    long = as-many (natAbs b) (lineCount lines) held lines good _ _ outcome
+    long : length (heightsOf (sweepsOf (natAbs (book .b)) (book .held) (book .lines))) ≡ natAbs (book .b)
+    long = as-many (natAbs (book .b)) (lineCount (book .lines)) (book .held) (book .lines) good _ _ outcome
 
-    finished : given ≡ adjustDone (sweepsOf (natAbs b) held lines) out
+    finished : given ≡ adjustDone (sweepsOf (natAbs (book .b)) (book .held) (book .lines)) out
     finished = adjustment-keeps-to-table out .finished is-done
 
-    heights-are : marksHeights b given ≡ heightsOf (sweepsOf (natAbs b) held lines)
-    heights-are = ap (λ (g : Given). take (natAbs b) (g .heights)) finished
-        ∙ take-at (heightsOf (sweepsOf (natAbs b) held lines)) (drop (length (heightsOf (sweepsOf (natAbs b) held lines))) out) (natAbs b) long
+    heights-are : marksHeights book given ≡ heightsOf (sweepsOf (natAbs (book .b)) (book .held) (book .lines))
+    heights-are = ap (λ (g : Given). take (natAbs (book .b)) (g .heights)) finished
+        ∙ take-at (heightsOf (sweepsOf (natAbs (book .b)) (book .held) (book .lines))) (drop (length (heightsOf (sweepsOf (natAbs (book .b)) (book .held) (book .lines)))) out) (natAbs (book .b)) long
 
     -- "Adjusted heights are those of document 01's sweeps", and so is their number
-    pub heights-are-of-the-sweeps : sweepsOf (natAbs b) held lines ≡ settled (given .answer .sweeps) (marksHeights b given)
+    pub heights-are-of-the-sweeps : sweepsOf (natAbs (book .b)) (book .held) (book .lines) ≡ settled (given .answer .sweeps) (marksHeights book given)
     heights-are-of-the-sweeps =
-        sweeps-are ∙ ap (λ (n : ℕ). settled n (heightsOf (sweepsOf (natAbs b) held lines))) (sym (ap (λ (g : Given). g .answer .sweeps) finished))
+        sweeps-are ∙ ap (λ (n : ℕ). settled n (heightsOf (sweepsOf (natAbs (book .b)) (book .held) (book .lines)))) (sym (ap (λ (g : Given). g .answer .sweeps) finished))
         ∙ ap (settled (given .answer .sweeps)) (sym heights-are)
 
     -- one height to each mark, and "Output places past the answer stay unchanged"
-    pub places-past-the-heights-stay : drop (natAbs b) (given .heights) ≡ drop (natAbs b) out
+    pub places-past-the-heights-stay : drop (natAbs (book .b)) (given .heights) ≡ drop (natAbs (book .b)) out
     places-past-the-heights-stay =
-        ap (λ (g : Given). drop (natAbs b) (g .heights)) finished
-        ∙ drop-at (heightsOf (sweepsOf (natAbs b) held lines)) (drop (length (heightsOf (sweepsOf (natAbs b) held lines))) out) (natAbs b) long ∙ ap (λ (n : ℕ). drop n out) long
+        ap (λ (g : Given). drop (natAbs (book .b)) (g .heights)) finished
+        ∙ drop-at (heightsOf (sweepsOf (natAbs (book .b)) (book .held) (book .lines))) (drop (length (heightsOf (sweepsOf (natAbs (book .b)) (book .held) (book .lines)))) out) (natAbs (book .b)) long ∙ ap (λ (n : ℕ). drop n out) long
 
-    its-outcome : adjustment (natAbs b) held lines ≡ done (countOf (sweepsOf (natAbs b) held lines)) (marksHeights b given)
-    its-outcome = outcome ∙ ap (done (countOf (sweepsOf (natAbs b) held lines))) (sym heights-are)
+    its-outcome : adjustment (natAbs (book .b)) (book .held) (book .lines) ≡ done (countOf (sweepsOf (natAbs (book .b)) (book .held) (book .lines))) (marksHeights book given)
+    its-outcome = outcome ∙ ap (done (countOf (sweepsOf (natAbs (book .b)) (book .held) (book .lines)))) (sym heights-are)
 
     -- held marks keep their heights
-    pub held-marks-keep-their-heights : (m : ℕ) (z : ℤ) → 0 < m → m ≤ natAbs b → heldHeight held m ≡ some z → height (marksHeights b given) m ≡ z
-    held-marks-keep-their-heights = held-marks-keep (natAbs b) (lineCount lines) held lines good _ (marksHeights b given) its-outcome
+    pub held-marks-keep-their-heights : (m : ℕ) (z : ℤ) → 0 < m → m ≤ natAbs (book .b) → heldHeight (book .held) m ≡ some z → height (marksHeights book given) m ≡ z
+    held-marks-keep-their-heights = held-marks-keep (natAbs (book .b)) (lineCount (book .lines)) (book .held) (book .lines) good _ (marksHeights book given) its-outcome
 
     -- "Then no free mark can be moved by one micrometre, either way, so that the weighted sum of squared residuals falls"
-    pub settled-is-best-at-every-mark : (m : ℕ) → 0 < m → m ≤ natAbs b → isHeld held m ≡ false → let hs = marksHeights b given in
-        (squares (standing lines) hs ≤ squares (standing lines) (moveMark hs m (pos 1))) × (squares (standing lines) hs ≤ squares (standing lines) (moveMark hs m (negsuc 0)))
-    settled-is-best-at-every-mark = best-at-every-mark (natAbs b) (lineCount lines) held lines good _ (marksHeights b given) its-outcome
+    pub settled-is-best-at-every-mark : (m : ℕ) → 0 < m → m ≤ natAbs (book .b) → isHeld (book .held) m ≡ false → let hs = marksHeights book given in
+        (squares (standing (book .lines)) hs ≤ squares (standing (book .lines)) (moveMark hs m (pos 1))) × (squares (standing (book .lines)) hs ≤ squares (standing (book .lines)) (moveMark hs m (negsuc 0)))
+    settled-is-best-at-every-mark = best-at-every-mark (natAbs (book .b)) (lineCount (book .lines)) (book .held) (book .lines) good _ (marksHeights book given) its-outcome
 
     -- "and the sum is no greater than at the start"
-    pub never-worse-than-the-start : squares (standing lines) (marksHeights b given) ≤ squares (standing lines) (startHeights (natAbs b) held lines)
-    never-worse-than-the-start = never-worse (natAbs b) (lineCount lines) held lines good _ (marksHeights b given) its-outcome
+    pub never-worse-than-the-start : squares (standing (book .lines)) (marksHeights book given) ≤ squares (standing (book .lines)) (startHeights (natAbs (book .b)) (book .held) (book .lines))
+    never-worse-than-the-start = never-worse (natAbs (book .b)) (lineCount (book .lines)) (book .held) (book .lines) good _ (marksHeights book given) its-outcome
 
   -- no sweep raises it, from whatever heights it begins
-  pub no-sweep-raises-the-sum : (k : Book) → testOf b t held lines ≡ Good k → (hs : List ℤ) → length hs ≡ k .marks
-      → Kept (λ gs. (length gs ≡ k .marks) × (squares (standing lines) gs ≤ squares (standing lines) hs)) (sweep (sightsOf (standing lines)) (isHeld held) hs (k .marks))
+  pub no-sweep-raises-the-sum : (k : Book) → testOf book ≡ Good k → (hs : List ℤ) → length hs ≡ k .marks
+      → Kept (λ gs. (length gs ≡ k .marks) × (squares (standing (book .lines)) gs ≤ squares (standing (book .lines)) hs)) (sweep (sightsOf (standing (book .lines))) (isHeld (book .held)) hs (k .marks))
   no-sweep-raises-the-sum k e hs l =
-      let g = lines-of b t held lines k e in
-      sweep-not-worse (k .marks) (standing lines) (fairs-sound (fair-lines lines (k .marks) (k .lines) g)) (isHeld held) hs l
+      let g = lines-of book k e in
+      sweep-not-worse (k .marks) (standing (book .lines)) (fairs-sound (fair-lines (book .lines) (k .marks) (k .lines) g)) (isHeld (book .held)) hs l

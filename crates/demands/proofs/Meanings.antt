@@ -13,6 +13,7 @@ use Rattle.laws.specs.Tests.{eqZ}
 use Rattle.laws.proofs.Tests.{eqZ-same}
 use Rattle.laws.proofs.FirstBad.{first-is-first}
 use Rattle.laws.proofs.Inside.{eqZ-true, apart-eqZ, inside}
+use Rattle.book.specs.Lent.{Lent}
 use Rattle.book.specs.Held.{heldCount, heldBad, firstBadHeld}
 use Rattle.book.specs.Line.{lineCount, standingAt, lineBad, firstBadLine}
 use Rattle.book.specs.Test.{testOf}
@@ -26,8 +27,8 @@ use Rattle.survey.specs.Correction.{noLine, sameNumbers, otherReport}
 use Rattle.demands.specs.Corrections.{Stands}
 
 -- 4, 6 and 7 do not apply exactly if the book is inside every limit
-pub passes-exactly-if-good : (k : Book) (b t : ℤ) (held lines : List ℤ) → (testOf b t held lines ≡ Good k) ↔ GoodBook k b t held lines
-passes-exactly-if-good k b t held lines = (tested-good b t held lines k, good-passes k b t held lines)
+pub passes-exactly-if-good : (k : Book) (book : Lent) → (testOf book ≡ Good k) ↔ GoodBook k book
+passes-exactly-if-good k book = (tested-good book k, good-passes k book)
 
 -- 6: a held entry is not bad exactly if it is inside its limits and its mark is not held before
 pub held-exactly-if-good : (b : ℕ) (held : List ℤ) (i : ℕ) → (heldBad (pos b) held i ≡ false) ↔ GoodHeld b held i

@@ -14,6 +14,7 @@ use Rattle.laws.specs.Tests.{outZ, eqZ}
 use Rattle.laws.proofs.Tests.{eqZ-same}
 use Rattle.laws.proofs.Scans.{none-bad}
 use Rattle.laws.proofs.Inside.{size-inside}
+use Rattle.book.specs.Lent.{Lent}
 use Rattle.book.specs.Limits.{mostDifference, leastLength, mostLength}
 use Rattle.book.specs.Held.{firstBadHeld}
 use Rattle.book.specs.Line.{fromAt, toAt, differenceAt, lengthAt, standingAt, lineCount, differenceOut, lineFault, lineBad, firstBadLine}
@@ -22,12 +23,12 @@ use Rattle.book.specs.declared.Book.{Book}
 use Rattle.book.specs.declared.Tested.the-variants.{Good}
 use Rattle.loops.specs.Report.{reportOf}
 use Rattle.survey.specs.Report.{refusal}
-use Rattle.survey.specs.Survey.{surveyTested, surveyOf}
-use Rattle.lists.specs.Listing.{listingTested, listingOf, listingsTested, listingsOf}
-use Rattle.lists.specs.NotChecked.{notCheckedTested, notCheckedOf}
-use Rattle.survey.specs.Correction.{corrected, otherReport, correctGood, correctTested, rerunOf, withdrawOf}
+use Rattle.survey.specs.Survey.{surveyOf}
+use Rattle.lists.specs.Listing.{listingOf, listingsOf}
+use Rattle.lists.specs.NotChecked.{notCheckedOf}
+use Rattle.survey.specs.Correction.{corrected, otherReport, correctOf, correctGood, rerunOf, withdrawOf}
 use Rattle.rates.specs.Rates.{rateAnswer}
-use Rattle.adjust.specs.Call.{adjustTested, adjustOf}
+use Rattle.adjust.proofs.Calling.{by-refusal}
 use Rattle.demands.specs.Tables.{bookFault}
 use Rattle.demands.specs.Calls.{SameAtEveryCall}
 use Rattle.demands.specs.Corrections.{Stands}
@@ -38,64 +39,64 @@ use Rattle.demands.proofs.BookRules.{test-by-rules}
 -- ---- a faulty book
 
 -- a book that the test refuses gets the same refusal from every call
-pub faulty-book-same-at-every-call : (b t : ℤ) (held lines : List ℤ) (number place : ℕ) → testOf b t held lines ≡ refused number place → SameAtEveryCall b t held lines number place
-unfolding surveyOf surveyTested listingOf listingTested listingsOf listingsTested notCheckedOf notCheckedTested withdrawOf rerunOf correctTested differenceOut adjustOf adjustTested rateAnswer
-faulty-book-same-at-every-call b t held lines number place e = record {
+pub faulty-book-same-at-every-call : (book : Lent) (number place : ℕ) → testOf book ≡ refused number place → SameAtEveryCall book number place
+unfolding surveyOf listingOf listingsOf notCheckedOf withdrawOf rerunOf correctOf differenceOut rateAnswer
+faulty-book-same-at-every-call book number place e = record {
   survey = λ out. rw e;
   listing-of = λ loop out. rw e;
   listings-of = λ out. rw e;
   not-checked = λ out. rw e;
   withdrawal = λ report line. rw e;
   re-run = λ report line difference small. rw (size-inside mostDifference difference small, e);
-  adjustment = λ out. rw e;
-  rate = λ heights line as-many. rw (as-many, eqZ-same b, e);
+  adjustment = λ out. by-refusal book out _ e;
+  rate = λ heights line as-many. rw (as-many, eqZ-same (book .b), e);
 }
 
 -- ---- a faulty line
 
-module _ (b t : ℤ) (held lines : List ℤ) (no-four : bookFault b t held lines ≡ false) (no-six : firstBadHeld b held ≡ 0) where
+module _ (book : Lent) (no-four : bookFault book ≡ false) (no-six : firstBadHeld (book .b) (book .held) ≡ 0) where
   -- where 4 and 6 do not apply, a faulty line is refused with 7, at it or at a faulty line before it
-  pub faulty-line-is-refused : (i : ℕ) → i < lineCount lines → lineBad b lines i ≡ true → (j : ℕ) × (j ≤ i) × (testOf b t held lines ≡ refused 7 (suc j))
+  pub faulty-line-is-refused : (i : ℕ) → i < lineCount (book .lines) → lineBad (book .b) (book .lines) i ≡ true → (j : ℕ) × (j ≤ i) × (testOf book ≡ refused 7 (suc j))
   unfolding firstBadLine byRules
-  faulty-line-is-refused i there bad = go (firstBadLine b lines) refl
+  faulty-line-is-refused i there bad = go (firstBadLine (book .b) (book .lines)) refl
     where
-      go : (n : ℕ) → firstBadLine b lines ≡ n → (j : ℕ) × (j ≤ i) × (testOf b t held lines ≡ refused 7 (suc j))
-      go zero e = absurd (true≢false (sym bad ∙ none-bad (lineBad b lines) (lineCount lines) e i there))
-      go (suc j) e = (j, before (decLe j i), test-by-rules b t held lines ∙ rw (no-four, no-six, e, lt-ltb 0 (suc j) (omega arith)))
+      go : (n : ℕ) → firstBadLine (book .b) (book .lines) ≡ n → (j : ℕ) × (j ≤ i) × (testOf book ≡ refused 7 (suc j))
+      go zero e = absurd (true≢false (sym bad ∙ none-bad (lineBad (book .b) (book .lines)) (lineCount (book .lines)) e i there))
+      go (suc j) e = (j, before (decLe j i), test-by-rules book ∙ rw (no-four, no-six, e, lt-ltb 0 (suc j) (omega arith)))
         where
           before : Dec (j ≤ i) → j ≤ i
           before (yes h) = h
-          before (no h) = absurd (true≢false (sym bad ∙ line-place-is-first b lines j e .2 i (omega arith)))
+          before (no h) = absurd (true≢false (sym bad ∙ line-place-is-first (book .b) (book .lines) j e .2 i (omega arith)))
 
   -- a line from a mark to itself is refused so
-  pub line-to-itself-is-refused : (i : ℕ) → i < lineCount lines → fromAt lines i ≡ toAt lines i → (j : ℕ) × (j ≤ i) × (testOf b t held lines ≡ refused 7 (suc j))
+  pub line-to-itself-is-refused : (i : ℕ) → i < lineCount (book .lines) → fromAt (book .lines) i ≡ toAt (book .lines) i → (j : ℕ) × (j ≤ i) × (testOf book ≡ refused 7 (suc j))
   unfolding lineBad lineFault
-  line-to-itself-is-refused i there same = faulty-line-is-refused i there (rw same (go (outZ (pos 1) b (toAt lines i) || outZ (pos 1) b (toAt lines i))))
+  line-to-itself-is-refused i there same = faulty-line-is-refused i there (rw same (go (outZ (pos 1) (book .b) (toAt (book .lines) i) || outZ (pos 1) (book .b) (toAt (book .lines) i))))
     where
       rest : ℕ
-      rest = cond (differenceOut (differenceAt lines i)) 3 (cond (outZ (pos leastLength) (pos mostLength) (lengthAt lines i)) 4 (cond (outZ (pos 0) (pos 1) (standingAt lines i)) 5 0))
+      rest = cond (differenceOut (differenceAt (book .lines) i)) 3 (cond (outZ (pos leastLength) (pos mostLength) (lengthAt (book .lines) i)) 4 (cond (outZ (pos 0) (pos 1) (standingAt (book .lines) i)) 5 0))
 
-      go : (x : Bool) → ltb 0 (cond x 1 (cond (eqZ (toAt lines i) (toAt lines i)) 2 rest)) ≡ true
+      go : (x : Bool) → ltb 0 (cond x 1 (cond (eqZ (toAt (book .lines) i) (toAt (book .lines) i)) 2 rest)) ≡ true
       go true = refl
-      go false = rw (eqZ-same (toAt lines i))
+      go false = rw (eqZ-same (toAt (book .lines) i))
 
 -- ---- a report that is not this book's
 
-module _ (b t : ℤ) (held lines report : List ℤ) (k : Book) (passes : testOf b t held lines ≡ Good k) (number : ℤ) (i : ℕ) (stands : Stands lines number i)
-    (other : report ≡ reportOf (k .marks) (k .tolerance) lines ++ drop (length (reportOf (k .marks) (k .tolerance) lines)) report → ⊥) where
-  differs : otherReport report (reportOf (k .marks) (k .tolerance) lines) ≡ true
-  differs = go (otherReport report (reportOf (k .marks) (k .tolerance) lines)) refl
+module _ (book : Lent) (report : List ℤ) (k : Book) (passes : testOf book ≡ Good k) (number : ℤ) (i : ℕ) (stands : Stands (book .lines) number i)
+    (other : report ≡ reportOf (k .marks) (k .tolerance) (book .lines) ++ drop (length (reportOf (k .marks) (k .tolerance) (book .lines))) report → ⊥) where
+  differs : otherReport report (reportOf (k .marks) (k .tolerance) (book .lines)) ≡ true
+  differs = go (otherReport report (reportOf (k .marks) (k .tolerance) (book .lines))) refl
     where
-      go : (x : Bool) → otherReport report (reportOf (k .marks) (k .tolerance) lines) ≡ x → x ≡ true
+      go : (x : Bool) → otherReport report (reportOf (k .marks) (k .tolerance) (book .lines)) ≡ x → x ≡ true
       go true e = refl
-      go false e = absurd (other (report-exactly-if-rows report (reportOf (k .marks) (k .tolerance) lines) .0 e))
+      go false e = absurd (other (report-exactly-if-rows report (reportOf (k .marks) (k .tolerance) (book .lines)) .0 e))
 
   -- a withdrawal with a report that is not this book's is refused with 9, and lines and report stay as they are
-  pub other-report-is-refused : withdrawOf b t held lines report number ≡ corrected (refusal 9 0) lines report
-  unfolding withdrawOf correctTested correctGood
-  other-report-is-refused = rw (passes, line-exactly-if-stands lines number .1 (i, stands), differs)
+  pub other-report-is-refused : withdrawOf book report number ≡ corrected (refusal 9 0) (book .lines) report
+  unfolding withdrawOf correctOf correctGood
+  other-report-is-refused = rw (passes, line-exactly-if-stands (book .lines) number .1 (i, stands), differs)
 
   -- and so is a re-run
-  pub other-report-is-refused-in-rerun : (difference : ℤ) → natAbs difference ≤ mostDifference → rerunOf b t held lines report number difference ≡ corrected (refusal 9 0) lines report
-  unfolding rerunOf correctTested correctGood differenceOut
-  other-report-is-refused-in-rerun difference small = rw (size-inside mostDifference difference small, passes, line-exactly-if-stands lines number .1 (i, stands), differs)
+  pub other-report-is-refused-in-rerun : (difference : ℤ) → natAbs difference ≤ mostDifference → rerunOf book report number difference ≡ corrected (refusal 9 0) (book .lines) report
+  unfolding rerunOf correctOf correctGood differenceOut
+  other-report-is-refused-in-rerun difference small = rw (size-inside mostDifference difference small, passes, line-exactly-if-stands (book .lines) number .1 (i, stands), differs)

@@ -4,6 +4,7 @@ use mathlib.Core.Path.{_≡_, sym, _∙_}
 use mathlib.Core.List.{List}
 use Prim.Native.Nat.{ℕ}
 use lib.IntN.{ℤ}
+use Rattle.book.specs.Lent.{Lent}
 use Rattle.book.specs.Height.{heldHeightOf, workHeightOf}
 use Rattle.book.specs.Held.{heldEntryOf}
 use Rattle.book.specs.Line.{lineOf}
@@ -43,42 +44,42 @@ pub reader-has-one-answer : (file : List ℕ) (held lines : List ℤ) (x y : Out
 reader-has-one-answer file held lines = one-answer (readOf file held lines)
 
 -- the survey: answer and rows
-pub survey-has-one-answer : (b t : ℤ) (held lines out : List ℤ) (x y : Surveyed) → x ≡ surveyOf b t held lines out → y ≡ surveyOf b t held lines out → x ≡ y
-survey-has-one-answer b t held lines out = one-answer (surveyOf b t held lines out)
+pub survey-has-one-answer : (book : Lent) (out : List ℤ) (x y : Surveyed) → x ≡ surveyOf book out → y ≡ surveyOf book out → x ≡ y
+survey-has-one-answer book out = one-answer (surveyOf book out)
 
 -- the listing of a loop: answer and output
-pub listing-has-one-answer : (b t : ℤ) (held lines : List ℤ) (loop : ℤ) (out : List ℤ) (x y : Listing)
-    → x ≡ listingOf b t held lines loop out → y ≡ listingOf b t held lines loop out → x ≡ y
-listing-has-one-answer b t held lines loop out = one-answer (listingOf b t held lines loop out)
+pub listing-has-one-answer : (book : Lent) (loop : ℤ) (out : List ℤ) (x y : Listing)
+    → x ≡ listingOf book loop out → y ≡ listingOf book loop out → x ≡ y
+listing-has-one-answer book loop out = one-answer (listingOf book loop out)
 
 -- the listing of all loops: answer and output
-pub listings-has-one-answer : (b t : ℤ) (held lines out : List ℤ) (x y : Listing)
-    → x ≡ listingsOf b t held lines out → y ≡ listingsOf b t held lines out → x ≡ y
-listings-has-one-answer b t held lines out = one-answer (listingsOf b t held lines out)
+pub listings-has-one-answer : (book : Lent) (out : List ℤ) (x y : Listing)
+    → x ≡ listingsOf book out → y ≡ listingsOf book out → x ≡ y
+listings-has-one-answer book out = one-answer (listingsOf book out)
 
 -- the not-checked list: answer and output
-pub not-checked-has-one-answer : (b t : ℤ) (held lines out : List ℤ) (x y : Listing)
-    → x ≡ notCheckedOf b t held lines out → y ≡ notCheckedOf b t held lines out → x ≡ y
-not-checked-has-one-answer b t held lines out = one-answer (notCheckedOf b t held lines out)
+pub not-checked-has-one-answer : (book : Lent) (out : List ℤ) (x y : Listing)
+    → x ≡ notCheckedOf book out → y ≡ notCheckedOf book out → x ≡ y
+not-checked-has-one-answer book out = one-answer (notCheckedOf book out)
 
 -- re-run: answer, lines and report
-pub rerun-has-one-answer : (b t : ℤ) (held lines report : List ℤ) (line difference : ℤ) (x y : Corrected)
-    → x ≡ rerunOf b t held lines report line difference → y ≡ rerunOf b t held lines report line difference → x ≡ y
-rerun-has-one-answer b t held lines report line difference = one-answer (rerunOf b t held lines report line difference)
+pub rerun-has-one-answer : (book : Lent) (report : List ℤ) (line difference : ℤ) (x y : Corrected)
+    → x ≡ rerunOf book report line difference → y ≡ rerunOf book report line difference → x ≡ y
+rerun-has-one-answer book report line difference = one-answer (rerunOf book report line difference)
 
 -- withdrawal: answer, lines and report
-pub withdrawal-has-one-answer : (b t : ℤ) (held lines report : List ℤ) (line : ℤ) (x y : Corrected)
-    → x ≡ withdrawOf b t held lines report line → y ≡ withdrawOf b t held lines report line → x ≡ y
-withdrawal-has-one-answer b t held lines report line = one-answer (withdrawOf b t held lines report line)
+pub withdrawal-has-one-answer : (book : Lent) (report : List ℤ) (line : ℤ) (x y : Corrected)
+    → x ≡ withdrawOf book report line → y ≡ withdrawOf book report line → x ≡ y
+withdrawal-has-one-answer book report line = one-answer (withdrawOf book report line)
 
 -- the adjustment: answer and heights
-pub adjustment-has-one-answer : (b t : ℤ) (held lines out : List ℤ) (x y : Given) → x ≡ adjustOf b t held lines out → y ≡ adjustOf b t held lines out → x ≡ y
-adjustment-has-one-answer b t held lines out = one-answer (adjustOf b t held lines out)
+pub adjustment-has-one-answer : (book : Lent) (out : List ℤ) (x y : Given) → x ≡ adjustOf book out → y ≡ adjustOf book out → x ≡ y
+adjustment-has-one-answer book out = one-answer (adjustOf book out)
 
 -- the correction rate
-pub rate-has-one-answer : (b t : ℤ) (held lines heights : List ℤ) (line : ℤ) (x y : RateAnswer)
-    → x ≡ rateAnswer b t held lines heights line → y ≡ rateAnswer b t held lines heights line → x ≡ y
-rate-has-one-answer b t held lines heights line = one-answer (rateAnswer b t held lines heights line)
+pub rate-has-one-answer : (book : Lent) (heights : List ℤ) (line : ℤ) (x y : RateAnswer)
+    → x ≡ rateAnswer book heights line → y ≡ rateAnswer book heights line → x ≡ y
+rate-has-one-answer book heights line = one-answer (rateAnswer book heights line)
 
 -- ---- the calls as C sees them
 
@@ -86,37 +87,37 @@ pub level-read-has-one-answer : (file : List ℕ) (held lines : List ℤ) (x y :
     → x ≡ ofRead (readOf file held lines) → y ≡ ofRead (readOf file held lines) → x ≡ y
 level-read-has-one-answer file held lines = one-answer (ofRead (readOf file held lines))
 
-pub level-survey-has-one-answer : (b t : ℤ) (held lines out : List ℤ) (x y : SurveyNow)
-    → x ≡ ofSurvey (surveyOf b t held lines out) → y ≡ ofSurvey (surveyOf b t held lines out) → x ≡ y
-level-survey-has-one-answer b t held lines out = one-answer (ofSurvey (surveyOf b t held lines out))
+pub level-survey-has-one-answer : (book : Lent) (out : List ℤ) (x y : SurveyNow)
+    → x ≡ ofSurvey (surveyOf book out) → y ≡ ofSurvey (surveyOf book out) → x ≡ y
+level-survey-has-one-answer book out = one-answer (ofSurvey (surveyOf book out))
 
-pub level-listing-has-one-answer : (b t : ℤ) (held lines : List ℤ) (loop : ℤ) (out : List ℤ) (x y : ListingNow)
-    → x ≡ ofListing (listingOf b t held lines loop out) → y ≡ ofListing (listingOf b t held lines loop out) → x ≡ y
-level-listing-has-one-answer b t held lines loop out = one-answer (ofListing (listingOf b t held lines loop out))
+pub level-listing-has-one-answer : (book : Lent) (loop : ℤ) (out : List ℤ) (x y : ListingNow)
+    → x ≡ ofListing (listingOf book loop out) → y ≡ ofListing (listingOf book loop out) → x ≡ y
+level-listing-has-one-answer book loop out = one-answer (ofListing (listingOf book loop out))
 
-pub level-listings-has-one-answer : (b t : ℤ) (held lines out : List ℤ) (x y : ListingNow)
-    → x ≡ ofListing (listingsOf b t held lines out) → y ≡ ofListing (listingsOf b t held lines out) → x ≡ y
-level-listings-has-one-answer b t held lines out = one-answer (ofListing (listingsOf b t held lines out))
+pub level-listings-has-one-answer : (book : Lent) (out : List ℤ) (x y : ListingNow)
+    → x ≡ ofListing (listingsOf book out) → y ≡ ofListing (listingsOf book out) → x ≡ y
+level-listings-has-one-answer book out = one-answer (ofListing (listingsOf book out))
 
-pub level-not-checked-has-one-answer : (b t : ℤ) (held lines out : List ℤ) (x y : ListingNow)
-    → x ≡ ofListing (notCheckedOf b t held lines out) → y ≡ ofListing (notCheckedOf b t held lines out) → x ≡ y
-level-not-checked-has-one-answer b t held lines out = one-answer (ofListing (notCheckedOf b t held lines out))
+pub level-not-checked-has-one-answer : (book : Lent) (out : List ℤ) (x y : ListingNow)
+    → x ≡ ofListing (notCheckedOf book out) → y ≡ ofListing (notCheckedOf book out) → x ≡ y
+level-not-checked-has-one-answer book out = one-answer (ofListing (notCheckedOf book out))
 
-pub level-rerun-has-one-answer : (b t : ℤ) (held lines report : List ℤ) (line difference : ℤ) (x y : CorrectionNow)
-    → x ≡ ofCorrection (rerunOf b t held lines report line difference) → y ≡ ofCorrection (rerunOf b t held lines report line difference) → x ≡ y
-level-rerun-has-one-answer b t held lines report line difference = one-answer (ofCorrection (rerunOf b t held lines report line difference))
+pub level-rerun-has-one-answer : (book : Lent) (report : List ℤ) (line difference : ℤ) (x y : CorrectionNow)
+    → x ≡ ofCorrection (rerunOf book report line difference) → y ≡ ofCorrection (rerunOf book report line difference) → x ≡ y
+level-rerun-has-one-answer book report line difference = one-answer (ofCorrection (rerunOf book report line difference))
 
-pub level-withdraw-has-one-answer : (b t : ℤ) (held lines report : List ℤ) (line : ℤ) (x y : CorrectionNow)
-    → x ≡ ofCorrection (withdrawOf b t held lines report line) → y ≡ ofCorrection (withdrawOf b t held lines report line) → x ≡ y
-level-withdraw-has-one-answer b t held lines report line = one-answer (ofCorrection (withdrawOf b t held lines report line))
+pub level-withdraw-has-one-answer : (book : Lent) (report : List ℤ) (line : ℤ) (x y : CorrectionNow)
+    → x ≡ ofCorrection (withdrawOf book report line) → y ≡ ofCorrection (withdrawOf book report line) → x ≡ y
+level-withdraw-has-one-answer book report line = one-answer (ofCorrection (withdrawOf book report line))
 
-pub level-adjust-has-one-answer : (b t : ℤ) (held lines out : List ℤ) (x y : AdjustNow)
-    → x ≡ ofAdjust (adjustOf b t held lines out) → y ≡ ofAdjust (adjustOf b t held lines out) → x ≡ y
-level-adjust-has-one-answer b t held lines out = one-answer (ofAdjust (adjustOf b t held lines out))
+pub level-adjust-has-one-answer : (book : Lent) (out : List ℤ) (x y : AdjustNow)
+    → x ≡ ofAdjust (adjustOf book out) → y ≡ ofAdjust (adjustOf book out) → x ≡ y
+level-adjust-has-one-answer book out = one-answer (ofAdjust (adjustOf book out))
 
-pub level-rate-has-one-answer : (b t : ℤ) (held lines heights : List ℤ) (line : ℤ) (x y : Rated)
-    → x ≡ signedRate (rateAnswer b t held lines heights line) → y ≡ signedRate (rateAnswer b t held lines heights line) → x ≡ y
-level-rate-has-one-answer b t held lines heights line = one-answer (signedRate (rateAnswer b t held lines heights line))
+pub level-rate-has-one-answer : (book : Lent) (heights : List ℤ) (line : ℤ) (x y : Rated)
+    → x ≡ signedRate (rateAnswer book heights line) → y ≡ signedRate (rateAnswer book heights line) → x ≡ y
+level-rate-has-one-answer book heights line = one-answer (signedRate (rateAnswer book heights line))
 
 -- ---- what is printed
 
@@ -134,8 +135,8 @@ row-has-one-answer line correction rate = one-answer (rowOf line correction rate
 
 -- ---- the test of a lent book, and the constructors
 
-pub test-has-one-answer : (b t : ℤ) (held lines : List ℤ) (x y : Tested) → x ≡ testOf b t held lines → y ≡ testOf b t held lines → x ≡ y
-test-has-one-answer b t held lines = one-answer (testOf b t held lines)
+pub test-has-one-answer : (book : Lent) (x y : Tested) → x ≡ testOf book → y ≡ testOf book → x ≡ y
+test-has-one-answer book = one-answer (testOf book)
 
 pub book-has-one-answer : (b t : ℤ) (h n : ℕ) (x y : Tested) → x ≡ bookOf b t h n → y ≡ bookOf b t h n → x ≡ y
 book-has-one-answer b t h n = one-answer (bookOf b t h n)

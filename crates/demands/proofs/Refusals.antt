@@ -9,113 +9,114 @@ use lib.Dec.{eqb, ltb}
 use lib.ListN.{length, drop}
 use lib.IntN.{ℤ, pos, natAbs}
 use borrow.Author.Tests.{eq-eqb}
+use Rattle.book.specs.Lent.{Lent}
 use Rattle.book.specs.Held.{heldWords}
 use Rattle.book.specs.Line.{lineWords, differenceOut}
-use Rattle.book.specs.Test.{torn, bookOut, counts}
+use Rattle.book.specs.Test.{torn, bookOut}
 use Rattle.book.specs.declared.Book.{Book}
 use Rattle.file.specs.Read as read
-use Rattle.file.specs.Read.{Outcome, answered, statedLength, statedVersion, statedT, statedB, statedH, statedN, fileLength, headOf, heldOf, linesOf, roomOf, testedOf, bodyOf, afterHead, readOf}
+use Rattle.file.specs.Read.{Outcome, answered, statedLength, statedVersion, statedT, statedB, statedH, statedN, statedCounts, fileLength, headOf, heldOf, linesOf, bookIn, roomOf, bodyOf, afterHead, readOf}
 use Rattle.file.specs.declared.entry.Kind.the-variants as kind
 use Rattle.file.specs.declared.Head.the-variants as head
 use Rattle.file.proofs.Entries.{entries-length}
 use Rattle.loops.specs.Row.{listings}
-use Rattle.loops.specs.Report.{loopsOf, reportOf}
+use Rattle.loops.specs.Report.{loopsOf}
 use Rattle.survey.specs.Report.{refusal, counted}
-use Rattle.survey.specs.Survey.{Surveyed, surveyed, surveyTested, surveyOf}
-use Rattle.lists.specs.Listing.{Listing, listing, unlisted, listingTested, listingOf, listingsTested, listingsOf}
-use Rattle.lists.specs.NotChecked.{uncheckedOf, notCheckedTested, notCheckedOf}
-use Rattle.survey.specs.Correction.{Corrected, corrected, correctTested, rerunLines, withdrawLines, rerunOf, withdrawOf}
-use Rattle.demands.specs.Calls.{surveyDone, listDone, correctionDone, readDone, SurveyKeepsToTable, ListingKeepsToTable, ListingsKeepsToTable, NotCheckedKeepsToTable, RerunKeepsToTable, WithdrawalKeepsToTable, ReaderKeepsToTable}
+use Rattle.survey.specs.Survey.{Surveyed, surveyed, surveyGood, surveyOf}
+use Rattle.lists.specs.Listing.{Listing, listing, unlisted, listOf, listingGood, listingOf, listingsGood, listingsOf}
+use Rattle.lists.specs.NotChecked.{uncheckedOf, notCheckedOf}
+use Rattle.survey.specs.Correction.{Corrected, corrected, correctGood, rerunLines, withdrawLines, rerunOf, withdrawOf}
+use Rattle.demands.specs.Calls.{afresh, surveyDone, listDone, correctionDone, readDone, SurveyKeepsToTable, ListingKeepsToTable, ListingsKeepsToTable, NotCheckedKeepsToTable, RerunKeepsToTable, WithdrawalKeepsToTable, ReaderKeepsToTable}
 use Rattle.demands.specs.Tables.{bookFault, heldRule, lineRule, roomRule, roomsRule, surveyRules, loopListing, loopRules, correctionRules, listingRules, listingsRules, notCheckedRules, rerunRules, withdrawRules, fileRules}
 use Rattle.demands.proofs.Rules.{byRules, cond-or, keeps-to-table}
 use Rattle.demands.proofs.BookRules.{by-the-test}
 
-module _ (b t : ℤ) (held lines : List ℤ) where
+module _ (book : Lent) where
   -- the survey keeps to its table: 4, 6, 7, 10
-  pub survey-keeps-to-table : (out : List ℤ) → SurveyKeepsToTable b t held lines out (surveyOf b t held lines out)
+  pub survey-keeps-to-table : (out : List ℤ) → SurveyKeepsToTable book out (surveyOf book out)
   unfolding surveyOf surveyRules byRules counted
   survey-keeps-to-table out =
       keeps-to-table (λ n p. refl) (λ n p. refl) refl refl refl
-      (by-the-test b t held lines (surveyTested lines out) (roomRule out (reportOf (natAbs b) (natAbs t) lines) ∷ []) (λ n p. surveyed (refusal n p) out) (surveyDone b t lines out) (λ r. refl) refl)
+      (by-the-test book (λ k. surveyGood k (book .lines) out) (roomRule out (afresh book) ∷ []) (λ n p. surveyed (refusal n p) out) (surveyDone book out) refl)
 
   -- the listing of a loop keeps to its table: 4, 6, 7, 8, 10
-  pub listing-keeps-to-table : (number : ℤ) (out : List ℤ) → ListingKeepsToTable b t held lines number out (listingOf b t held lines number out)
+  pub listing-keeps-to-table : (number : ℤ) (out : List ℤ) → ListingKeepsToTable book number out (listingOf book number out)
   unfolding listingOf listingRules loopListing byRules
   listing-keeps-to-table number out =
       keeps-to-table (λ n p. refl) (λ n p. refl) refl refl refl
-      (by-the-test b t held lines (listingTested lines number out) (loopRules b lines number out) (λ n p. listing (unlisted n p) out)
-      (listDone (loopListing (natAbs b) lines number) out) (λ r. refl) refl)
+      (by-the-test book (λ k. listingGood k (book .lines) number out) (loopRules book number out) (λ n p. listing (unlisted n p) out)
+      (listDone (loopListing book number) out) refl)
 
   -- the listing of all loops keeps to its table: 4, 6, 7, 10
-  pub listings-keeps-to-table : (out : List ℤ) → ListingsKeepsToTable b t held lines out (listingsOf b t held lines out)
+  pub listings-keeps-to-table : (out : List ℤ) → ListingsKeepsToTable book out (listingsOf book out)
   unfolding listingsOf listingsRules byRules
   listings-keeps-to-table out =
       keeps-to-table (λ n p. refl) (λ n p. refl) refl refl refl
-      (by-the-test b t held lines (listingsTested lines out) (roomRule out (listings (loopsOf (natAbs b) lines)) ∷ []) (λ n p. listing (unlisted n p) out)
-      (listDone (listings (loopsOf (natAbs b) lines)) out) (λ r. refl) refl)
+      (by-the-test book (λ k. listingsGood k (book .lines) out) (roomRule out (listings (loopsOf (natAbs (book .b)) (book .lines))) ∷ []) (λ n p. listing (unlisted n p) out)
+      (listDone (listings (loopsOf (natAbs (book .b)) (book .lines))) out) refl)
 
   -- the not-checked list keeps to its table: 4, 6, 7, 10
-  pub not-checked-keeps-to-table : (out : List ℤ) → NotCheckedKeepsToTable b t held lines out (notCheckedOf b t held lines out)
+  pub not-checked-keeps-to-table : (out : List ℤ) → NotCheckedKeepsToTable book out (notCheckedOf book out)
   unfolding notCheckedOf notCheckedRules byRules
   not-checked-keeps-to-table out =
       keeps-to-table (λ n p. refl) (λ n p. refl) refl refl refl
-      (by-the-test b t held lines (notCheckedTested lines out) (roomRule out (uncheckedOf (natAbs b) lines) ∷ []) (λ n p. listing (unlisted n p) out)
-      (listDone (uncheckedOf (natAbs b) lines) out) (λ r. refl) refl)
+      (by-the-test book (λ k. listOf (uncheckedOf (k .marks) (book .lines)) out) (roomRule out (uncheckedOf (natAbs (book .b)) (book .lines)) ∷ []) (λ n p. listing (unlisted n p) out)
+      (listDone (uncheckedOf (natAbs (book .b)) (book .lines)) out) refl)
 
   -- withdrawal keeps to its table: 4, 6, 7, 8, 9
-  pub withdrawal-keeps-to-table : (report : List ℤ) (number : ℤ) → WithdrawalKeepsToTable b t held lines report number (withdrawOf b t held lines report number)
+  pub withdrawal-keeps-to-table : (report : List ℤ) (number : ℤ) → WithdrawalKeepsToTable book report number (withdrawOf book report number)
   unfolding withdrawOf withdrawRules byRules counted
   withdrawal-keeps-to-table report number =
       keeps-to-table (λ n p. refl) (λ n p. refl) refl refl refl
-      (by-the-test b t held lines (correctTested lines report number (withdrawLines lines number)) (correctionRules b t lines report number)
-      (λ n p. corrected (refusal n p) lines report) (correctionDone b t lines report (withdrawLines lines number)) (λ r. refl) refl)
+      (by-the-test book (λ k. correctGood k (book .lines) report number (withdrawLines (book .lines) number)) (correctionRules book report number)
+      (λ n p. corrected (refusal n p) (book .lines) report) (correctionDone book report (withdrawLines (book .lines) number)) refl)
 
   -- re-run keeps to its table: 4, 6, 7, 8, 9
   pub rerun-keeps-to-table : (report : List ℤ) (number difference : ℤ)
-      → RerunKeepsToTable b t held lines report number difference (rerunOf b t held lines report number difference)
+      → RerunKeepsToTable book report number difference (rerunOf book report number difference)
   unfolding rerunOf rerunRules byRules counted
   rerun-keeps-to-table report number difference =
       keeps-to-table (λ n p. refl) (λ n p. refl) refl refl refl
-      (ap (cond (differenceOut difference) (corrected (refusal 4 0) lines report))
-      (by-the-test b t held lines (correctTested lines report number (rerunLines lines number difference)) (correctionRules b t lines report number)
-      (λ n p. corrected (refusal n p) lines report) (correctionDone b t lines report (rerunLines lines number difference)) (λ r. refl) refl)
-      ∙ cond-or (differenceOut difference) (bookFault b t held lines) (corrected (refusal 4 0) lines report) _)
+      (ap (cond (differenceOut difference) (corrected (refusal 4 0) (book .lines) report))
+      (by-the-test book (λ k. correctGood k (book .lines) report number (rerunLines (book .lines) number difference)) (correctionRules book report number)
+      (λ n p. corrected (refusal n p) (book .lines) report) (correctionDone book report (rerunLines (book .lines) number difference)) refl)
+      ∙ cond-or (differenceOut difference) (bookFault book) (corrected (refusal 4 0) (book .lines) report) _)
 
   -- ---- "After a refusal the counts are 0 and no lent buffer has changed."
 
   -- a refused survey: no rows, no pieces, and the output as it was
-  pub refused-survey-changes-nothing : (out : List ℤ) → let s = surveyOf b t held lines out in (s .answer .number ≡ 0 → ⊥)
+  pub refused-survey-changes-nothing : (out : List ℤ) → let s = surveyOf book out in (s .answer .number ≡ 0 → ⊥)
       → (s .answer .rows ≡ 0) × (s .answer .pieces ≡ 0) × (s .rows ≡ out)
   refused-survey-changes-nothing out h = let e = survey-keeps-to-table out .refused h in
       (ap (λ (s : Surveyed). s .answer .rows) e, ap (λ (s : Surveyed). s .answer .pieces) e, ap (λ (s : Surveyed). s .rows) e)
 
   -- a refused listing: no entries, and the output as it was
-  pub refused-listing-changes-nothing : (number : ℤ) (out : List ℤ) → let l = listingOf b t held lines number out in (l .answer .number ≡ 0 → ⊥)
+  pub refused-listing-changes-nothing : (number : ℤ) (out : List ℤ) → let l = listingOf book number out in (l .answer .number ≡ 0 → ⊥)
       → (l .answer .entries ≡ 0) × (l .out ≡ out)
   refused-listing-changes-nothing number out h = let e = listing-keeps-to-table number out .refused h in
       (ap (λ (l : Listing). l .answer .entries) e, ap (λ (l : Listing). l .out) e)
 
   -- a refused listing of all loops: no entries, and the output as it was
-  pub refused-listings-changes-nothing : (out : List ℤ) → let l = listingsOf b t held lines out in (l .answer .number ≡ 0 → ⊥)
+  pub refused-listings-changes-nothing : (out : List ℤ) → let l = listingsOf book out in (l .answer .number ≡ 0 → ⊥)
       → (l .answer .entries ≡ 0) × (l .out ≡ out)
   refused-listings-changes-nothing out h = let e = listings-keeps-to-table out .refused h in
       (ap (λ (l : Listing). l .answer .entries) e, ap (λ (l : Listing). l .out) e)
 
   -- a refused not-checked list: no entries, and the output as it was
-  pub refused-not-checked-changes-nothing : (out : List ℤ) → let l = notCheckedOf b t held lines out in (l .answer .number ≡ 0 → ⊥)
+  pub refused-not-checked-changes-nothing : (out : List ℤ) → let l = notCheckedOf book out in (l .answer .number ≡ 0 → ⊥)
       → (l .answer .entries ≡ 0) × (l .out ≡ out)
   refused-not-checked-changes-nothing out h = let e = not-checked-keeps-to-table out .refused h in
       (ap (λ (l : Listing). l .answer .entries) e, ap (λ (l : Listing). l .out) e)
 
   -- a refused withdrawal: no rows, no pieces, and lines and report as they were
-  pub refused-withdrawal-changes-nothing : (report : List ℤ) (number : ℤ) → let c = withdrawOf b t held lines report number in (c .answer .number ≡ 0 → ⊥)
-      → (c .answer .rows ≡ 0) × (c .answer .pieces ≡ 0) × (c .lines ≡ lines) × (c .report ≡ report)
+  pub refused-withdrawal-changes-nothing : (report : List ℤ) (number : ℤ) → let c = withdrawOf book report number in (c .answer .number ≡ 0 → ⊥)
+      → (c .answer .rows ≡ 0) × (c .answer .pieces ≡ 0) × (c .lines ≡ (book .lines)) × (c .report ≡ report)
   refused-withdrawal-changes-nothing report number h = let e = withdrawal-keeps-to-table report number .refused h in
       (ap (λ (c : Corrected). c .answer .rows) e, ap (λ (c : Corrected). c .answer .pieces) e, ap (λ (c : Corrected). c .lines) e, ap (λ (c : Corrected). c .report) e)
 
   -- a refused re-run: no rows, no pieces, and lines and report as they were
-  pub refused-rerun-changes-nothing : (report : List ℤ) (number difference : ℤ) → let c = rerunOf b t held lines report number difference in (c .answer .number ≡ 0 → ⊥)
-      → (c .answer .rows ≡ 0) × (c .answer .pieces ≡ 0) × (c .lines ≡ lines) × (c .report ≡ report)
+  pub refused-rerun-changes-nothing : (report : List ℤ) (number difference : ℤ) → let c = rerunOf book report number difference in (c .answer .number ≡ 0 → ⊥)
+      → (c .answer .rows ≡ 0) × (c .answer .pieces ≡ 0) × (c .lines ≡ (book .lines)) × (c .report ≡ report)
   refused-rerun-changes-nothing report number difference h = let e = rerun-keeps-to-table report number difference .refused h in
       (ap (λ (c : Corrected). c .answer .rows) e, ap (λ (c : Corrected). c .answer .pieces) e, ap (λ (c : Corrected). c .lines) e, ap (λ (c : Corrected). c .report) e)
 
@@ -124,7 +125,7 @@ module _ (b t : ℤ) (held lines : List ℤ) where
 module _ (file : List ℕ) (held lines : List ℤ) where
   -- the entries that are read are whole, and as many as stated: of 4 only the stated counts are left
   pub no-other-fault : bookOut (pos (statedB file)) (pos (statedT file)) (statedH file) (statedN file) ≡ false
-      → bookFault (pos (statedB file)) (pos (statedT file)) (heldOf file (statedH file)) (linesOf file (statedH file) (statedN file)) ≡ false
+      → bookFault (bookIn file (statedCounts file)) ≡ false
   unfolding bookFault torn heldOf linesOf
   no-other-fault e =
       let h = entries-length kind.Held file 13 (statedH file) in
@@ -146,13 +147,13 @@ module _ (file : List ℕ) (held lines : List ℤ) where
 
   -- 6 and 7, then 10
   body : bookOut (pos (statedB file)) (pos (statedT file)) (statedH file) (statedN file) ≡ false
-      → bodyOf file (counts (pos (statedB file)) (pos (statedT file)) (statedH file) (statedN file)) held lines
-      ≡ byRules (heldRule (pos (statedB file)) (heldOf file (statedH file)) ∷ lineRule (pos (statedB file)) (linesOf file (statedH file) (statedN file)) ∷ roomsRule file held lines ∷ []) refuse (readDone file held lines)
-  unfolding bodyOf testedOf byRules refuse
+      → bodyOf file (statedCounts file) held lines
+      ≡ byRules (heldRule (bookIn file (statedCounts file)) ∷ lineRule (bookIn file (statedCounts file)) ∷ roomsRule file held lines ∷ []) refuse (readDone file held lines)
+  unfolding bodyOf byRules refuse
   body e =
-      by-the-test (pos (statedB file)) (pos (statedT file)) (heldOf file (statedH file)) (linesOf file (statedH file) (statedN file))
-      (testedOf file (counts (pos (statedB file)) (pos (statedT file)) (statedH file) (statedN file)) held lines) (roomsRule file held lines ∷ []) refuse (readDone file held lines) (λ r. refl)
-      (room (counts (pos (statedB file)) (pos (statedT file)) (statedH file) (statedN file)))
+      by-the-test (bookIn file (statedCounts file))
+      (λ _. roomOf file (statedCounts file) held lines) (roomsRule file held lines ∷ []) refuse (readDone file held lines)
+      (room (statedCounts file))
       ∙ rw (no-other-fault e)
 
   -- the reader keeps to its table: 1 to 7, 10
@@ -164,10 +165,10 @@ module _ (file : List ℕ) (held lines : List ℤ) where
       (bookOut (pos (statedB file)) (pos (statedT file)) (statedH file) (statedN file)) refl (not (eqb (length file) (fileLength (statedH file) (statedN file)))))
     where
       k : Book
-      k = counts (pos (statedB file)) (pos (statedT file)) (statedH file) (statedN file)
+      k = statedCounts file
 
       rest : Outcome
-      rest = byRules (heldRule (pos (statedB file)) (heldOf file (statedH file)) ∷ lineRule (pos (statedB file)) (linesOf file (statedH file) (statedN file)) ∷ roomsRule file held lines ∷ []) refuse (readDone file held lines)
+      rest = byRules (heldRule (bookIn file (statedCounts file)) ∷ lineRule (bookIn file (statedCounts file)) ∷ roomsRule file held lines ∷ []) refuse (readDone file held lines)
 
       go : (x y z f : Bool) → bookOut (pos (statedB file)) (pos (statedT file)) (statedH file) (statedN file) ≡ f → (w : Bool)
           → afterHead file held lines (cond x (head.Refused 1) (cond y (head.Refused 2) (cond z (head.Refused 3) (cond f (head.Refused 4) (cond w (head.Refused 5) (head.States k))))))

@@ -10,6 +10,7 @@ use lib.ListN.{length, getD, take, drop, List·getD-append}
 use lib.Seq.{take-append-seam, drop-append-seam}
 use lib.IntN.{ℤ, pos, natAbs}
 use Rattle.laws.proofs.Size.{between}
+use Rattle.book.specs.Lent.{Lent}
 use Rattle.book.specs.Test.{testOf}
 use Rattle.book.specs.declared.Book.{Book}
 use Rattle.book.specs.declared.Tested.the-variants.{Good}
@@ -74,39 +75,39 @@ in-first-places list out = record {
   past-it = drop-append-seam list (drop (length list) out);
 }
 
-module _ (b t : ℤ) (held lines : List ℤ) (k : Book) (passes : testOf b t held lines ≡ Good k) where
-  marks-are : natAbs b ≡ k .marks
-  marks-are = ap natAbs (tested-good b t held lines k passes .marks)
+module _ (book : Lent) (k : Book) (passes : testOf book ≡ Good k) where
+  marks-are : natAbs (book .b) ≡ k .marks
+  marks-are = ap natAbs (tested-good book k passes .marks)
 
-  tolerance-is : natAbs t ≡ k .tolerance
-  tolerance-is = ap natAbs (tested-good b t held lines k passes .tolerance)
+  tolerance-is : natAbs (book .t) ≡ k .tolerance
+  tolerance-is = ap natAbs (tested-good book k passes .tolerance)
 
   -- ---- the survey
 
-  module _ (out : List ℤ) (done : surveyOf b t held lines out .answer .number ≡ 0) where
+  module _ (out : List ℤ) (done : surveyOf book out .answer .number ≡ 0) where
     -- the rows and pieces answered are those of the book
-    pub survey-counts : (surveyOf b t held lines out .answer .rows ≡ length (loopsOf (k .marks) lines)) × (surveyOf b t held lines out .answer .pieces ≡ piecesOf (k .marks) lines)
+    pub survey-counts : (surveyOf book out .answer .rows ≡ length (loopsOf (k .marks) (book .lines))) × (surveyOf book out .answer .pieces ≡ piecesOf (k .marks) (book .lines))
     unfolding counted
-    survey-counts = rw (survey-keeps-to-table b t held lines out .finished done, marks-are) (refl, refl)
+    survey-counts = rw (survey-keeps-to-table book out .finished done, marks-are) (refl, refl)
 
     -- "lines minus marks plus pieces in all"
-    pub rows-are-lines-less-marks-plus-pieces : surveyOf b t held lines out .answer .rows + k .marks ≡ length (standing lines) + surveyOf b t held lines out .answer .pieces
-    rows-are-lines-less-marks-plus-pieces = omega (arith, survey-counts .0, survey-counts .1, the.loops-are-lines-less-marks-plus-pieces b t held lines k passes)
+    pub rows-are-lines-less-marks-plus-pieces : surveyOf book out .answer .rows + k .marks ≡ length (standing (book .lines)) + surveyOf book out .answer .pieces
+    rows-are-lines-less-marks-plus-pieces = omega (arith, survey-counts .0, survey-counts .1, the.loops-are-lines-less-marks-plus-pieces book k passes)
 
     -- the report stands in the first places of the output, and all places past it are as they were
-    pub report-in-first-places : surveyOf b t held lines out .rows ≡ reportOf (k .marks) (k .tolerance) lines ++ drop (length (reportOf (k .marks) (k .tolerance) lines)) out
-    report-in-first-places = rw (survey-keeps-to-table b t held lines out .finished done, marks-are, tolerance-is)
+    pub report-in-first-places : surveyOf book out .rows ≡ reportOf (k .marks) (k .tolerance) (book .lines) ++ drop (length (reportOf (k .marks) (k .tolerance) (book .lines))) out
+    report-in-first-places = rw (survey-keeps-to-table book out .finished done, marks-are, tolerance-is)
 
     -- row i is the row of loop i: closing line, count, the sum of the lengths, the signed sum of the differences, and the exact verdict
-    pub each-row-is-of-its-loop : (i : ℕ) → i < surveyOf b t held lines out .answer .rows
-        → RowOf (k .tolerance) (surveyOf b t held lines out .rows) i (loopAt (loopsOf (k .marks) lines) i) × LoopIs (k .marks) lines i
+    pub each-row-is-of-its-loop : (i : ℕ) → i < surveyOf book out .answer .rows
+        → RowOf (k .tolerance) (surveyOf book out .rows) i (loopAt (loopsOf (k .marks) (book .lines)) i) × LoopIs (k .marks) (book .lines) i
     each-row-is-of-its-loop i h =
-        let l : i < length (loopsOf (k .marks) lines) = omega (arith, survey-counts .0) in
-        (rw report-in-first-places (report-row (k .marks) (k .tolerance) lines _ i l), the.each-loop-is-so b t held lines k passes i l)
+        let l : i < length (loopsOf (k .marks) (book .lines)) = omega (arith, survey-counts .0) in
+        (rw report-in-first-places (report-row (k .marks) (k .tolerance) (book .lines) _ i l), the.each-loop-is-so book k passes i l)
 
     -- "each with a closing line that no earlier loop has"
-    pub closing-line-is-new : (i j : ℕ) → j < i → i < surveyOf b t held lines out .answer .rows
-        → runs (natAbs (inRow 0 (surveyOf b t held lines out .rows) i)) (loopAt (loopsOf (k .marks) lines) j) ≡ false
+    pub closing-line-is-new : (i j : ℕ) → j < i → i < surveyOf book out .answer .rows
+        → runs (natAbs (inRow 0 (surveyOf book out .rows) i)) (loopAt (loopsOf (k .marks) (book .lines)) j) ≡ false
     closing-line-is-new i j l h =
         let w = each-row-is-of-its-loop i h in
         rw (w .0 .closing-line, w .1 .closing-line-first) (w .1 .not-in-earlier-loop j l)
@@ -114,80 +115,80 @@ module _ (b t : ℤ) (held lines : List ℤ) (k : Book) (passes : testOf b t hel
   -- ---- the listing
 
   -- the listing of loop i, numbered i + 1, is its lines in the order in which they are run, each with its sense
-  pub listing-is-the-loop : (i : ℕ) (out : List ℤ) → listingOf b t held lines (pos (suc i)) out .answer .number ≡ 0
-      → (i < length (loopsOf (k .marks) lines)) × ListedIn (map listed (loopAt (loopsOf (k .marks) lines) i)) out (listingOf b t held lines (pos (suc i)) out)
+  pub listing-is-the-loop : (i : ℕ) (out : List ℤ) → listingOf book (pos (suc i)) out .answer .number ≡ 0
+      → (i < length (loopsOf (k .marks) (book .lines))) × ListedIn (map listed (loopAt (loopsOf (k .marks) (book .lines)) i)) out (listingOf book (pos (suc i)) out)
   unfolding listingRules loopListing
   listing-is-the-loop i out done =
-      let w = listing-keeps-to-table b t held lines (pos (suc i)) out in
-      let there = between 1 (length (loopsOf (natAbs b) lines)) (pos (suc i)) (w .table .done-exactly-if .0 done _ (List·Memᴰ·tail (List·Memᴰ·tail (List·Memᴰ·tail (List·Memᴰ·head refl))))) in
+      let w = listing-keeps-to-table book (pos (suc i)) out in
+      let there = between 1 (length (loopsOf (natAbs (book .b)) (book .lines))) (pos (suc i)) (w .table .done-exactly-if .0 done _ (List·Memᴰ·tail (List·Memᴰ·tail (List·Memᴰ·tail (List·Memᴰ·head refl))))) in
       let at : suc i - 1 ≡ i = omega arith in (
         rw (← marks-are) (omega (arith, there .high)),
-        rw (w .finished done, ← marks-are, at) (in-first-places (map listed (loopAt (loopsOf (natAbs b) lines) i)) out),
+        rw (w .finished done, ← marks-are, at) (in-first-places (map listed (loopAt (loopsOf (natAbs (book .b)) (book .lines)) i)) out),
       )
 
   -- and begins with its closing line, positive
-  pub listing-begins-with-closing-line : (i : ℕ) (h : i < length (loopsOf (k .marks) lines)) → let loop = the.each-loop-is-so b t held lines k passes i h in
-      map listed (loopAt (loopsOf (k .marks) lines) i) ≡ pos (loop .closing-line .number) ∷ map listed (loop .path)
-  listing-begins-with-closing-line i h = ap (map listed) (the.each-loop-is-so b t held lines k passes i h .closing-line-first)
+  pub listing-begins-with-closing-line : (i : ℕ) (h : i < length (loopsOf (k .marks) (book .lines))) → let loop = the.each-loop-is-so book k passes i h in
+      map listed (loopAt (loopsOf (k .marks) (book .lines)) i) ≡ pos (loop .closing-line .number) ∷ map listed (loop .path)
+  listing-begins-with-closing-line i h = ap (map listed) (the.each-loop-is-so book k passes i h .closing-line-first)
 
   -- ---- the lines of all loops
 
-  pub listings-in-first-places : (out : List ℤ) → listingsOf b t held lines out .answer .number ≡ 0
-      → ListedIn (listings (loopsOf (k .marks) lines)) out (listingsOf b t held lines out)
+  pub listings-in-first-places : (out : List ℤ) → listingsOf book out .answer .number ≡ 0
+      → ListedIn (listings (loopsOf (k .marks) (book .lines))) out (listingsOf book out)
   listings-in-first-places out done =
-      rw (listings-keeps-to-table b t held lines out .finished done, ← marks-are) (in-first-places (listings (loopsOf (natAbs b) lines)) out)
+      rw (listings-keeps-to-table book out .finished done, ← marks-are) (in-first-places (listings (loopsOf (natAbs (book .b)) (book .lines))) out)
 
   -- "at most 65,792 entries in all": with so many places the lines of all loops are never refused with 10
-  pub listings-are-few : length (listings (loopsOf (k .marks) lines)) ≤ mostLinesInAll
+  pub listings-are-few : length (listings (loopsOf (k .marks) (book .lines))) ≤ mostLinesInAll
   unfolding loopsOf
   listings-are-few =
-      let good = good-lines k b t held lines (tested-good b t held lines k passes) in
+      let good = good-lines k book (tested-good book k passes) in
       omega (
         arith,
-        listings-length (loops (k .marks) (standing lines)),
-        lines-in-all-at-most (k .marks) (standing lines) (lines-sound k lines good) (omega (arith, few-standing lines, good .whole, good .few)),
+        listings-length (loops (k .marks) (standing (book .lines))),
+        lines-in-all-at-most (k .marks) (standing (book .lines)) (lines-sound k (book .lines) good) (omega (arith, few-standing (book .lines), good .whole, good .few)),
       )
 
   -- "each loop's count is the second number of its row": the lines of loop i stand after as many places as the rows before it count
-  module _ (rows out : List ℤ) (surveyed : surveyOf b t held lines rows .answer .number ≡ 0) (done : listingsOf b t held lines out .answer .number ≡ 0) where
+  module _ (rows out : List ℤ) (surveyed : surveyOf book rows .answer .number ≡ 0) (done : listingsOf book out .answer .number ≡ 0) where
     abbrev ls : List Loop
-    ls = loopsOf (k .marks) lines
+    ls = loopsOf (k .marks) (book .lines)
 
     abbrev report : List ℤ
-    report = surveyOf b t held lines rows .rows
+    report = surveyOf book rows .rows
 
-    count-is : (i : ℕ) → i < length (loopsOf (k .marks) lines) → natAbs (inRow 1 report i) ≡ length (loopAt ls i)
+    count-is : (i : ℕ) → i < length (loopsOf (k .marks) (book .lines)) → natAbs (inRow 1 report i) ≡ length (loopAt ls i)
     count-is i h = ap natAbs (each-row-is-of-its-loop rows surveyed i (omega (arith, survey-counts rows surveyed .0)) .0 .count)
 
-    counts-are : (i : ℕ) → i ≤ length (loopsOf (k .marks) lines) → countsBefore report i ≡ linesInAll (take i ls)
+    counts-are : (i : ℕ) → i ≤ length (loopsOf (k .marks) (book .lines)) → countsBefore report i ≡ linesInAll (take i ls)
     unfolding countsBefore linesInAll
     counts-are zero h = refl
     counts-are (suc i) h = omega (arith, counts-are i (omega arith), count-is i (omega arith), lines-more ls i (omega arith))
 
-    pub listings-go-by-rows : (i : ℕ) → i < surveyOf b t held lines rows .answer .rows
-        → take (natAbs (inRow 1 report i)) (drop (countsBefore report i) (listingsOf b t held lines out .out)) ≡ map listed (loopAt (loopsOf (k .marks) lines) i)
+    pub listings-go-by-rows : (i : ℕ) → i < surveyOf book rows .answer .rows
+        → take (natAbs (inRow 1 report i)) (drop (countsBefore report i) (listingsOf book out .out)) ≡ map listed (loopAt (loopsOf (k .marks) (book .lines)) i)
     listings-go-by-rows i h =
-        let l : i < length (loopsOf (k .marks) lines) = omega (arith, survey-counts rows surveyed .0) in
-        rw (count-is i l, counts-are i (omega arith), listings-keeps-to-table b t held lines out .finished done, marks-are)
+        let l : i < length (loopsOf (k .marks) (book .lines)) = omega (arith, survey-counts rows surveyed .0) in
+        rw (count-is i l, counts-are i (omega arith), listings-keeps-to-table book out .finished done, marks-are)
         (listed-after ls i l (drop (length (listings ls)) out))
 
   -- ---- the not-checked list
 
   -- the list stands in the first places of the output
-  pub not-checked-in-first-places : (out : List ℤ) → notCheckedOf b t held lines out .answer .number ≡ 0
-      → ListedIn (map pos (notChecked (loopsOf (k .marks) lines) (standing lines))) out (notCheckedOf b t held lines out)
+  pub not-checked-in-first-places : (out : List ℤ) → notCheckedOf book out .answer .number ≡ 0
+      → ListedIn (map pos (notChecked (loopsOf (k .marks) (book .lines)) (standing (book .lines)))) out (notCheckedOf book out)
   unfolding uncheckedOf
   not-checked-in-first-places out done =
-      rw (not-checked-keeps-to-table b t held lines out .finished done, ← marks-are) (in-first-places (map pos (notChecked (loopsOf (natAbs b) lines) (standing lines))) out)
+      rw (not-checked-keeps-to-table book out .finished done, ← marks-are) (in-first-places (map pos (notChecked (loopsOf (natAbs (book .b)) (book .lines)) (standing (book .lines)))) out)
 
   -- a number is in them exactly if it is that of a standing line through which no circuit passes
-  pub listed-exactly-if-no-circuit : (out : List ℤ) → notCheckedOf b t held lines out .answer .number ≡ 0 → (n : ℕ)
-      → List·Memᴰ (pos n) (take (notCheckedOf b t held lines out .answer .entries) (notCheckedOf b t held lines out .out))
-      ↔ ((l : Line) × List·Memᴰ l (standing lines) × (n ≡ l .number) × (Circuit (standing lines) n → ⊥))
+  pub listed-exactly-if-no-circuit : (out : List ℤ) → notCheckedOf book out .answer .number ≡ 0 → (n : ℕ)
+      → List·Memᴰ (pos n) (take (notCheckedOf book out .answer .entries) (notCheckedOf book out .out))
+      ↔ ((l : Line) × List·Memᴰ l (standing (book .lines)) × (n ≡ l .number) × (Circuit (standing (book .lines)) n → ⊥))
   listed-exactly-if-no-circuit out done n =
       let w = not-checked-in-first-places out done in
-      let means = the.not-checked-exactly-if-no-circuit b t held lines k passes n in
+      let means = the.not-checked-exactly-if-no-circuit book k passes n in
       rw (w .entries, w .first-places) (
-        λ i. let m = Memᴰ·of-map pos (notChecked (loopsOf (k .marks) lines) (standing lines)) i in means .0 (subst (λ (x : ℕ). List·Memᴰ x (notChecked (loopsOf (k .marks) lines) (standing lines))) (ap natAbs (m .2)) (m .1)),
+        λ i. let m = Memᴰ·of-map pos (notChecked (loopsOf (k .marks) (book .lines)) (standing (book .lines))) i in means .0 (subst (λ (x : ℕ). List·Memᴰ x (notChecked (loopsOf (k .marks) (book .lines)) (standing (book .lines)))) (ap natAbs (m .2)) (m .1)),
         λ p. Memᴰ·map pos (means .1 p),
       )

@@ -6,6 +6,7 @@ use Prim.Native.Nat.{ℕ, zero, suc, _-_, _<_, _≤_}
 use native.Mathlib.Omega.{arith}
 use lib.ListN.{length}
 use lib.IntN.{ℤ, pos, natAbs, _+ℤ_, _-ℤ_, _*ℤ_}
+use Rattle.book.specs.Lent.{Lent}
 use Rattle.book.specs.Line.{differenceAt}
 use Rattle.book.specs.Test.{testOf}
 use Rattle.book.specs.declared.Book.{Book}
@@ -86,69 +87,69 @@ others-stand t n withdrawn.none-left = none-left
 others-stand t n (withdrawn.goes e w) = gone e (others-stand t n w)
 others-stand t n (withdrawn.stays d e f w) = stays e (λ h. same-loop t (f h)) (others-stand t n w)
 
-module _ (b t : ℤ) (held lines report : List ℤ) where
-  sound-book : (k : Book) → testOf b t held lines ≡ Good k → Sound (natAbs b) (standing lines)
-  sound-book k e = let good = tested-good b t held lines k e in rw (ap natAbs (good .marks)) (good-sound k b t held lines good)
+module _ (book : Lent) (report : List ℤ) where
+  sound-book : (k : Book) → testOf book ≡ Good k → Sound (natAbs (book .b)) (standing (book .lines))
+  sound-book k e = let good = tested-good book k e in rw (ap natAbs (good .marks)) (good-sound k book good)
 
   -- a loop runs standing lines
-  run-stands : (k : Book) → testOf b t held lines ≡ Good k → (i : ℕ) → i < length (loopsOf (natAbs b) lines) → (p : Pass)
-      → List·Memᴰ p (loopAt (loopsOf (natAbs b) lines) i) → List·Memᴰ (p .line) (standing lines)
+  run-stands : (k : Book) → testOf book ≡ Good k → (i : ℕ) → i < length (loopsOf (natAbs (book .b)) (book .lines)) → (p : Pass)
+      → List·Memᴰ p (loopAt (loopsOf (natAbs (book .b)) (book .lines)) i) → List·Memᴰ (p .line) (standing (book .lines))
   unfolding loopsOf
-  run-stands k e i h p m = pass-line (all-closed (natAbs b) (standing lines) (sound-book k e) (loopAt (loopsOf (natAbs b) lines) i) (loop-at-is (loopsOf (natAbs b) lines) i h) .1) p m
+  run-stands k e i h p m = pass-line (all-closed (natAbs (book .b)) (standing (book .lines)) (sound-book k e) (loopAt (loopsOf (natAbs (book .b)) (book .lines)) i) (loop-at-is (loopsOf (natAbs (book .b)) (book .lines)) i h) .1) p m
 
   -- a line is re-run: what still stands
-  pub rerun-what-still-stands : (number difference : ℤ) → rerunOf b t held lines report number difference .answer .number ≡ 0
-      → AfterRerun (natAbs b) (natAbs t) (natAbs number) lines (rerunOf b t held lines report number difference .lines)
+  pub rerun-what-still-stands : (number difference : ℤ) → rerunOf book report number difference .answer .number ≡ 0
+      → AfterRerun (natAbs (book .b)) (natAbs (book .t)) (natAbs number) (book .lines) (rerunOf book report number difference .lines)
   rerun-what-still-stands number difference z =
-      let a = rerun-done-exactly-if b t held lines report number difference .0 z .1 in
-      rw (rerun-keeps-to-table b t held lines report number difference .finished z, ap natAbs (a .stands .its-number))
-      (after-rerun lines number (a .line) (a .stands) (natAbs b) (natAbs t) difference)
+      let a = rerun-done-exactly-if book report number difference .0 z .1 in
+      rw (rerun-keeps-to-table book report number difference .finished z, ap natAbs (a .stands .its-number))
+      (after-rerun (book .lines) number (a .line) (a .stands) (natAbs (book .b)) (natAbs (book .t)) difference)
 
   -- the misclosure of a loop moves by the change of the difference, as often as the loop runs the line and in its sense
-  pub rerun-moves-misclosures : (number difference : ℤ) → rerunOf b t held lines report number difference .answer .number ≡ 0
-      → (i : ℕ) → i < length (loopsOf (natAbs b) lines) → let before = loopAt (loopsOf (natAbs b) lines) i in
-      misclosure (loopAt (loopsOf (natAbs b) (rerunOf b t held lines report number difference .lines)) i)
-      ≡ misclosure before +ℤ (difference -ℤ differenceAt lines (natAbs number - 1)) *ℤ passes before (natAbs number)
+  pub rerun-moves-misclosures : (number difference : ℤ) → rerunOf book report number difference .answer .number ≡ 0
+      → (i : ℕ) → i < length (loopsOf (natAbs (book .b)) (book .lines)) → let before = loopAt (loopsOf (natAbs (book .b)) (book .lines)) i in
+      misclosure (loopAt (loopsOf (natAbs (book .b)) (rerunOf book report number difference .lines)) i)
+      ≡ misclosure before +ℤ (difference -ℤ differenceAt (book .lines) (natAbs number - 1)) *ℤ passes before (natAbs number)
   rerun-moves-misclosures number difference z i h =
-      let a = rerun-done-exactly-if b t held lines report number difference .0 z .1 in
+      let a = rerun-done-exactly-if book report number difference .0 z .1 in
       let same : natAbs number ≡ suc (a .line) = ap natAbs (a .stands .its-number) in
       let at : suc (a .line) - 1 ≡ a .line = omega arith in
-      rw (rerun-keeps-to-table b t held lines report number difference .finished z, same, at, rerun-loops lines number (a .line) (a .stands) (natAbs b) difference, loop-at-map (map (redonePass (suc (a .line)) difference)) refl (loopsOf (natAbs b) lines) i)
-      (rerun-moves-misclosure (suc (a .line)) difference (lineAt (suc (a .line)) lines (a .line)) (loopAt (loopsOf (natAbs b) lines) i) (λ p m e. own a p (run-stands (a .book) (a .passes) i h p m) e))
+      rw (rerun-keeps-to-table book report number difference .finished z, same, at, rerun-loops (book .lines) number (a .line) (a .stands) (natAbs (book .b)) difference, loop-at-map (map (redonePass (suc (a .line)) difference)) refl (loopsOf (natAbs (book .b)) (book .lines)) i)
+      (rerun-moves-misclosure (suc (a .line)) difference (lineAt (suc (a .line)) (book .lines) (a .line)) (loopAt (loopsOf (natAbs (book .b)) (book .lines)) i) (λ p m e. own a p (run-stands (a .counts) (a .passes) i h p m) e))
     where
-      own : (a : Acceptable b t held lines report number) (p : Pass) → List·Memᴰ (p .line) (standing lines) → p .line .number ≡ suc (a .line) → p .line ≡ lineAt (suc (a .line)) lines (a .line)
+      own : (a : Acceptable book report number) (p : Pass) → List·Memᴰ (p .line) (standing (book .lines)) → p .line .number ≡ suc (a .line) → p .line ≡ lineAt (suc (a .line)) (book .lines) (a .line)
       own a p m e =
-          unique (standing lines) (sound-book (a .book) (a .passes) .rising) (p .line) (lineAt (suc (a .line)) lines (a .line)) m
-          (its-line (a .book) lines (good-lines (a .book) b t held lines (tested-good b t held lines (a .book) (a .passes))) number (a .line) (a .stands)) e
+          unique (standing (book .lines)) (sound-book (a .counts) (a .passes) .rising) (p .line) (lineAt (suc (a .line)) (book .lines) (a .line)) m
+          (its-line (a .counts) (book .lines) (good-lines (a .counts) book (tested-good book (a .counts) (a .passes))) number (a .line) (a .stands)) e
 
   -- a closing line is withdrawn: what still stands
-  pub withdrawal-what-still-stands : (c : Line) → List·Memᴰ c (closingLinesOf (natAbs b) lines)
-      → withdrawOf b t held lines report (pos (c .number)) .answer .number ≡ 0
-      → AfterClosingLine (natAbs b) (natAbs t) (c .number) lines (withdrawOf b t held lines report (pos (c .number)) .lines)
+  pub withdrawal-what-still-stands : (c : Line) → List·Memᴰ c (closingLinesOf (natAbs (book .b)) (book .lines))
+      → withdrawOf book report (pos (c .number)) .answer .number ≡ 0
+      → AfterClosingLine (natAbs (book .b)) (natAbs (book .t)) (c .number) (book .lines) (withdrawOf book report (pos (c .number)) .lines)
   unfolding loopsOf piecesOf
   withdrawal-what-still-stands c closes z =
-      let a = withdrawal-done-exactly-if b t held lines report (pos (c .number)) .0 z in
-      let sound = sound-book (a .book) (a .passes) in
+      let a = withdrawal-done-exactly-if book report (pos (c .number)) .0 z in
+      let sound = sound-book (a .counts) (a .passes) in
       let same : c .number ≡ suc (a .line) = ap natAbs (a .stands .its-number) in
-      let now : standing (withdrawLines lines (pos (c .number))) ≡ without (c .number) (standing lines) =
-      withdrawal-is-without lines (pos (c .number)) (a .line) (a .stands) ∙ ap (λ (n : ℕ). without n (standing lines)) (sym same) in
-      rw (withdrawal-keeps-to-table b t held lines report (pos (c .number)) .finished z) (record {
-        tree-kept = rw now (withdrawal-keeps-tree (natAbs b) (standing lines) sound c closes);
-        pieces-kept = rw now (ap pieces (withdrawal-keeps-tree (natAbs b) (standing lines) sound c closes));
-        one-loop-goes = rw now (one-loop-goes (natAbs b) (standing lines) sound c closes);
-        other-loops = rw now (others-stand (natAbs t) (c .number) (withdrawal-keeps-loops (natAbs b) (standing lines) sound c closes));
+      let now : standing (withdrawLines (book .lines) (pos (c .number))) ≡ without (c .number) (standing (book .lines)) =
+      withdrawal-is-without (book .lines) (pos (c .number)) (a .line) (a .stands) ∙ ap (λ (n : ℕ). without n (standing (book .lines))) (sym same) in
+      rw (withdrawal-keeps-to-table book report (pos (c .number)) .finished z) (record {
+        tree-kept = rw now (withdrawal-keeps-tree (natAbs (book .b)) (standing (book .lines)) sound c closes);
+        pieces-kept = rw now (ap pieces (withdrawal-keeps-tree (natAbs (book .b)) (standing (book .lines)) sound c closes));
+        one-loop-goes = rw now (one-loop-goes (natAbs (book .b)) (standing (book .lines)) sound c closes);
+        other-loops = rw now (others-stand (natAbs (book .t)) (c .number) (withdrawal-keeps-loops (natAbs (book .b)) (standing (book .lines)) sound c closes));
       })
 
   -- any line is withdrawn: the rows are as many, or one fewer
-  pub withdrawal-rows : (number : ℤ) → withdrawOf b t held lines report number .answer .number ≡ 0
-      → (length (loopsOf (natAbs b) (withdrawOf b t held lines report number .lines)) ≤ length (loopsOf (natAbs b) lines))
-      × (length (loopsOf (natAbs b) lines) ≤ suc (length (loopsOf (natAbs b) (withdrawOf b t held lines report number .lines))))
+  pub withdrawal-rows : (number : ℤ) → withdrawOf book report number .answer .number ≡ 0
+      → (length (loopsOf (natAbs (book .b)) (withdrawOf book report number .lines)) ≤ length (loopsOf (natAbs (book .b)) (book .lines)))
+      × (length (loopsOf (natAbs (book .b)) (book .lines)) ≤ suc (length (loopsOf (natAbs (book .b)) (withdrawOf book report number .lines))))
   unfolding loopsOf
   withdrawal-rows number z =
-      let a = withdrawal-done-exactly-if b t held lines report number .0 z in
-      let good = tested-good b t held lines (a .book) (a .passes) in
-      let line = lineAt (suc (a .line)) lines (a .line) in
-      let stands = its-line (a .book) lines (good-lines (a .book) b t held lines good) number (a .line) (a .stands) in
-      let sound = good-sound (a .book) b t held lines good in
-      rw (withdrawal-keeps-to-table b t held lines report number .finished z, withdrawal-is-without lines number (a .line) (a .stands), ap natAbs (good .marks))
-      (loops-never-grow (a .book .marks) (standing lines) sound line stands, at-most-one-loop-fewer (a .book .marks) (standing lines) sound line stands)
+      let a = withdrawal-done-exactly-if book report number .0 z in
+      let good = tested-good book (a .counts) (a .passes) in
+      let line = lineAt (suc (a .line)) (book .lines) (a .line) in
+      let stands = its-line (a .counts) (book .lines) (good-lines (a .counts) book good) number (a .line) (a .stands) in
+      let sound = good-sound (a .counts) book good in
+      rw (withdrawal-keeps-to-table book report number .finished z, withdrawal-is-without (book .lines) number (a .line) (a .stands), ap natAbs (good .marks))
+      (loops-never-grow (a .counts .marks) (standing (book .lines)) sound line stands, at-most-one-loop-fewer (a .counts .marks) (standing (book .lines)) sound line stands)

@@ -5,15 +5,15 @@ use mathlib.Core.List.{List, _++_}
 use Prim.Native.Nat.{ℕ, _*_, _≤_}
 use lib.ListN.{length, drop}
 use lib.IntN.{ℤ, pos, natAbs}
+use Rattle.book.specs.Lent.{Lent, withLines}
 use Rattle.book.specs.Limits.{mostDifference}
 use Rattle.book.specs.Held.{heldWords}
 use Rattle.book.specs.Line.{lineWords}
-use Rattle.book.specs.Test.{counts}
 use Rattle.book.specs.Good.{GoodBook}
 use Rattle.file.specs.Read as read
-use Rattle.file.specs.Read.{Outcome, answered, done, statedLength, statedVersion, fileLength, statedT, statedB, statedH, statedN, heldOf, linesOf}
+use Rattle.file.specs.Read.{Outcome, answered, done, statedLength, statedVersion, fileLength, statedH, statedN, statedCounts, heldOf, linesOf, bookIn}
 use Rattle.loops.specs.Row.{listings}
-use Rattle.loops.specs.Report.{loopsOf, reportOf}
+use Rattle.loops.specs.Report.{loopsOf}
 use Rattle.survey.specs.Report.{refusal, counted}
 use Rattle.survey.specs.Survey.{Surveyed, surveyed, surveyOf}
 use Rattle.lists.specs.Listing.{Listing, listing, unlisted, listingOf, listingsOf}
@@ -23,20 +23,17 @@ use Rattle.rates.specs.Rates.{refusedRate, rateAnswer}
 use Rattle.adjust.specs.Answers.{answer}
 use Rattle.adjust.specs.Call.{adjusted, adjustOf}
 use Rattle.demands.specs.Rules.{Rule, KeepsToTable}
+pub use Rattle.demands.specs.Tables.{afresh}
 use Rattle.demands.specs.Tables.{surveyRules, loopListing, listingRules, listingsRules, notCheckedRules, rerunRules, withdrawRules, fileRules}
 
--- the report of a book, worked out afresh
-abbrev pub afresh : ℤ → ℤ → List ℤ → List ℤ
-afresh b t lines = reportOf (natAbs b) (natAbs t) lines
-
 -- the survey: rows and pieces of the book, and its report in the first places of the output
-abbrev pub surveyDone : ℤ → ℤ → List ℤ → List ℤ → Surveyed
-surveyDone b t lines out = surveyed (counted (natAbs b) lines) (afresh b t lines ++ drop (length (afresh b t lines)) out)
+abbrev pub surveyDone : Lent → List ℤ → Surveyed
+surveyDone book out = surveyed (counted (natAbs (book .b)) (book .lines)) (afresh book ++ drop (length (afresh book)) out)
 
-abbrev pub SurveyKeepsToTable : ℤ → ℤ → List ℤ → List ℤ → List ℤ → Surveyed → Type 0
-SurveyKeepsToTable b t held lines out given =
-    KeepsToTable (λ (s : Surveyed). s .answer .number) (λ (s : Surveyed). s .answer .place) (surveyRules b t held lines out)
-    (λ n p. surveyed (refusal n p) out) (surveyDone b t lines out) given
+abbrev pub SurveyKeepsToTable : Lent → List ℤ → Surveyed → Type 0
+SurveyKeepsToTable book out given =
+    KeepsToTable (λ (s : Surveyed). s .answer .number) (λ (s : Surveyed). s .answer .place) (surveyRules book out)
+    (λ n p. surveyed (refusal n p) out) (surveyDone book out) given
 
 -- a list and its count of entries, in the first places of the output
 abbrev pub listDone : List ℤ → List ℤ → Listing
@@ -47,33 +44,34 @@ ListKeepsToTable rules list out given =
     KeepsToTable (λ (l : Listing). l .answer .number) (λ (l : Listing). l .answer .place) rules (λ n p. listing (unlisted n p) out) (listDone list out) given
 
 -- the listing: lines and sense of the loop of that number
-abbrev pub ListingKeepsToTable : ℤ → ℤ → List ℤ → List ℤ → ℤ → List ℤ → Listing → Type 0
-ListingKeepsToTable b t held lines number out given = ListKeepsToTable (listingRules b t held lines number out) (loopListing (natAbs b) lines number) out given
+abbrev pub ListingKeepsToTable : Lent → ℤ → List ℤ → Listing → Type 0
+ListingKeepsToTable book number out given = ListKeepsToTable (listingRules book number out) (loopListing book number) out given
 
 -- the lines of all loops, one loop after the other
-abbrev pub ListingsKeepsToTable : ℤ → ℤ → List ℤ → List ℤ → List ℤ → Listing → Type 0
-ListingsKeepsToTable b t held lines out given = ListKeepsToTable (listingsRules b t held lines out) (listings (loopsOf (natAbs b) lines)) out given
+abbrev pub ListingsKeepsToTable : Lent → List ℤ → Listing → Type 0
+ListingsKeepsToTable book out given =
+    ListKeepsToTable (listingsRules book out) (listings (loopsOf (natAbs (book .b)) (book .lines))) out given
 
 -- the not-checked list
-abbrev pub NotCheckedKeepsToTable : ℤ → ℤ → List ℤ → List ℤ → List ℤ → Listing → Type 0
-NotCheckedKeepsToTable b t held lines out given = ListKeepsToTable (notCheckedRules b t held lines out) (uncheckedOf (natAbs b) lines) out given
+abbrev pub NotCheckedKeepsToTable : Lent → List ℤ → Listing → Type 0
+NotCheckedKeepsToTable book out given = ListKeepsToTable (notCheckedRules book out) (uncheckedOf (natAbs (book .b)) (book .lines)) out given
 
 -- a correction that makes the book's lines new: rows and pieces of the book as it then stands, its lines, and its kept report brought up to date
-abbrev pub correctionDone : ℤ → ℤ → List ℤ → List ℤ → List ℤ → Corrected
-correctionDone b t lines report new = corrected (counted (natAbs b) new) new (updated report (afresh b t lines) (afresh b t new))
+abbrev pub correctionDone : Lent → List ℤ → List ℤ → Corrected
+correctionDone book report new = corrected (counted (natAbs (book .b)) new) new (updated report (afresh book) (afresh (withLines book new)))
 
-abbrev pub CorrectionKeepsToTable : List Rule → ℤ → ℤ → List ℤ → List ℤ → List ℤ → Corrected → Type 0
-CorrectionKeepsToTable rules b t lines report new given =
-    KeepsToTable (λ (c : Corrected). c .answer .number) (λ (c : Corrected). c .answer .place) rules (λ n p. corrected (refusal n p) lines report)
-    (correctionDone b t lines report new) given
+abbrev pub CorrectionKeepsToTable : List Rule → Lent → List ℤ → List ℤ → Corrected → Type 0
+CorrectionKeepsToTable rules book report new given =
+    KeepsToTable (λ (c : Corrected). c .answer .number) (λ (c : Corrected). c .answer .place) rules (λ n p. corrected (refusal n p) (book .lines) report)
+    (correctionDone book report new) given
 
-abbrev pub RerunKeepsToTable : ℤ → ℤ → List ℤ → List ℤ → List ℤ → ℤ → ℤ → Corrected → Type 0
-RerunKeepsToTable b t held lines report number difference given =
-    CorrectionKeepsToTable (rerunRules b t held lines report number difference) b t lines report (rerunLines lines number difference) given
+abbrev pub RerunKeepsToTable : Lent → List ℤ → ℤ → ℤ → Corrected → Type 0
+RerunKeepsToTable book report number difference given =
+    CorrectionKeepsToTable (rerunRules book report number difference) book report (rerunLines (book .lines) number difference) given
 
-abbrev pub WithdrawalKeepsToTable : ℤ → ℤ → List ℤ → List ℤ → List ℤ → ℤ → Corrected → Type 0
-WithdrawalKeepsToTable b t held lines report number given =
-    CorrectionKeepsToTable (withdrawRules b t held lines report number) b t lines report (withdrawLines lines number) given
+abbrev pub WithdrawalKeepsToTable : Lent → List ℤ → ℤ → Corrected → Type 0
+WithdrawalKeepsToTable book report number given =
+    CorrectionKeepsToTable (withdrawRules book report number) book report (withdrawLines (book .lines) number) given
 
 -- the reader: b, t, h and n as the file states them, its entries in the first places of the two buffers
 abbrev pub readDone : List ℕ → List ℤ → List ℤ → Outcome
@@ -81,7 +79,7 @@ readDone file held lines =
     let h = statedH file in
     let n = statedN file in
     record {
-      answer = done (counts (pos (statedB file)) (pos (statedT file)) h n);
+      answer = done (statedCounts file);
       held = heldOf file h ++ drop (h * heldWords) held;
       lines = linesOf file h n ++ drop (n * lineWords) lines;
     }
@@ -93,16 +91,16 @@ ReaderKeepsToTable file held lines given =
 
 -- "Each call tests all that it is lent": a faulty book gets the same refusal from every call, and nothing is changed (a re-run is refused with 4
 -- already where its new difference is outside the limit, and a rate where its heights are not b in number)
-pub record SameAtEveryCall (b t : ℤ) (held lines : List ℤ) (number place : ℕ) : Type 0 where
-  pub survey : (out : List ℤ) → surveyOf b t held lines out ≡ surveyed (refusal number place) out
-  pub listing-of : (loop : ℤ) (out : List ℤ) → listingOf b t held lines loop out ≡ listing (unlisted number place) out
-  pub listings-of : (out : List ℤ) → listingsOf b t held lines out ≡ listing (unlisted number place) out
-  pub not-checked : (out : List ℤ) → notCheckedOf b t held lines out ≡ listing (unlisted number place) out
-  pub withdrawal : (report : List ℤ) (line : ℤ) → withdrawOf b t held lines report line ≡ corrected (refusal number place) lines report
+pub record SameAtEveryCall (book : Lent) (number place : ℕ) : Type 0 where
+  pub survey : (out : List ℤ) → surveyOf book out ≡ surveyed (refusal number place) out
+  pub listing-of : (loop : ℤ) (out : List ℤ) → listingOf book loop out ≡ listing (unlisted number place) out
+  pub listings-of : (out : List ℤ) → listingsOf book out ≡ listing (unlisted number place) out
+  pub not-checked : (out : List ℤ) → notCheckedOf book out ≡ listing (unlisted number place) out
+  pub withdrawal : (report : List ℤ) (line : ℤ) → withdrawOf book report line ≡ corrected (refusal number place) (book .lines) report
   pub re-run : (report : List ℤ) (line difference : ℤ) → natAbs difference ≤ mostDifference
-      → rerunOf b t held lines report line difference ≡ corrected (refusal number place) lines report
-  pub adjustment : (out : List ℤ) → adjustOf b t held lines out ≡ adjusted (answer number place 0) out
-  pub rate : (heights : List ℤ) (line : ℤ) → pos (length heights) ≡ b → rateAnswer b t held lines heights line ≡ refusedRate number place
+      → rerunOf book report line difference ≡ corrected (refusal number place) (book .lines) report
+  pub adjustment : (out : List ℤ) → adjustOf book out ≡ adjusted (answer number place 0) out
+  pub rate : (heights : List ℤ) (line : ℤ) → pos (length heights) ≡ book .b → rateAnswer book heights line ≡ refusedRate number place
 
 -- a file that is read: it has 13 bytes or more, its stated length, version 1, a good book of the stated counts and nothing more, and there is room for its entries
 pub record Readable (file : List ℕ) (held lines : List ℤ) : Type 0 where
@@ -110,7 +108,6 @@ pub record Readable (file : List ℕ) (held lines : List ℤ) : Type 0 where
   pub its-length : statedLength file ≡ length file
   pub version-one : statedVersion file ≡ 1
   pub whole : length file ≡ fileLength (statedH file) (statedN file)
-  pub good : GoodBook (counts (pos (statedB file)) (pos (statedT file)) (statedH file) (statedN file)) (pos (statedB file)) (pos (statedT file))
-      (heldOf file (statedH file)) (linesOf file (statedH file) (statedN file))
+  pub good : GoodBook (statedCounts file) (bookIn file (statedCounts file))
   pub room-for-held : statedH file * heldWords ≤ length held
   pub room-for-lines : statedN file * lineWords ≤ length lines

@@ -5,6 +5,7 @@ use mathlib.Core.List.{List, [], _∷_, _++_}
 use Prim.Native.Nat.{ℕ, _-_, _≤_}
 use lib.IntN.{ℤ, pos, natAbs}
 use lib.ListN.{length, getD, drop, replicate}
+use Rattle.book.specs.Lent.{Lent, withLines}
 use Rattle.book.specs.Test.{testOf}
 use Rattle.book.specs.declared.Book.{Book}
 use Rattle.book.specs.declared.Tested.the-variants.{Good}
@@ -15,12 +16,12 @@ pub use Rattle.survey.specs.Stands.{Stands}
 use Rattle.demands.specs.Calls.{afresh}
 
 -- a correction of the line of this number is acceptable: the lent book passes the test, the line stands, and the lent report begins with the book's rows
-pub record Acceptable (b t : ℤ) (held lines report : List ℤ) (number : ℤ) : Type 0 where
-  pub book : Book
-  pub passes : testOf b t held lines ≡ Good book
+pub record Acceptable (book : Lent) (report : List ℤ) (number : ℤ) : Type 0 where
+  pub counts : Book
+  pub passes : testOf book ≡ Good counts
   pub line : ℕ
-  pub stands : Stands lines number line
-  pub its-report : report ≡ afresh b t lines ++ drop (length (afresh b t lines)) report
+  pub stands : Stands (book .lines) number line
+  pub its-report : report ≡ afresh book ++ drop (length (afresh book)) report
 
 -- the number at place p is now v, and nothing else has changed
 pub record OnlyChange (before after : List ℤ) (p : ℕ) (v : ℤ) : Type 0 where
@@ -34,32 +35,37 @@ pub data Step : Type 0 where
   withdraw : ℤ → Step
 
 -- what a correction of the book answers, and its lines and report after it
-abbrev pub correct : ℤ → ℤ → List ℤ → List ℤ → List ℤ → Step → Corrected
-correct b t held lines report (rerun line difference) = rerunOf b t held lines report line difference
-correct b t held lines report (withdraw line) = withdrawOf b t held lines report line
+abbrev pub correct : Lent → List ℤ → Step → Corrected
+correct book report (rerun line difference) = rerunOf book report line difference
+correct book report (withdraw line) = withdrawOf book report line
 
--- corrections one after the other, each accepted (its number is 0) and made from the lines and the report that the one before left; the last leaves lines′ and report′
-pub data Accepted (b t : ℤ) (held : List ℤ) : List ℤ → List ℤ → List Step → List ℤ → List ℤ → Type 0 where
-  no-more : {lines report : List ℤ} → Accepted b t held lines report [] lines report
-  accepted : {lines report lines′ report′ : List ℤ} {s : Step} {steps : List Step} → correct b t held lines report s .answer .number ≡ 0
-      → Accepted b t held (correct b t held lines report s .lines) (correct b t held lines report s .report) steps lines′ report′
-      → Accepted b t held lines report (s ∷ steps) lines′ report′
+-- the book as a correction leaves it
+abbrev pub correctedBook : Lent → List ℤ → Step → Lent
+correctedBook book report s = withLines book (correct book report s .lines)
 
--- lines and report after corrections one after the other, accepted or refused
-unfoldable pub linesAfter : ℤ → ℤ → List ℤ → List ℤ → List ℤ → List Step → List ℤ
-linesAfter b t held lines report [] = lines
-linesAfter b t held lines report (s ∷ steps) = linesAfter b t held (correct b t held lines report s .lines) (correct b t held lines report s .report) steps
+-- corrections one after the other, each accepted (its number is 0) and made from the book and the report that the one before left; the last leaves book′ and report′
+pub data Accepted : Lent → List ℤ → List Step → Lent → List ℤ → Type 0 where
+  no-more : {book : Lent} {report : List ℤ} → Accepted book report [] book report
+  accepted : {book book′ : Lent} {report report′ : List ℤ} {s : Step} {steps : List Step} → correct book report s .answer .number ≡ 0
+      → Accepted (correctedBook book report s) (correct book report s .report) steps book′ report′
+      → Accepted book report (s ∷ steps) book′ report′
 
-unfoldable pub reportAfter : ℤ → ℤ → List ℤ → List ℤ → List ℤ → List Step → List ℤ
-reportAfter b t held lines report [] = report
-reportAfter b t held lines report (s ∷ steps) = reportAfter b t held (correct b t held lines report s .lines) (correct b t held lines report s .report) steps
+-- book and report after corrections one after the other, accepted or refused
+unfoldable pub bookAfter : Lent → List ℤ → List Step → Lent
+bookAfter book report [] = book
+bookAfter book report (s ∷ steps) = bookAfter (correctedBook book report s) (correct book report s .report) steps
 
--- the kept report is true after corrections that made `lines` into lines′, where `out` was lent to the first survey: it begins with the report of the corrected book
+unfoldable pub reportAfter : Lent → List ℤ → List Step → List ℤ
+reportAfter book report [] = report
+reportAfter book report (s ∷ steps) = reportAfter (correctedBook book report s) (correct book report s .report) steps
+
+-- the kept report is true after corrections that made `book` into book′, where `out` was lent to the first survey: it begins with the report of the corrected book
 -- worked out afresh, then come zeros in the vacated rows, and all places past the first survey's rows are as they were; so 9 cannot refuse the next correction, and
 -- a survey of the corrected book into it changes nothing
-pub record KeptTrue (b t : ℤ) (held lines out lines′ report′ : List ℤ) : Type 0 where
-  pub still-good : testOf b t held lines′ ≡ testOf b t held lines
-  pub no-more-rows : length (afresh b t lines′) ≤ length (afresh b t lines)
-  pub report-is : report′ ≡ afresh b t lines′ ++ replicate (length (afresh b t lines) - length (afresh b t lines′)) (pos 0) ++ drop (length (afresh b t lines)) out
-  pub its-report-still : report′ ≡ afresh b t lines′ ++ drop (length (afresh b t lines′)) report′
-  pub surveyed-again : surveyOf b t held lines′ report′ ≡ surveyed (counted (natAbs b) lines′) report′
+pub record KeptTrue (book : Lent) (out : List ℤ) (book′ : Lent) (report′ : List ℤ) : Type 0 where
+  pub still-good : testOf book′ ≡ testOf book
+  pub no-more-rows : length (afresh book′) ≤ length (afresh book)
+  pub report-is :
+      report′ ≡ afresh book′ ++ replicate (length (afresh book) - length (afresh book′)) (pos 0) ++ drop (length (afresh book)) out
+  pub its-report-still : report′ ≡ afresh book′ ++ drop (length (afresh book′)) report′
+  pub surveyed-again : surveyOf book′ report′ ≡ surveyed (counted (natAbs (book′ .b)) (book′ .lines)) report′

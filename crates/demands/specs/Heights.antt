@@ -10,6 +10,7 @@ use lib.Ieee.{binary64, inSigned, toSigned, ofInt}
 use lib.ListN.{length, take, drop}
 use lib.IntN.{ℤ, pos, natAbs, _+ℤ_}
 use Rattle.laws.specs.Tests.{outZ, eqZ}
+use Rattle.book.specs.Lent.{Lent}
 use Rattle.book.specs.Line.{lineCount}
 use Rattle.network.specs.Standing.{Line, standing}
 use Rattle.network.specs.Walk.{Pass, Walk}
@@ -67,53 +68,56 @@ heightsOf (Settled.outside m) = []
 heightsOf unsettled = []
 
 -- 10, 11, then 12 or 13: the sweeps end in one way, and so "by whichever comes first"
-abbrev pub sweepRules : ℤ → List ℤ → List ℤ → List ℤ → List Rule
-sweepRules b held lines out =
-    rule 10 (ltb (length out) (natAbs b)) 0
-    ∷ rule 11 (ltb 0 (unheldMark (natAbs b) held lines)) (unheldMark (natAbs b) held lines)
-    ∷ rule 12 (stillMoves (sweepsOf (natAbs b) held lines)) 0
-    ∷ rule 13 (wentOutside (sweepsOf (natAbs b) held lines)) (outsideMark (sweepsOf (natAbs b) held lines)) ∷ []
+abbrev pub sweepRules : Lent → List ℤ → List Rule
+sweepRules book out =
+    let unheld = unheldMark (natAbs (book .b)) (book .held) (book .lines) in
+    let sweeps = sweepsOf (natAbs (book .b)) (book .held) (book .lines) in
+    rule 10 (ltb (length out) (natAbs (book .b))) 0
+    ∷ rule 11 (ltb 0 unheld) unheld
+    ∷ rule 12 (stillMoves sweeps) 0
+    ∷ rule 13 (wentOutside sweeps) (outsideMark sweeps) ∷ []
 
-unfoldable pub adjustRules : ℤ → ℤ → List ℤ → List ℤ → List ℤ → List Rule
+unfoldable pub adjustRules : Lent → List ℤ → List Rule
 unfolding sweepsOf unheldMark
-adjustRules b t held lines out = bookRules b t held lines (sweepRules b held lines out)
+adjustRules book out = bookRules book (sweepRules book out)
 
 -- the settled heights in the first places of the output
 abbrev pub adjustDone : Settled → List ℤ → Given
 adjustDone s out = adjusted (answer 0 0 (countOf s)) (heightsOf s ++ drop (length (heightsOf s)) out)
 
-abbrev pub AdjustmentKeepsToTable : ℤ → ℤ → List ℤ → List ℤ → List ℤ → Given → Type 0
-AdjustmentKeepsToTable b t held lines out given =
-    KeepsToTable (λ (g : Given). g .answer .number) (λ (g : Given). g .answer .place) (adjustRules b t held lines out)
-    (λ n p. adjusted (answer n p 0) out) (adjustDone (sweepsOf (natAbs b) held lines) out) given
+abbrev pub AdjustmentKeepsToTable : Lent → List ℤ → Given → Type 0
+AdjustmentKeepsToTable book out given =
+    KeepsToTable (λ (g : Given). g .answer .number) (λ (g : Given). g .answer .place) (adjustRules book out)
+    (λ n p. adjusted (answer n p 0) out) (adjustDone (sweepsOf (natAbs (book .b)) (book .held) (book .lines)) out) given
 
 -- the heights of the marks, as an adjustment left them
-abbrev pub marksHeights : ℤ → Given → List ℤ
-marksHeights b given = take (natAbs b) (given .heights)
+abbrev pub marksHeights : Lent → Given → List ℤ
+marksHeights book given = take (natAbs (book .b)) (given .heights)
 
 -- ---- the correction rate
 
 -- 8: "no such line"; 13: "a height .. lent, outside its limit", "of lent ones the lowest"
-abbrev pub heightRules : List ℤ → List ℤ → ℤ → List Rule
-heightRules lines heights line = rule 8 (outZ (pos 1) (pos (lineCount lines)) line) 0 ∷ rule 13 (ltb 0 (firstHigh heights)) (firstHigh heights) ∷ []
+abbrev pub heightRules : Lent → List ℤ → ℤ → List Rule
+heightRules book heights line =
+    rule 8 (outZ (pos 1) (pos (lineCount (book .lines))) line) 0 ∷ rule 13 (ltb 0 (firstHigh heights)) (firstHigh heights) ∷ []
 
 -- 4 is also "heights lent to be read not b in number"
-unfoldable pub rateRules : ℤ → ℤ → List ℤ → List ℤ → List ℤ → ℤ → List Rule
+unfoldable pub rateRules : Lent → List ℤ → ℤ → List Rule
 unfolding eqZ bookFault outZ firstHigh
-rateRules b t held lines heights line =
-    rule 4 (not (eqZ (pos (length heights)) b) || bookFault b t held lines) 0 ∷ heldRule b held ∷ lineRule b lines ∷ heightRules lines heights line
+rateRules book heights line =
+    rule 4 (not (eqZ (pos (length heights)) (book .b)) || bookFault book) 0 ∷ heldRule book ∷ lineRule book ∷ heightRules book heights line
 
 -- "exact as 64-bit floats": cast to a float and back, z is z again
 abbrev pub ExactFloat : ℤ → Type 0
 ExactFloat z = T (inSigned binary64 63 (ofInt binary64 z)) × (toSigned 63 (ofInt binary64 z) ≡ z)
 
 -- the answer of a line
-abbrev pub rateDone : List ℤ → List ℤ → ℤ → RateAnswer
-rateDone lines heights line = lineRate heights lines (natAbs line) (natAbs line - 1)
+abbrev pub rateDone : Lent → List ℤ → ℤ → RateAnswer
+rateDone book heights line = lineRate heights (book .lines) (natAbs line) (natAbs line - 1)
 
-abbrev pub RateKeepsToTable : ℤ → ℤ → List ℤ → List ℤ → List ℤ → ℤ → RateAnswer → Type 0
-RateKeepsToTable b t held lines heights line given =
-    KeepsToTable (λ (r : RateAnswer). r .number) (λ (r : RateAnswer). r .place) (rateRules b t held lines heights line) refusedRate (rateDone lines heights line) given
+abbrev pub RateKeepsToTable : Lent → List ℤ → ℤ → RateAnswer → Type 0
+RateKeepsToTable book heights line given =
+    KeepsToTable (λ (r : RateAnswer). r .number) (λ (r : RateAnswer). r .place) (rateRules book heights line) refusedRate (rateDone book heights line) given
 
 -- ---- pieces and the start
 

@@ -7,10 +7,11 @@ use lib.Dec.{eqb, ltb}
 use lib.ListN.{length}
 use lib.IntN.{ℤ, pos, natAbs}
 use Rattle.laws.specs.Tests.{outZ}
+use Rattle.book.specs.Lent.{Lent}
 use Rattle.book.specs.Held.{heldWords, heldCount, firstBadHeld}
 use Rattle.book.specs.Line.{lineWords, lineCount, differenceOut, firstBadLine}
 use Rattle.book.specs.Test.{torn, bookOut}
-use Rattle.file.specs.Read.{statedLength, statedVersion, statedT, statedB, statedH, statedN, fileLength, heldOf, linesOf}
+use Rattle.file.specs.Read.{statedLength, statedVersion, statedT, statedB, statedH, statedN, statedCounts, fileLength, heldOf, linesOf, bookIn}
 use Rattle.loops.specs.Loops.{loopAt}
 use Rattle.loops.specs.Row.{listed, listings}
 use Rattle.loops.specs.Report.{loopsOf, reportOf}
@@ -19,65 +20,73 @@ use Rattle.survey.specs.Correction.{noLine, otherReport}
 use Rattle.demands.specs.Rules.{Rule, rule}
 
 -- 4: "b, t, h, n .. outside its limit; a lent book slice not whole entries"
-unfoldable pub bookFault : ℤ → ℤ → List ℤ → List ℤ → Bool
+unfoldable pub bookFault : Lent → Bool
 unfolding torn bookOut
-bookFault b t held lines = torn heldWords held || torn lineWords lines || bookOut b t (heldCount held) (lineCount lines)
+bookFault book =
+    torn heldWords (book .held) || torn lineWords (book .lines)
+    || bookOut (book .b) (book .t) (heldCount (book .held)) (lineCount (book .lines))
 
 -- 6: a held entry is bad; "first such entry"
-abbrev pub heldRule : ℤ → List ℤ → Rule
-heldRule b held = rule 6 (ltb 0 (firstBadHeld b held)) (firstBadHeld b held)
+abbrev pub heldRule : Lent → Rule
+heldRule book = rule 6 (ltb 0 (firstBadHeld (book .b) (book .held))) (firstBadHeld (book .b) (book .held))
 
 -- 7: a line is faulty; "first such line"
-abbrev pub lineRule : ℤ → List ℤ → Rule
-lineRule b lines = rule 7 (ltb 0 (firstBadLine b lines)) (firstBadLine b lines)
+abbrev pub lineRule : Lent → Rule
+lineRule book = rule 7 (ltb 0 (firstBadLine (book .b) (book .lines))) (firstBadLine (book .b) (book .lines))
 
 -- 10: "lent output too short for the whole answer"
 abbrev pub roomRule : List ℤ → List ℤ → Rule
 roomRule out answer = rule 10 (ltb (length out) (length answer)) 0
 
 -- the lent book, then what the call adds to the table
-abbrev pub bookRules : ℤ → ℤ → List ℤ → List ℤ → List Rule → List Rule
-bookRules b t held lines more = rule 4 (bookFault b t held lines) 0 ∷ heldRule b held ∷ lineRule b lines ∷ more
+abbrev pub bookRules : Lent → List Rule → List Rule
+bookRules book more = rule 4 (bookFault book) 0 ∷ heldRule book ∷ lineRule book ∷ more
 
-unfoldable pub surveyRules : ℤ → ℤ → List ℤ → List ℤ → List ℤ → List Rule
+-- the report of a book, worked out afresh
+abbrev pub afresh : Lent → List ℤ
+afresh book = reportOf (natAbs (book .b)) (natAbs (book .t)) (book .lines)
+
+unfoldable pub surveyRules : Lent → List ℤ → List Rule
 unfolding reportOf
-surveyRules b t held lines out = bookRules b t held lines (roomRule out (reportOf (natAbs b) (natAbs t) lines) ∷ [])
+surveyRules book out = bookRules book (roomRule out (afresh book) ∷ [])
 
 -- lines and sense of the loop of this number
-unfoldable pub loopListing : ℕ → List ℤ → ℤ → List ℤ
+unfoldable pub loopListing : Lent → ℤ → List ℤ
 unfolding loopsOf loopAt
-loopListing b lines number = map listed (loopAt (loopsOf b lines) (natAbs number - 1))
+loopListing book number = map listed (loopAt (loopsOf (natAbs (book .b)) (book .lines)) (natAbs number - 1))
 
 -- 8: "no such .. loop"
-abbrev pub loopRules : ℤ → List ℤ → ℤ → List ℤ → List Rule
-loopRules b lines number out = rule 8 (outZ (pos 1) (pos (length (loopsOf (natAbs b) lines))) number) 0 ∷ roomRule out (loopListing (natAbs b) lines number) ∷ []
+abbrev pub loopRules : Lent → ℤ → List ℤ → List Rule
+loopRules book number out =
+    rule 8 (outZ (pos 1) (pos (length (loopsOf (natAbs (book .b)) (book .lines)))) number) 0
+    ∷ roomRule out (loopListing book number) ∷ []
 
-unfoldable pub listingRules : ℤ → ℤ → List ℤ → List ℤ → ℤ → List ℤ → List Rule
+unfoldable pub listingRules : Lent → ℤ → List ℤ → List Rule
 unfolding loopsOf loopListing
-listingRules b t held lines number out = bookRules b t held lines (loopRules b lines number out)
+listingRules book number out = bookRules book (loopRules book number out)
 
 -- the lines of all loops
-unfoldable pub listingsRules : ℤ → ℤ → List ℤ → List ℤ → List ℤ → List Rule
+unfoldable pub listingsRules : Lent → List ℤ → List Rule
 unfolding loopsOf listings
-listingsRules b t held lines out = bookRules b t held lines (roomRule out (listings (loopsOf (natAbs b) lines)) ∷ [])
+listingsRules book out = bookRules book (roomRule out (listings (loopsOf (natAbs (book .b)) (book .lines))) ∷ [])
 
-unfoldable pub notCheckedRules : ℤ → ℤ → List ℤ → List ℤ → List ℤ → List Rule
+unfoldable pub notCheckedRules : Lent → List ℤ → List Rule
 unfolding uncheckedOf
-notCheckedRules b t held lines out = bookRules b t held lines (roomRule out (uncheckedOf (natAbs b) lines) ∷ [])
+notCheckedRules book out = bookRules book (roomRule out (uncheckedOf (natAbs (book .b)) (book .lines)) ∷ [])
 
 -- 8: "no such line .. also a withdrawn line"; 9: "lent report is shorter than this book's rows, or differs from them in their places"
-abbrev pub correctionRules : ℤ → ℤ → List ℤ → List ℤ → ℤ → List Rule
-correctionRules b t lines report number = rule 8 (noLine lines number) 0 ∷ rule 9 (otherReport report (reportOf (natAbs b) (natAbs t) lines)) 0 ∷ []
+abbrev pub correctionRules : Lent → List ℤ → ℤ → List Rule
+correctionRules book report number = rule 8 (noLine (book .lines) number) 0 ∷ rule 9 (otherReport report (afresh book)) 0 ∷ []
 
-unfoldable pub withdrawRules : ℤ → ℤ → List ℤ → List ℤ → List ℤ → ℤ → List Rule
+unfoldable pub withdrawRules : Lent → List ℤ → ℤ → List Rule
 unfolding noLine otherReport reportOf
-withdrawRules b t held lines report number = bookRules b t held lines (correctionRules b t lines report number)
+withdrawRules book report number = bookRules book (correctionRules book report number)
 
 -- 4 is also "a new difference outside its limit"
-unfoldable pub rerunRules : ℤ → ℤ → List ℤ → List ℤ → List ℤ → ℤ → ℤ → List Rule
+unfoldable pub rerunRules : Lent → List ℤ → ℤ → ℤ → List Rule
 unfolding differenceOut bookFault noLine otherReport reportOf
-rerunRules b t held lines report number difference =
-    rule 4 (differenceOut difference || bookFault b t held lines) 0 ∷ heldRule b held ∷ lineRule b lines ∷ correctionRules b t lines report number
+rerunRules book report number difference =
+    rule 4 (differenceOut difference || bookFault book) 0 ∷ heldRule book ∷ lineRule book ∷ correctionRules book report number
 
 -- 10, of the reader's two buffers
 abbrev pub roomsRule : List ℕ → List ℤ → List ℤ → Rule
@@ -93,6 +102,6 @@ fileRules file held lines =
     ∷ rule 3 (not (eqb (statedVersion file) 1)) 0
     ∷ rule 4 (bookOut (pos (statedB file)) (pos (statedT file)) (statedH file) (statedN file)) 0
     ∷ rule 5 (not (eqb (length file) (fileLength (statedH file) (statedN file)))) 0
-    ∷ heldRule (pos (statedB file)) (heldOf file (statedH file))
-    ∷ lineRule (pos (statedB file)) (linesOf file (statedH file) (statedN file))
+    ∷ heldRule (bookIn file (statedCounts file))
+    ∷ lineRule (bookIn file (statedCounts file))
     ∷ roomsRule file held lines ∷ []

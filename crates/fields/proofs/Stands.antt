@@ -10,6 +10,7 @@ use lib.IntN.{ℤ, pos}
 use Rattle.laws.specs.Tests.{eqZ}
 use Rattle.laws.specs.Range.{Between}
 use Rattle.book.specs.Line.{standingAt}
+use Rattle.book.specs.Lent.{Lent}
 use Rattle.network.specs.Standing.{Line}
 use Rattle.network.specs.Field.{HasLine, lineAt, standsFrom}
 use Rattle.network.proofs.Standing as standing
@@ -38,9 +39,9 @@ module _ (lines : List ℤ) where
   place-of b n i good l = record { inside = l; few = good .few; whole = omega (arith, good .whole); good = good .each i l }
 
 -- the lines of a good book
-pub lines-of : (b t : ℤ) (held lines : List ℤ) (k : Book) → testOf b t held lines ≡ Good k → Lines lines (k .marks) (k .lines)
-lines-of b t held lines k e =
-    let g = tested-good b t held lines k e in
+pub lines-of : (book : Lent) (k : Book) → testOf book ≡ Good k → Lines (book .lines) (k .marks) (k .lines)
+lines-of book k e =
+    let g = tested-good book k e in
     record { few = g .few-lines; whole = g .whole-lines; each = g .each-line }
 
 pub lines-in : {k : Book} {lines : List ℤ} → GoodLines k lines → Lines lines (k .marks) (k .lines)

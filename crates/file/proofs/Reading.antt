@@ -8,17 +8,18 @@ use Prim.Native.Nat.{ℕ, _+_, _*_, _<_, _≤_}
 use native.Mathlib.Omega.{arith}
 use lib.Dec.{ltb}
 use lib.ListN.{length, drop}
-use lib.IntN.{ℤ, pos}
+use lib.IntN.{ℤ}
 use Rattle.book.specs.Limits.{mostLines}
 use Rattle.book.specs.Held.{heldWords, heldCount}
 use Rattle.book.specs.Line.{lineWords, lineCount}
 use Rattle.book.specs.Test.{testOf}
 use Rattle.book.specs.Good.{GoodBook}
+use Rattle.book.proofs.IfGood.{either-way}
 use Rattle.book.proofs.Goods.{tested-good, tested-counts, tested-numbered}
 use Rattle.book.specs.declared.Book.{Book}
-use Rattle.book.specs.declared.Tested.{Tested}
+use Rattle.book.specs.declared.Refusal.{Refusal}
 use Rattle.book.specs.declared.Tested.the-variants.{Good, Refused}
-use Rattle.file.specs.Read.{Outcome, answered, refusal, done, heldOf, linesOf, headOf, roomOf, testedOf, bodyOf, afterHead, readOf}
+use Rattle.file.specs.Read.{Outcome, answered, refusal, done, heldOf, linesOf, bookIn, headOf, roomOf, bodyOf, afterHead, readOf}
 use Rattle.file.specs.Owed.{BookRead, FileRefused}
 use Rattle.file.specs.declared.Head as head
 use Rattle.file.specs.declared.Head.{Head}
@@ -36,7 +37,7 @@ module _ (file : List ℕ) (held lines : List ℤ) where
       inr (record { number = number; place = place; low = low; high = high; near = near; answer = refl; held-kept = refl; lines-kept = refl })
 
   GoodFile : Book → Type 0
-  GoodFile k = GoodBook k (pos (k .marks)) (pos (k .tolerance)) (heldOf file (k .held)) (linesOf file (k .held) (k .lines))
+  GoodFile k = GoodBook k (bookIn file k)
 
   -- as many entries as were read
   pub held-entries : (h : ℕ) → heldCount (heldOf file h) ≡ h
@@ -61,26 +62,16 @@ module _ (file : List ℕ) (held lines : List ℤ) where
       go false false = inl (record { book = k; answer = refl; good = good; held-now = refl; lines-now = refl })
 
   body : (k : Book) → ReadOrRefused (bodyOf file k held lines)
-  unfolding bodyOf testedOf GoodFile
-  body k = go (testOf b t h n) refl
+  unfolding bodyOf GoodFile
+  body k = either-way (bookIn file k) _ _ ReadOrRefused bad good
     where
-      b : ℤ
-      b = pos (k .marks)
+      bad : (r : Refusal) → testOf (bookIn file k) ≡ Refused r → ReadOrRefused (answered held lines (refusal (r .number) (r .place)))
+      bad r e = let w = tested-numbered (bookIn file k) r e in refuses (r .number) (r .place) (w .low) (omega (arith, w .high)) (w .near)
 
-      t : ℤ
-      t = pos (k .tolerance)
-
-      h : List ℤ
-      h = heldOf file (k .held)
-
-      n : List ℤ
-      n = linesOf file (k .held) (k .lines)
-
-      go : (o : Tested) → testOf b t h n ≡ o → ReadOrRefused (testedOf file k held lines o)
-      go (Refused r) e = let w = tested-numbered b t h n r e in refuses (r .number) (r .place) (w .low) (omega (arith, w .high)) (w .near)
-      go (Good j) e =
-          let same : j ≡ k = tested-counts b t h n j e ∙ rw (held-entries (k .held), line-entries (k .held) (k .lines)) in
-          room-or-ten k (subst (λ (x : Book). GoodBook x b t h n) same (tested-good b t h n j e))
+      good : (j : Book) → testOf (bookIn file k) ≡ Good j → ReadOrRefused (roomOf file k held lines)
+      good j e =
+          let same : j ≡ k = tested-counts (bookIn file k) j e ∙ rw (held-entries (k .held), line-entries (k .held) (k .lines)) in
+          room-or-ten k (subst (λ (x : Book). GoodBook x (bookIn file k)) same (tested-good (bookIn file k) j e))
 
   -- every file is read as a book inside the limits, or refused
   pub read-or-refused : ReadOrRefused (readOf file held lines)

@@ -4,19 +4,19 @@ use mathlib.Core.Path.{_≡_}
 use mathlib.Core.List.{List, _++_}
 use Prim.Native.Nat.{ℕ, _*_, _<_, _≤_}
 use lib.ListN.{drop}
-use lib.IntN.{ℤ, pos}
+use lib.IntN.{ℤ}
 use Rattle.book.specs.Limits.{mostLines}
 use Rattle.book.specs.Held.{heldWords}
 use Rattle.book.specs.Line.{lineWords}
 use Rattle.book.specs.Good.{GoodBook}
 use Rattle.book.specs.declared.Book.{Book}
-use Rattle.file.specs.Read.{Outcome, refusal, done, heldOf, linesOf}
+use Rattle.file.specs.Read.{Outcome, refusal, done, heldOf, linesOf, bookIn}
 
 -- a file that was read: a book inside every limit, in the first places of the buffers, whose other places are as they were
 pub record BookRead (file : List ℕ) (held lines : List ℤ) (o : Outcome) : Type 0 where
   pub book : Book
   pub answer : o .answer ≡ done book
-  pub good : GoodBook book (pos (book .marks)) (pos (book .tolerance)) (heldOf file (book .held)) (linesOf file (book .held) (book .lines))
+  pub good : GoodBook book (bookIn file book)
   pub held-now : o .held ≡ heldOf file (book .held) ++ drop (book .held * heldWords) held
   pub lines-now : o .lines ≡ linesOf file (book .held) (book .lines) ++ drop (book .lines * lineWords) lines
 

@@ -10,10 +10,9 @@ use lib.IntN.{ℤ, pos}
 use Rattle.book.specs.Limits.{mostMarks, mostLines, mostHeld, mostTolerance}
 use Rattle.book.specs.Held.{heldWords}
 use Rattle.book.specs.Line.{lineWords}
-use Rattle.book.specs.Test.{bookOut, counts, testOf}
+use Rattle.book.specs.Lent.{Lent, lent}
+use Rattle.book.specs.Test.{bookOut, counts, testOf, ifGood}
 use Rattle.book.specs.declared.Book.{Book}
-use Rattle.book.specs.declared.Tested.{Tested}
-use Rattle.book.specs.declared.Tested.the-variants.{Good, Refused}
 use Rattle.file.specs.Wire.{be}
 use Rattle.file.specs.Entry.{entries}
 use Rattle.file.specs.declared.entry.Kind.the-variants.{Held, Line}
@@ -40,6 +39,9 @@ statedH file = be 2 file 9
 abbrev pub statedN : List ℕ → ℕ
 statedN file = be 2 file 11
 
+abbrev pub statedCounts : List ℕ → Book
+statedCounts file = counts (pos (statedB file)) (pos (statedT file)) (statedH file) (statedN file)
+
 -- "A file has 13 + 10h + 12n bytes"
 abbrev pub fileLength : ℕ → ℕ → ℕ
 fileLength h n = 13 + h * 10 + n * 12
@@ -53,7 +55,7 @@ headOf file =
     (cond (not (eqb (statedVersion file) 1)) (head.the-variants.Refused 3)
     (cond (bookOut (pos (statedB file)) (pos (statedT file)) (statedH file) (statedN file)) (head.the-variants.Refused 4)
     (cond (not (eqb (length file) (fileLength (statedH file) (statedN file)))) (head.the-variants.Refused 5)
-    (head.the-variants.States (counts (pos (statedB file)) (pos (statedT file)) (statedH file) (statedN file)))))))
+    (head.the-variants.States (statedCounts file))))))
 
 -- the numbers that the file's held entries and lines put into memory
 unfoldable pub heldOf : List ℕ → ℕ → List ℤ
@@ -63,6 +65,10 @@ heldOf file h = entries Held file 13 h
 unfoldable pub linesOf : List ℕ → ℕ → ℕ → List ℤ
 unfolding entries
 linesOf file h n = entries Line file (13 + h * 10) n
+
+-- the book of the counts k that they make, as every call is lent one
+abbrev pub bookIn : List ℕ → Book → Lent
+bookIn file k = lent (pos (k .marks)) (pos (k .tolerance)) (heldOf file (k .held)) (linesOf file (k .held) (k .lines))
 
 -- "After a refusal the counts are 0"
 abbrev pub refusal : ℕ → ℕ → ReadAnswer
@@ -93,15 +99,10 @@ roomOf file k held lines =
     }))
 
 -- refusals 6 and 7 by the test of every call, then what comes after it
-unfoldable pub testedOf : List ℕ → Book → List ℤ → List ℤ → Tested → Outcome
-unfolding roomOf
-testedOf file k held lines (Refused r) = answered held lines (refusal (r .number) (r .place))
-testedOf file k held lines (Good book) = roomOf file k held lines
-
 unfoldable pub bodyOf : List ℕ → Book → List ℤ → List ℤ → Outcome
-unfolding testedOf testOf
+unfolding roomOf testOf heldOf linesOf
 bodyOf file k held lines =
-    testedOf file k held lines (testOf (pos (k .marks)) (pos (k .tolerance)) (heldOf file (k .held)) (linesOf file (k .held) (k .lines)))
+    ifGood (testOf (bookIn file k)) (λ r. answered held lines (refusal (r .number) (r .place))) (λ _. roomOf file k held lines)
 
 unfoldable pub afterHead : List ℕ → List ℤ → List ℤ → Head → Outcome
 unfolding bodyOf

@@ -3,8 +3,7 @@
 ghost use mathlib.Core.Path.{_≡_};
 ghost use lib.ListN.{length};
 ghost use Rattle.book.specs.Test.{testOf};
-ghost use lib.IntN.{pos};
-ghost use Rattle.file.specs.Read.{Stated, headOf, answered, refusal, heldOf, linesOf, bodyOf, roomOf, readOf};
+ghost use Rattle.file.specs.Read.{Stated, headOf, answered, refusal, bookIn, bodyOf, roomOf, readOf};
 
 mod entry;
 mod wire;
@@ -92,7 +91,7 @@ fn head_of(file: &[u8]) -> Head
 // Refusals 6 and 7: the entries are read where nobody sees them, and tested as every call tests a lent book.
 fn tested(file: &[u8], book: Book) -> Tested
     requires { ⌜ Stated (length (now file)) book ⌝ }
-    ensures { λ r. ⌜ r ≡ testOf (pos (book .marks)) (pos (book .tolerance)) (heldOf (now (file .entry)) (book .held)) (linesOf (now (file .entry)) (book .held) (book .lines)) ⌝ }
+    ensures { λ r. ⌜ r ≡ testOf (bookIn (now (file .entry)) book) ⌝ }
 {
     let h = book.held;
     let n = book.lines;
@@ -116,7 +115,8 @@ fn tested(file: &[u8], book: Book) -> Tested
 // Refusal 10, or the entries go into what is lent.
 fn fill(file: &[u8], book: Book, held: &mut [i64], lines: &mut [i64]) -> ReadAnswer
     requires { ⌜ Stated (length (now file)) book ⌝ }
-    ensures { λ r. ⌜ answered (now (held .exit)) (now (lines .exit)) r ≡ roomOf (now (file .entry)) book (now (held .entry)) (now (lines .entry)) ⌝ }
+    ensures { λ r. ⌜ answered (now (held .exit)) (now (lines .exit)) r
+        ≡ roomOf (now (file .entry)) book (now (held .entry)) (now (lines .entry)) ⌝ }
 {
     let h = book.held;
     let n = book.lines;
@@ -147,7 +147,8 @@ fn fill(file: &[u8], book: Book, held: &mut [i64], lines: &mut [i64]) -> ReadAns
 // What follows a head that is not refused.
 fn read_body(file: &[u8], book: Book, held: &mut [i64], lines: &mut [i64]) -> ReadAnswer
     requires { ⌜ Stated (length (now file)) book ⌝ }
-    ensures { λ r. ⌜ answered (now (held .exit)) (now (lines .exit)) r ≡ bodyOf (now (file .entry)) book (now (held .entry)) (now (lines .entry)) ⌝ }
+    ensures { λ r. ⌜ answered (now (held .exit)) (now (lines .exit)) r
+        ≡ bodyOf (now (file .entry)) book (now (held .entry)) (now (lines .entry)) ⌝ }
 {
     match tested(file, book) {
         Tested::Refused(r) => refuse(r.number, r.place),
@@ -157,7 +158,8 @@ fn read_body(file: &[u8], book: Book, held: &mut [i64], lines: &mut [i64]) -> Re
 
 // Reads a book file into the held entries and the lines that are lent. A refusal leaves both as they were.
 pub fn read(file: &[u8], held: &mut [i64], lines: &mut [i64]) -> ReadAnswer
-    ensures { λ r. ⌜ answered (now (held .exit)) (now (lines .exit)) r ≡ readOf (now (file .entry)) (now (held .entry)) (now (lines .entry)) ⌝ }
+    ensures { λ r. ⌜ answered (now (held .exit)) (now (lines .exit)) r
+        ≡ readOf (now (file .entry)) (now (held .entry)) (now (lines .entry)) ⌝ }
 {
     match head_of(file) {
         Head::Refused(number) => refuse(number, 0),

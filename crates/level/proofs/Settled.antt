@@ -2,7 +2,6 @@
 -- Assumes nothing.
 use Prim.Native.Nat.{ℕ, zero, suc, _+_, _≤_}
 use native.Mathlib.Omega.{arith}
-use mathlib.Core.Path.{_≡_, refl}
 use mathlib.Core.Bool.{Bool, true, false}
 use mathlib.Core.List.{List}
 use lib.Dec.{ltb}
@@ -13,9 +12,8 @@ use Rattle.laws.proofs.Tests.{cond-ind}
 use Rattle.laws.proofs.Scans.{first-most}
 use Rattle.book.specs.Limits.{mostLines, mostMarks}
 use Rattle.book.specs.Height.{workHeightOut}
-use Rattle.book.specs.Test.{testOf}
-use Rattle.book.specs.declared.Tested.{Tested}
-use Rattle.book.specs.declared.Tested.the-variants.{Good, Refused}
+use Rattle.book.specs.Lent.{Lent}
+use Rattle.book.proofs.IfGood.{either-way}
 use Rattle.book.proofs.Goods.{tested-good, tested-numbered}
 use Rattle.fields.specs.Heights.{height}
 use Rattle.sights.specs.Sights.{Sight, sightsOf}
@@ -25,7 +23,7 @@ use Rattle.network.specs.Tree.{tree}
 use Rattle.start.specs.Start.{heldHeight, isHeld, rootedBy, unheldPiece, startHeights}
 use Rattle.adjust.specs.Adjusted.{Outcome, done, refused, ended, unlessUnheld, adjustment}
 use Rattle.adjust.specs.Answers.{answer}
-use Rattle.adjust.specs.Call.{Given, givenBy, adjustGood, adjustTested, adjustOf}
+use Rattle.adjust.specs.Call.{Given, givenBy, adjustGood, adjustOf}
 use Rattle.level.specs.Heights.{SmallAdjusted}
 
 -- ---- a sweep
@@ -113,13 +111,12 @@ given-small : (b : ℕ) (out : List ℤ) (o : Outcome) → b ≤ mostMarks → S
 given-small b out (done n hs) few h = answer-small 0 0 n (omega arith) (omega arith) h
 given-small b out (refused number place) few h = answer-small number place 0 (h .0) (omega (arith, h .1)) (omega arith)
 
-pub adjust-small : (b t : ℤ) (held lines heights : List ℤ) → SmallAdjusted (adjustOf b t held lines heights .answer)
-unfolding adjustOf adjustTested adjustGood
-adjust-small b t held lines heights = go (testOf b t held lines) refl
-  where
-    go : (x : Tested) → testOf b t held lines ≡ x → SmallAdjusted (adjustTested held lines heights x .answer)
-    go (Refused r) e = let n = tested-numbered b t held lines r e in answer-small (r .number) (r .place) 0 (omega (arith, n .high)) (n .near) (omega arith)
-    go (Good k) e =
-        cond-ind (λ (o : Given). SmallAdjusted (o .answer)) (ltb (length heights) (k .marks)) _ _
-        (λ _. answer-small 10 0 0 (omega arith) (omega arith) (omega arith))
-        (λ _. given-small (k .marks) heights (adjustment (k .marks) held lines) (tested-good b t held lines k e .few-marks) (outcome-small (k .marks) held lines))
+pub adjust-small : (book : Lent) (heights : List ℤ) → SmallAdjusted (adjustOf book heights .answer)
+unfolding adjustOf adjustGood
+adjust-small book heights =
+    either-way book _ _ (λ (o : Given). SmallAdjusted (o .answer))
+    (λ r e. let n = tested-numbered book r e in answer-small (r .number) (r .place) 0 (omega (arith, n .high)) (n .near) (omega arith))
+    (λ k e.
+    cond-ind (λ (o : Given). SmallAdjusted (o .answer)) (ltb (length heights) (k .marks)) _ _
+    (λ _. answer-small 10 0 0 (omega arith) (omega arith) (omega arith))
+    (λ _. given-small (k .marks) heights (adjustment (k .marks) (book .held) (book .lines)) (tested-good book k e .few-marks) (outcome-small (k .marks) (book .held) (book .lines))))

@@ -2,9 +2,9 @@
 -- Assumes nothing.
 use Prim.Native.Nat.{ℕ, _-_, _≤_}
 use native.Mathlib.Omega.{arith}
-use mathlib.Core.Path.{_≡_, refl, sym, subst}
+use mathlib.Core.Path.{_≡_, sym, subst}
 use mathlib.Core.Logic.{inl, inr}
-use mathlib.Core.Bool.{true, false}
+use mathlib.Core.Bool.{false}
 use mathlib.Core.List.{List, map}
 use lib.Dec.{ltb}
 use borrow.Author.Tests.{ltb-false}
@@ -17,27 +17,28 @@ use Rattle.laws.proofs.Scans.{first-most}
 use Rattle.book.specs.Limits.{mostDifference, mostLines}
 use Rattle.book.specs.Line.{differenceOut, standingAt}
 use Rattle.book.specs.Height.{workHeightOut}
+use Rattle.book.specs.Lent.{Lent}
 use Rattle.book.specs.Test.{testOf}
 use Rattle.book.specs.declared.Book.{Book}
 use Rattle.book.specs.declared.Refusal.{Refusal}
-use Rattle.book.specs.declared.Tested.{Tested}
 use Rattle.book.specs.declared.Tested.the-variants.{Good, Refused}
+use Rattle.book.proofs.IfGood.{either-way}
 use Rattle.book.proofs.Goods.{tested-good, tested-numbered}
 use Rattle.network.specs.Standing.{standing}
 use Rattle.network.proofs.Entries.{tree-lines-count}
 use Rattle.book.specs.Good.{GoodLines}
 use Rattle.loops.specs.Report.{loopsOf, reportOf, piecesOf}
 use Rattle.survey.specs.Report.{refusal, counted}
-use Rattle.survey.specs.Survey.{Surveyed, surveyGood, surveyTested, surveyOf}
-use Rattle.survey.specs.Correction.{Corrected, noLine, otherReport, correctGood, correctTested, rerunLines, withdrawLines, rerunOf, withdrawOf}
-use Rattle.lists.specs.Listing.{Listing, unlisted, listOf, listingGood, listingTested, listingOf, listingsGood, listingsTested, listingsOf}
-use Rattle.lists.specs.NotChecked.{uncheckedOf, notCheckedTested, notCheckedOf}
+use Rattle.survey.specs.Survey.{Surveyed, surveyGood, surveyOf}
+use Rattle.survey.specs.Correction.{Corrected, noLine, otherReport, correctGood, correctOf, rerunLines, withdrawLines, rerunOf, withdrawOf}
+use Rattle.lists.specs.Listing.{Listing, unlisted, listOf, listingGood, listingOf, listingsGood, listingsOf}
+use Rattle.lists.specs.NotChecked.{uncheckedOf, notCheckedOf}
 use Rattle.loops.specs.Loops.{loopAt}
 use Rattle.loops.specs.Row.{listed, listings}
 use Rattle.book.proofs.Goods.{good-lines}
 use Rattle.loops.proofs.Sounding.{lines-sound, few-loops}
 use Rattle.survey.proofs.Corrected.{stands-of, rerun-lines-good, withdrawn-lines-good}
-use Rattle.rates.specs.Rates.{refusedRate, lineRate, firstHigh, goodRate, testedRate, rateAnswer}
+use Rattle.rates.specs.Rates.{refusedRate, lineRate, firstHigh, goodRate, rateAnswer}
 use Rattle.rates.proofs.Rating.{marks-of}
 use Rattle.file.specs.Read.{readOf}
 use Rattle.file.proofs.Reading.{ReadOrRefused, read-or-refused}
@@ -94,84 +95,69 @@ list-small list out small =
     (λ _. unlisted-small 10 0 (omega arith) (omega arith))
     (λ fits. let f = ltb-false (length out) (length list) fits in record { number = omega arith; place = omega arith; entries = omega arith })
 
-module _ (b t : ℤ) (held lines : List ℤ) where
+module _ (book : Lent) where
   -- the test's own refusals
-  tested-small : (r : Refusal) → testOf b t held lines ≡ Refused r → SmallAnswer (refusal (r .number) (r .place))
-  tested-small r e = let n = tested-numbered b t held lines r e in refusal-small (r .number) (r .place) (omega (arith, n .high)) (n .near)
+  tested-small : (r : Refusal) → testOf book ≡ Refused r → SmallAnswer (refusal (r .number) (r .place))
+  tested-small r e = let n = tested-numbered book r e in refusal-small (r .number) (r .place) (omega (arith, n .high)) (n .near)
 
-  good-of : (k : Book) → testOf b t held lines ≡ Good k → GoodLines k lines
-  good-of k e = good-lines k b t held lines (tested-good b t held lines k e)
+  good-of : (k : Book) → testOf book ≡ Good k → GoodLines k (book .lines)
+  good-of k e = good-lines k book (tested-good book k e)
 
-  pub survey-small : (rows : List ℤ) → SmallAnswer (surveyOf b t held lines rows .answer)
-  unfolding surveyOf surveyTested surveyGood
-  survey-small rows = go (testOf b t held lines) refl
-    where
-      go : (x : Tested) → testOf b t held lines ≡ x → SmallAnswer (surveyTested lines rows x .answer)
-      go (Refused r) e = tested-small r e
-      go (Good k) e =
-          cond-ind (λ (s : Surveyed). SmallAnswer (s .answer)) (ltb (length rows) (length (reportOf (k .marks) (k .tolerance) lines))) _ _
-          (λ _. refusal-small 10 0 (omega arith) (omega arith))
-          (λ _. counted-small k lines (good-of k e))
+  pub survey-small : (rows : List ℤ) → SmallAnswer (surveyOf book rows .answer)
+  unfolding surveyOf surveyGood
+  survey-small rows =
+      either-way book _ _ (λ (s : Surveyed). SmallAnswer (s .answer)) tested-small (λ k e.
+      cond-ind (λ (s : Surveyed). SmallAnswer (s .answer)) (ltb (length rows) (length (reportOf (k .marks) (k .tolerance) (book .lines)))) _ _
+      (λ _. refusal-small 10 0 (omega arith) (omega arith))
+      (λ _. counted-small k (book .lines) (good-of k e)))
 
   module _ (report : List ℤ) (number : ℤ) where
     -- a correction leaves a good book good
-    corrected-small : (new : List ℤ) → ((k : Book) → testOf b t held lines ≡ Good k → noLine lines number ≡ false → GoodLines k new)
-        → SmallAnswer (correctTested lines report number new (testOf b t held lines) .answer)
-    unfolding correctTested correctGood
-    corrected-small new good = go (testOf b t held lines) refl
-      where
-        go : (x : Tested) → testOf b t held lines ≡ x → SmallAnswer (correctTested lines report number new x .answer)
-        go (Refused r) e = tested-small r e
-        go (Good k) e =
-            cond-ind (λ (s : Corrected). SmallAnswer (s .answer)) (noLine lines number) _ _
-            (λ _. refusal-small 8 0 (omega arith) (omega arith))
-            (λ stands.
-            cond-ind (λ (s : Corrected). SmallAnswer (s .answer)) (otherReport report (reportOf (k .marks) (k .tolerance) lines)) _ _
-            (λ _. refusal-small 9 0 (omega arith) (omega arith))
-            (λ _. counted-small k new (good k e stands)))
+    corrected-small : (new : List ℤ) → ((k : Book) → testOf book ≡ Good k → noLine (book .lines) number ≡ false → GoodLines k new)
+        → SmallAnswer (correctOf book report number new .answer)
+    unfolding correctOf correctGood
+    corrected-small new good =
+        either-way book _ _ (λ (s : Corrected). SmallAnswer (s .answer)) tested-small (λ k e.
+        cond-ind (λ (s : Corrected). SmallAnswer (s .answer)) (noLine (book .lines) number) _ _
+        (λ _. refusal-small 8 0 (omega arith) (omega arith))
+        (λ stands.
+        cond-ind (λ (s : Corrected). SmallAnswer (s .answer)) (otherReport report (reportOf (k .marks) (k .tolerance) (book .lines))) _ _
+        (λ _. refusal-small 9 0 (omega arith) (omega arith))
+        (λ _. counted-small k new (good k e stands))))
 
-    pub rerun-small : (difference : ℤ) → SmallAnswer (rerunOf b t held lines report number difference .answer)
+    pub rerun-small : (difference : ℤ) → SmallAnswer (rerunOf book report number difference .answer)
     unfolding rerunOf differenceOut
     rerun-small difference =
         cond-ind (λ (s : Corrected). SmallAnswer (s .answer)) (differenceOut difference) _ _
         (λ _. refusal-small 4 0 (omega arith) (omega arith))
-        (λ inside. corrected-small (rerunLines lines number difference)
-        (λ k e stands. rerun-lines-good k lines (good-of k e) number (natAbs number - 1) (stands-of lines number stands) difference (size-within mostDifference difference inside)))
+        (λ inside. corrected-small (rerunLines (book .lines) number difference)
+        (λ k e stands. rerun-lines-good k (book .lines) (good-of k e) number (natAbs number - 1) (stands-of (book .lines) number stands) difference (size-within mostDifference difference inside)))
 
-    pub withdraw-small : SmallAnswer (withdrawOf b t held lines report number .answer)
+    pub withdraw-small : SmallAnswer (withdrawOf book report number .answer)
     unfolding withdrawOf
-    withdraw-small = corrected-small (withdrawLines lines number) (λ k e stands. withdrawn-lines-good k lines (good-of k e) number (natAbs number - 1) (stands-of lines number stands))
+    withdraw-small = corrected-small (withdrawLines (book .lines) number) (λ k e stands. withdrawn-lines-good k (book .lines) (good-of k e) number (natAbs number - 1) (stands-of (book .lines) number stands))
 
   module _ (out : List ℤ) (small : Small (length out)) where
-    untested-small : (r : Refusal) → testOf b t held lines ≡ Refused r → SmallListed (unlisted (r .number) (r .place))
-    untested-small r e = let n = tested-numbered b t held lines r e in unlisted-small (r .number) (r .place) (omega (arith, n .high)) (n .near)
+    untested-small : (r : Refusal) → testOf book ≡ Refused r → SmallListed (unlisted (r .number) (r .place))
+    untested-small r e = let n = tested-numbered book r e in unlisted-small (r .number) (r .place) (omega (arith, n .high)) (n .near)
 
-    pub listing-small : (number : ℤ) → SmallListed (listingOf b t held lines number out .answer)
-    unfolding listingOf listingTested listingGood
-    listing-small number = go (testOf b t held lines) refl
-      where
-        go : (x : Tested) → testOf b t held lines ≡ x → SmallListed (listingTested lines number out x .answer)
-        go (Refused r) e = untested-small r e
-        go (Good k) e =
-            cond-ind (λ (o : Listing). SmallListed (o .answer)) (outZ (pos 1) (pos (length (loopsOf (k .marks) lines))) number) _ _
-            (λ _. unlisted-small 8 0 (omega arith) (omega arith))
-            (λ _. list-small (map listed (loopAt (loopsOf (k .marks) lines) (natAbs number - 1))) out small)
+    pub listing-small : (number : ℤ) → SmallListed (listingOf book number out .answer)
+    unfolding listingOf listingGood
+    listing-small number =
+        either-way book _ _ (λ (o : Listing). SmallListed (o .answer)) untested-small (λ k e.
+        cond-ind (λ (o : Listing). SmallListed (o .answer)) (outZ (pos 1) (pos (length (loopsOf (k .marks) (book .lines)))) number) _ _
+        (λ _. unlisted-small 8 0 (omega arith) (omega arith))
+        (λ _. list-small (map listed (loopAt (loopsOf (k .marks) (book .lines)) (natAbs number - 1))) out small))
 
-    pub listings-small : SmallListed (listingsOf b t held lines out .answer)
-    unfolding listingsOf listingsTested listingsGood
-    listings-small = go (testOf b t held lines) refl
-      where
-        go : (x : Tested) → testOf b t held lines ≡ x → SmallListed (listingsTested lines out x .answer)
-        go (Refused r) e = untested-small r e
-        go (Good k) e = list-small (listings (loopsOf (k .marks) lines)) out small
+    pub listings-small : SmallListed (listingsOf book out .answer)
+    unfolding listingsOf listingsGood
+    listings-small =
+        either-way book _ _ (λ (o : Listing). SmallListed (o .answer)) untested-small (λ k e. list-small (listings (loopsOf (k .marks) (book .lines))) out small)
 
-    pub not-checked-small : SmallListed (notCheckedOf b t held lines out .answer)
-    unfolding notCheckedOf notCheckedTested
-    not-checked-small = go (testOf b t held lines) refl
-      where
-        go : (x : Tested) → testOf b t held lines ≡ x → SmallListed (notCheckedTested lines out x .answer)
-        go (Refused r) e = untested-small r e
-        go (Good k) e = list-small (uncheckedOf (k .marks) lines) out small
+    pub not-checked-small : SmallListed (notCheckedOf book out .answer)
+    unfolding notCheckedOf
+    not-checked-small =
+        either-way book _ _ (λ (o : Listing). SmallListed (o .answer)) untested-small (λ k e. list-small (uncheckedOf (k .marks) (book .lines)) out small)
 
   module _ (heights : List ℤ) (line : ℤ) where
     rate-refusal-small : (number place : ℕ) → number ≤ 13 → place ≤ mostLines → SmallRate (refusedRate number place)
@@ -179,14 +165,14 @@ module _ (b t : ℤ) (held lines : List ℤ) where
     rate-refusal-small number place high near = record { number = omega arith; place = omega arith; line = omega arith }
 
     -- the line itself is one of the book's
-    line-small : (i : ℕ) → natAbs line ≤ mostLines → SmallRate (lineRate heights lines (natAbs line) i)
+    line-small : (i : ℕ) → natAbs line ≤ mostLines → SmallRate (lineRate heights (book .lines) (natAbs line) i)
     unfolding lineRate
     line-small i near =
-        cond-ind SmallRate (eqZ (standingAt lines i) (pos 0)) _ _
+        cond-ind SmallRate (eqZ (standingAt (book .lines) i) (pos 0)) _ _
         (λ _. record { number = omega arith; place = omega arith; line = omega arith })
         (λ _. record { number = omega arith; place = omega arith; line = omega arith })
 
-    good-small : (k : Book) → k .lines ≤ mostLines → length heights ≤ mostLines → SmallRate (goodRate heights lines k line)
+    good-small : (k : Book) → k .lines ≤ mostLines → length heights ≤ mostLines → SmallRate (goodRate heights (book .lines) k line)
     unfolding goodRate firstHigh
     good-small k few short =
         cond-ind SmallRate (outZ (pos 1) (pos (k .lines)) line) _ _
@@ -196,13 +182,12 @@ module _ (b t : ℤ) (held lines : List ℤ) where
         (λ _. rate-refusal-small 13 (firstHigh heights) (omega arith) (omega (arith, first-most (λ i. workHeightOut (getD heights i (pos 0))) (length heights))))
         (λ _. line-small (natAbs line - 1) (omega (arith, between 1 (k .lines) line inside .high))))
 
-    pub rate-small : SmallRate (rateAnswer b t held lines heights line)
+    pub rate-small : SmallRate (rateAnswer book heights line)
     unfolding rateAnswer
     rate-small =
-        cond-ind SmallRate (eqZ (pos (length heights)) b) _ _
-        (λ same. go same (testOf b t held lines) refl)
+        cond-ind SmallRate (eqZ (pos (length heights)) (book .b)) _ _
+        (λ same.
+        either-way book _ _ SmallRate
+        (λ r e. let n = tested-numbered book r e in rate-refusal-small (r .number) (r .place) (omega (arith, n .high)) (n .near))
+        (λ k e. let g = tested-good book k e in good-small k (g .few-lines) (omega (arith, marks-of book k e (length heights) same, g .few-marks))))
         (λ _. rate-refusal-small 4 0 (omega arith) (omega arith))
-      where
-        go : eqZ (pos (length heights)) b ≡ true → (x : Tested) → testOf b t held lines ≡ x → SmallRate (testedRate heights lines line x)
-        go same (Refused r) e = let n = tested-numbered b t held lines r e in rate-refusal-small (r .number) (r .place) (omega (arith, n .high)) (n .near)
-        go same (Good k) e = let g = tested-good b t held lines k e in good-small k (g .few-lines) (omega (arith, marks-of b t held lines k e (length heights) same, g .few-marks))

@@ -1,6 +1,7 @@
 // The C interface: thin functions over the public calls, each with the whole contract of the call below it, its numbers as int64.
 // include/level.h declares them.
 ghost use mathlib.Core.Path.{_≡_};
+ghost use Rattle.book.specs.Lent.{lent};
 ghost use Rattle.file.specs.Read.{readOf};
 ghost use Rattle.survey.specs.Survey.{surveyOf};
 ghost use Rattle.survey.specs.Correction.{rerunOf, withdrawOf};
@@ -43,7 +44,8 @@ fn read_answer(a: file::ReadAnswer) -> ReadAnswer
 
 #[no_mangle]
 pub extern "C" fn level_read(file: &[u8], held: &mut [i64], lines: &mut [i64]) -> ReadAnswer
-    ensures { λ r. ⌜ readNow r (now (held .exit)) (now (lines .exit)) ≡ ofRead (readOf (now (file .entry)) (now (held .entry)) (now (lines .entry))) ⌝ }
+    ensures { λ r. ⌜ readNow r (now (held .exit)) (now (lines .exit))
+        ≡ ofRead (readOf (now (file .entry)) (now (held .entry)) (now (lines .entry))) ⌝ }
 {
     read_answer(file::read(file, held, lines))
 }
@@ -77,7 +79,8 @@ pub extern "C" fn level_survey(
     lines: &[i64],
     rows: &mut [i64],
 ) -> Answer
-    ensures { λ r. ⌜ surveyNow r (now (rows .exit)) ≡ ofSurvey (surveyOf b t (now (held .entry)) (now (lines .entry)) (now (rows .entry))) ⌝ }
+    ensures { λ r. ⌜ surveyNow r (now (rows .exit))
+        ≡ ofSurvey (surveyOf (lent b t (now (held .entry)) (now (lines .entry))) (now (rows .entry))) ⌝ }
 {
     survey_answer(survey::survey(b, t, held, lines, rows))
 }
@@ -92,7 +95,8 @@ pub extern "C" fn level_rerun(
     line: i64,
     difference: i64,
 ) -> Answer
-    ensures { λ r. ⌜ correctionNow r (now (lines .exit)) (now (report .exit)) ≡ ofCorrection (rerunOf b t (now (held .entry)) (now (lines .entry)) (now (report .entry)) line difference) ⌝ }
+    ensures { λ r. ⌜ correctionNow r (now (lines .exit)) (now (report .exit))
+        ≡ ofCorrection (rerunOf (lent b t (now (held .entry)) (now (lines .entry))) (now (report .entry)) line difference) ⌝ }
 {
     survey_answer(survey::rerun(b, t, held, lines, report, line, difference))
 }
@@ -106,7 +110,8 @@ pub extern "C" fn level_withdraw(
     report: &mut [i64],
     line: i64,
 ) -> Answer
-    ensures { λ r. ⌜ correctionNow r (now (lines .exit)) (now (report .exit)) ≡ ofCorrection (withdrawOf b t (now (held .entry)) (now (lines .entry)) (now (report .entry)) line) ⌝ }
+    ensures { λ r. ⌜ correctionNow r (now (lines .exit)) (now (report .exit))
+        ≡ ofCorrection (withdrawOf (lent b t (now (held .entry)) (now (lines .entry))) (now (report .entry)) line) ⌝ }
 {
     survey_answer(survey::withdraw(b, t, held, lines, report, line))
 }
@@ -139,7 +144,8 @@ pub extern "C" fn level_listing(
     number: i64,
     out: &mut [i64],
 ) -> Listed
-    ensures { λ r. ⌜ listingNow r (now (out .exit)) ≡ ofListing (listingOf b t (now (held .entry)) (now (lines .entry)) number (now (out .entry))) ⌝ }
+    ensures { λ r. ⌜ listingNow r (now (out .exit))
+        ≡ ofListing (listingOf (lent b t (now (held .entry)) (now (lines .entry))) number (now (out .entry))) ⌝ }
 {
     listing_answer(lists::listing(b, t, held, lines, number, out))
 }
@@ -152,7 +158,8 @@ pub extern "C" fn level_listings(
     lines: &[i64],
     out: &mut [i64],
 ) -> Listed
-    ensures { λ r. ⌜ listingNow r (now (out .exit)) ≡ ofListing (listingsOf b t (now (held .entry)) (now (lines .entry)) (now (out .entry))) ⌝ }
+    ensures { λ r. ⌜ listingNow r (now (out .exit))
+        ≡ ofListing (listingsOf (lent b t (now (held .entry)) (now (lines .entry))) (now (out .entry))) ⌝ }
 {
     listing_answer(lists::listings(b, t, held, lines, out))
 }
@@ -165,7 +172,8 @@ pub extern "C" fn level_not_checked(
     lines: &[i64],
     out: &mut [i64],
 ) -> Listed
-    ensures { λ r. ⌜ listingNow r (now (out .exit)) ≡ ofListing (notCheckedOf b t (now (held .entry)) (now (lines .entry)) (now (out .entry))) ⌝ }
+    ensures { λ r. ⌜ listingNow r (now (out .exit))
+        ≡ ofListing (notCheckedOf (lent b t (now (held .entry)) (now (lines .entry))) (now (out .entry))) ⌝ }
 {
     listing_answer(lists::not_checked(b, t, held, lines, out))
 }
@@ -197,7 +205,8 @@ pub extern "C" fn level_adjust(
     lines: &[i64],
     heights: &mut [i64],
 ) -> Adjusted
-    ensures { λ r. ⌜ adjustNow r (now (heights .exit)) ≡ ofAdjust (adjustOf b t (now (held .entry)) (now (lines .entry)) (now (heights .entry))) ⌝ }
+    ensures { λ r. ⌜ adjustNow r (now (heights .exit))
+        ≡ ofAdjust (adjustOf (lent b t (now (held .entry)) (now (lines .entry))) (now (heights .entry))) ⌝ }
 {
     adjust_answer(adjust::adjust(b, t, held, lines, heights))
 }
@@ -251,7 +260,7 @@ pub extern "C" fn level_rate(
     heights: &[i64],
     line: i64,
 ) -> Rated
-    ensures { λ r. ⌜ r ≡ signedRate (rateAnswer b t (now (held .entry)) (now (lines .entry)) (now (heights .entry)) line) ⌝ }
+    ensures { λ r. ⌜ r ≡ signedRate (rateAnswer (lent b t (now (held .entry)) (now (lines .entry))) (now (heights .entry)) line) ⌝ }
 {
     rate_answer(adjust::rate(b, t, held, lines, heights, line))
 }

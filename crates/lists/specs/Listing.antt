@@ -7,10 +7,9 @@ use lib.Dec.{ltb}
 use lib.ListN.{length, drop}
 use lib.IntN.{ℤ, pos, natAbs}
 use Rattle.laws.specs.Tests.{outZ}
-use Rattle.book.specs.Test.{testOf}
+use Rattle.book.specs.Lent.{Lent}
+use Rattle.book.specs.Test.{testOf, ifGood}
 use Rattle.book.specs.declared.Book.{Book}
-use Rattle.book.specs.declared.Tested.{Tested}
-use Rattle.book.specs.declared.Tested.the-variants.{Good, Refused}
 use Rattle.loops.specs.Loops.{loopAt}
 use Rattle.loops.specs.Row.{listed, listings}
 use Rattle.loops.specs.Report.{loopsOf}
@@ -45,25 +44,19 @@ listingGood k lines number out =
     cond (outZ (pos 1) (pos (length found)) number) (listing (unlisted 8 0) out)
     (listOf (map listed (loopAt found (natAbs number - 1))) out)
 
-unfoldable pub listingTested : List ℤ → ℤ → List ℤ → Tested → Listing
-unfolding listingGood
-listingTested lines number out (Refused r) = listing (unlisted (r .number) (r .place)) out
-listingTested lines number out (Good k) = listingGood k lines number out
-
-unfoldable pub listingOf : ℤ → ℤ → List ℤ → List ℤ → ℤ → List ℤ → Listing
-unfolding listingTested testOf
-listingOf b t held lines number out = listingTested lines number out (testOf b t held lines)
+unfoldable pub listingOf : Lent → ℤ → List ℤ → Listing
+unfolding listingGood testOf
+listingOf book number out =
+    ifGood (testOf book) (λ r. listing (unlisted (r .number) (r .place)) out)
+    (λ k. listingGood k (book .lines) number out)
 
 -- the lines of all loops, "loop by loop"
 unfoldable pub listingsGood : Book → List ℤ → List ℤ → Listing
 unfolding loopsOf listOf listings
 listingsGood k lines out = listOf (listings (loopsOf (k .marks) lines)) out
 
-unfoldable pub listingsTested : List ℤ → List ℤ → Tested → Listing
-unfolding listingsGood
-listingsTested lines out (Refused r) = listing (unlisted (r .number) (r .place)) out
-listingsTested lines out (Good k) = listingsGood k lines out
-
-unfoldable pub listingsOf : ℤ → ℤ → List ℤ → List ℤ → List ℤ → Listing
-unfolding listingsTested testOf
-listingsOf b t held lines out = listingsTested lines out (testOf b t held lines)
+unfoldable pub listingsOf : Lent → List ℤ → Listing
+unfolding listingsGood testOf
+listingsOf book out =
+    ifGood (testOf book) (λ r. listing (unlisted (r .number) (r .place)) out)
+    (λ k. listingsGood k (book .lines) out)

@@ -3,9 +3,8 @@
 use mathlib.Core.List.{List, map}
 use Prim.Native.Nat.{ℕ}
 use lib.IntN.{ℤ, pos}
-use Rattle.book.specs.Test.{testOf}
-use Rattle.book.specs.declared.Tested.{Tested}
-use Rattle.book.specs.declared.Tested.the-variants.{Good, Refused}
+use Rattle.book.specs.Lent.{Lent}
+use Rattle.book.specs.Test.{testOf, ifGood}
 use Rattle.network.specs.Standing.{standing}
 use Rattle.loops.specs.Checked.{notChecked}
 use Rattle.loops.specs.Report.{loopsOf}
@@ -16,11 +15,8 @@ unfoldable pub uncheckedOf : ℕ → List ℤ → List ℤ
 unfolding notChecked loopsOf standing
 uncheckedOf b lines = map pos (notChecked (loopsOf b lines) (standing lines))
 
-unfoldable pub notCheckedTested : List ℤ → List ℤ → Tested → Listing
-unfolding uncheckedOf listOf
-notCheckedTested lines out (Refused r) = listing (unlisted (r .number) (r .place)) out
-notCheckedTested lines out (Good k) = listOf (uncheckedOf (k .marks) lines) out
-
-unfoldable pub notCheckedOf : ℤ → ℤ → List ℤ → List ℤ → List ℤ → Listing
-unfolding notCheckedTested testOf
-notCheckedOf b t held lines out = notCheckedTested lines out (testOf b t held lines)
+unfoldable pub notCheckedOf : Lent → List ℤ → Listing
+unfolding uncheckedOf listOf testOf
+notCheckedOf book out =
+    ifGood (testOf book) (λ r. listing (unlisted (r .number) (r .place)) out)
+    (λ k. listOf (uncheckedOf (k .marks) (book .lines)) out)

@@ -1,5 +1,6 @@
 // The lists of a lent book: the lines of a loop, the lines of all loops, and the lines that are not checked.
 ghost use mathlib.Core.Path.{_≡_};
+ghost use Rattle.book.specs.Lent.{lent};
 ghost use Rattle.lists.specs.Listing.{listing, unlisted, entered, listingOf, listingsOf};
 ghost use Rattle.lists.specs.NotChecked.{notCheckedOf};
 
@@ -38,7 +39,8 @@ pub(crate) fn entered(entries: usize) -> Listed
 
 // The lines of one loop of the book, by the loop's number from 1, its closing line first. A refusal leaves the output as it was.
 pub fn listing(b: i64, t: i64, held: &[i64], lines: &[i64], number: i64, out: &mut [i64]) -> Listed
-    ensures { λ r. ⌜ listing r (now (out .exit)) ≡ listingOf b t (now (held .entry)) (now (lines .entry)) number (now (out .entry)) ⌝ }
+    ensures { λ r. ⌜ listing r (now (out .exit))
+        ≡ listingOf (lent b t (now (held .entry)) (now (lines .entry))) number (now (out .entry)) ⌝ }
 {
     match book::test(b, t, held, lines) {
         Tested::Refused(r) => unlisted(r.number, r.place),
@@ -49,7 +51,7 @@ pub fn listing(b: i64, t: i64, held: &[i64], lines: &[i64], number: i64, out: &m
 // The lines of all loops of the book, one loop after the other, each as its listing has them; the count of a loop's lines is the second number of
 // its row. A refusal leaves the output as it was.
 pub fn listings(b: i64, t: i64, held: &[i64], lines: &[i64], out: &mut [i64]) -> Listed
-    ensures { λ r. ⌜ listing r (now (out .exit)) ≡ listingsOf b t (now (held .entry)) (now (lines .entry)) (now (out .entry)) ⌝ }
+    ensures { λ r. ⌜ listing r (now (out .exit)) ≡ listingsOf (lent b t (now (held .entry)) (now (lines .entry))) (now (out .entry)) ⌝ }
 {
     match book::test(b, t, held, lines) {
         Tested::Refused(r) => unlisted(r.number, r.place),
@@ -59,7 +61,7 @@ pub fn listings(b: i64, t: i64, held: &[i64], lines: &[i64], out: &mut [i64]) ->
 
 // The standing lines that no closed circuit passes, by rising number. A refusal leaves the output as it was.
 pub fn not_checked(b: i64, t: i64, held: &[i64], lines: &[i64], out: &mut [i64]) -> Listed
-    ensures { λ r. ⌜ listing r (now (out .exit)) ≡ notCheckedOf b t (now (held .entry)) (now (lines .entry)) (now (out .entry)) ⌝ }
+    ensures { λ r. ⌜ listing r (now (out .exit)) ≡ notCheckedOf (lent b t (now (held .entry)) (now (lines .entry))) (now (out .entry)) ⌝ }
 {
     match book::test(b, t, held, lines) {
         Tested::Refused(r) => unlisted(r.number, r.place),

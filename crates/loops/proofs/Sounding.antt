@@ -8,6 +8,7 @@ use lib.IntN.{ℤ, pos, natAbs}
 use lib.ListN.{length}
 use Rattle.laws.specs.Range.{Between}
 use Rattle.book.specs.Limits.{mostLines, mostDifference, mostLength}
+use Rattle.book.specs.Lent.{Lent}
 use Rattle.book.specs.Good.{GoodLine, GoodBook, GoodLines}
 use Rattle.book.specs.declared.Book.{Book}
 use Rattle.book.proofs.Goods.{good-lines}
@@ -60,5 +61,5 @@ module _ (k : Book) (lines : List ℤ) (good : GoodLines k lines) where
   report-length = omega (arith, rows-length (k .tolerance) (loopsOf (k .marks) lines))
 
 -- so are those of a book that passes the test
-pub good-sound : (k : Book) (b t : ℤ) (held lines : List ℤ) → GoodBook k b t held lines → Sound (k .marks) (standing lines)
-good-sound k b t held lines good = lines-sound k lines (good-lines k b t held lines good)
+pub good-sound : (k : Book) (book : Lent) → GoodBook k book → Sound (k .marks) (standing (book .lines))
+good-sound k book good = lines-sound k (book .lines) (good-lines k book good)

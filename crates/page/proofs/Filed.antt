@@ -5,19 +5,19 @@ use mathlib.Core.Path.{_≡_, refl, sym, _∙_, ap, subst}
 use mathlib.Core.Bool.{cond}
 use mathlib.Core.List.{List}
 use lib.Dec.{eqb}
-use lib.IntN.{ℤ, pos}
+use lib.IntN.{ℤ}
 use lib.ListN.{length, take, drop}
 use lib.Seq.{take-at}
 use borrow.Author.Tests.{ne-eqb, le-ltb}
 use Rattle.book.specs.Line.{lineWords}
 use Rattle.book.specs.Held.{heldWords}
 use Rattle.book.specs.Limits.{mostLines, mostHeld}
-use Rattle.book.specs.Test.{testOf}
+use Rattle.book.specs.Test.{testOf, ifGood}
 use Rattle.book.specs.declared.Book.{Book}
 use Rattle.book.specs.declared.Tested.{Tested}
 use Rattle.book.specs.declared.Tested.the-variants.{Good, Refused}
 use Rattle.book.proofs.Goods.{tested-numbered}
-use Rattle.file.specs.Read.{Outcome, headOf, heldOf, linesOf, roomOf, testedOf, bodyOf, afterHead, readOf}
+use Rattle.file.specs.Read.{Outcome, answered, refusal, headOf, linesOf, bookIn, roomOf, bodyOf, afterHead, readOf}
 use Rattle.file.specs.Owed.{BookRead}
 use Rattle.file.specs.declared.Head as head
 use Rattle.file.specs.declared.Head.{Head}
@@ -29,7 +29,7 @@ use Rattle.file.proofs.Reading.{zero-is-read}
 use Rattle.book.specs.Good.{GoodLines}
 use Rattle.book.proofs.Goods.{good-lines}
 use Rattle.text.specs.Report.{refusedText}
-use Rattle.page.specs.Page.{bookPage, testedPage, statedPage, pageOf}
+use Rattle.page.specs.Page.{bookPage, statedPage, pageOf}
 
 -- of what was read: the book's report, or the refusal's line
 unfoldable pub readPage : Outcome → List ℕ
@@ -51,14 +51,15 @@ module _ (file : List ℕ) (held lines : List ℤ) (held-room : mostHeld * heldW
   )
 
   body-page : (k : Book) → k .held ≤ mostHeld → k .lines ≤ mostLines
-      → readPage (bodyOf file k held lines) ≡ testedPage k (linesOf file (k .held) (k .lines)) (testOf (pos (k .marks)) (pos (k .tolerance)) (heldOf file (k .held)) (linesOf file (k .held) (k .lines)))
-  unfolding readPage bodyOf testedOf testedPage
-  body-page k h n = go (testOf (pos (k .marks)) (pos (k .tolerance)) (heldOf file (k .held)) (linesOf file (k .held) (k .lines))) refl
+      → readPage (bodyOf file k held lines) ≡ statedPage file (head.the-variants.States k)
+  unfolding readPage bodyOf statedPage
+  body-page k h n = go (testOf (bookIn file k)) refl
     where
-      go : (o : Tested) → testOf (pos (k .marks)) (pos (k .tolerance)) (heldOf file (k .held)) (linesOf file (k .held) (k .lines)) ≡ o
-          → readPage (testedOf file k held lines o) ≡ testedPage k (linesOf file (k .held) (k .lines)) o
+      go : (o : Tested) → testOf (bookIn file k) ≡ o
+          → readPage (ifGood o (λ r. answered held lines (refusal (r .number) (r .place))) (λ _. roomOf file k held lines))
+          ≡ ifGood o (λ r. refusedText (r .number) (r .place)) (λ _. bookPage (k .marks) (k .tolerance) (k .lines) (linesOf file (k .held) (k .lines)))
       go (Refused r) e =
-          let w = tested-numbered (pos (k .marks)) (pos (k .tolerance)) (heldOf file (k .held)) (linesOf file (k .held) (k .lines)) r e in
+          let w = tested-numbered (bookIn file k) r e in
           rw (ne-eqb (r .number) 0 (λ z. omega (arith, w .low)))
       go (Good book) e = room-page k h n
 
@@ -97,7 +98,7 @@ module _ (file : List ℕ) (held lines : List ℤ) (held-room : mostHeld * heldW
 
       pub good-read : GoodLines (record { marks = o .answer .b; tolerance = o .answer .t; held = o .answer .h; lines = o .answer .n }) (take (o .answer .n * 5) (o .lines))
       good-read = subst (λ (x : ReadAnswer). GoodLines (record { marks = x .b; tolerance = x .t; held = x .h; lines = x .n }) (take (x .n * 5) (o .lines))) (sym (r .answer))
-          (subst (λ (l : List ℤ). GoodLines (r .book) l) (sym lines-are) (good-lines (r .book) (pos (r .book .marks)) (pos (r .book .tolerance)) (heldOf file (r .book .held)) (linesOf file (r .book .held) (r .book .lines)) (r .good)))
+          (subst (λ (l : List ℤ). GoodLines (r .book) l) (sym lines-are) (good-lines (r .book) (bookIn file (r .book)) (r .good)))
 
       pub book-page : bookPage (o .answer .b) (o .answer .t) (o .answer .n) (take (o .answer .n * 5) (o .lines)) ≡ pageOf file
       unfolding readPage

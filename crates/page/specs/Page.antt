@@ -4,11 +4,8 @@ use mathlib.Core.List.{List, [], _∷_, _++_, map}
 use Prim.Native.Nat.{ℕ, suc}
 use lib.IntN.{ℤ, pos}
 use lib.ListN.{length}
-use Rattle.book.specs.Test.{testOf}
-use Rattle.book.specs.declared.Book.{Book}
-use Rattle.book.specs.declared.Tested.{Tested}
-use Rattle.book.specs.declared.Tested.the-variants.{Good, Refused}
-use Rattle.file.specs.Read.{headOf, heldOf, linesOf}
+use Rattle.book.specs.Test.{testOf, ifGood}
+use Rattle.file.specs.Read.{headOf, heldOf, linesOf, bookIn}
 use Rattle.file.specs.declared.Head as head
 use Rattle.file.specs.declared.Head.{Head}
 use Rattle.network.specs.Path.{wayLength}
@@ -40,17 +37,12 @@ unfolding loopsPage notCheckedText uncheckedOf
 bookPage b t n lines = loopsPage b t n lines ++ notCheckedText (uncheckedOf b lines)
 
 -- of a file's book, by the test of every call: its report, or "for a refused file .. one line instead"
-unfoldable pub testedPage : Book → List ℤ → Tested → List ℕ
-unfolding bookPage refusedText
-testedPage k lines (Refused r) = refusedText (r .number) (r .place)
-testedPage k lines (Good book) = bookPage (k .marks) (k .tolerance) (k .lines) lines
-
 unfoldable pub statedPage : List ℕ → Head → List ℕ
-unfolding testedPage refusedText testOf heldOf linesOf
+unfolding bookPage refusedText testOf heldOf linesOf
 statedPage file (head.the-variants.Refused number) = refusedText number 0
 statedPage file (head.the-variants.States k) =
-    let lines = linesOf file (k .held) (k .lines) in
-    testedPage k lines (testOf (pos (k .marks)) (pos (k .tolerance)) (heldOf file (k .held)) lines)
+    ifGood (testOf (bookIn file k)) (λ r. refusedText (r .number) (r .place))
+    (λ _. bookPage (k .marks) (k .tolerance) (k .lines) (linesOf file (k .held) (k .lines)))
 
 -- of a file
 unfoldable pub pageOf : List ℕ → List ℕ

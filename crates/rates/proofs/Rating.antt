@@ -1,8 +1,8 @@
 -- The rate call: what its tests tell.
 -- Assumes nothing.
 use Prim.Native.Nat.{ℕ, _≤_, zero-le}
-use mathlib.Core.Path.{_≡_, refl, sym, _∙_, ap, subst}
-use mathlib.Core.Bool.{Bool, true, false, cond}
+use mathlib.Core.Path.{_≡_, refl, subst}
+use mathlib.Core.Bool.{Bool, true, false}
 use mathlib.Core.List.{List}
 use lib.Dec.{ltb}
 use lib.ListN.{length, getD}
@@ -13,9 +13,10 @@ use Rattle.laws.proofs.Scans.{none-bad}
 use Rattle.laws.proofs.Size.{size-within}
 use Rattle.book.specs.Limits.{mostHeight}
 use Rattle.book.specs.Height.{workHeightOut}
+use Rattle.book.specs.Lent.{Lent}
 use Rattle.book.specs.Test.{testOf}
 use Rattle.fields.specs.Heights.{Working}
-use Rattle.rates.specs.Rates.{firstHigh, refusedRate, goodRate, testedRate, rateAnswer}
+use Rattle.rates.specs.Rates.{firstHigh, refusedRate, goodRate, rateAnswer}
 use Rattle.book.specs.declared.Book.{Book}
 use Rattle.book.specs.declared.Refusal.{Refusal}
 use Rattle.book.specs.declared.Tested.the-variants.{Good, Refused}
@@ -33,22 +34,22 @@ working-lent hs b e z = record { all = e; inside = λ j. by j (ltb j (length hs)
     by j false t = rw (past-end hs j (ltb-false j (length hs) t)) zero-le
 
 -- b heights
-pub marks-of : (b t : ℤ) (held lines : List ℤ) (k : Book) → testOf b t held lines ≡ Good k → (n : ℕ) → eqZ (pos n) b ≡ true → n ≡ k .marks
+pub marks-of : (book : Lent) (k : Book) → testOf book ≡ Good k → (n : ℕ) → eqZ (pos n) (book .b) ≡ true → n ≡ k .marks
 unfolding eqZ
-marks-of b t held lines k e n q =
-    let g = tested-good b t held lines k e in
+marks-of book k e n q =
+    let g = tested-good book k e in
     eqb-true n (k .marks) (subst (λ (z : ℤ). eqZ (pos n) z ≡ true) (g .marks) q)
 
 -- the answer by the tests
-module _ (b t : ℤ) (held lines heights : List ℤ) (line : ℤ) (r : RateAnswer) where
-  pub rate-four : eqZ (pos (length heights)) b ≡ false → r ≡ refusedRate 4 0 → r ≡ rateAnswer b t held lines heights line
+module _ (book : Lent) (heights : List ℤ) (line : ℤ) (r : RateAnswer) where
+  pub rate-four : eqZ (pos (length heights)) (book .b) ≡ false → r ≡ refusedRate 4 0 → r ≡ rateAnswer book heights line
   unfolding rateAnswer
   rate-four q e = rw q e
 
-  pub rate-refused : eqZ (pos (length heights)) b ≡ true → (f : Refusal) → testOf b t held lines ≡ Refused f → r ≡ refusedRate (f .number) (f .place) → r ≡ rateAnswer b t held lines heights line
+  pub rate-refused : eqZ (pos (length heights)) (book .b) ≡ true → (f : Refusal) → testOf book ≡ Refused f → r ≡ refusedRate (f .number) (f .place) → r ≡ rateAnswer book heights line
   unfolding rateAnswer
-  rate-refused q f h e = e ∙ sym (ap (λ (x : Bool). cond x (testedRate heights lines line (testOf b t held lines)) (refusedRate 4 0)) q ∙ ap (testedRate heights lines line) h)
+  rate-refused q f h e = rw (q, h) e
 
-  pub rate-good : eqZ (pos (length heights)) b ≡ true → (k : Book) → testOf b t held lines ≡ Good k → r ≡ goodRate heights lines k line → r ≡ rateAnswer b t held lines heights line
+  pub rate-good : eqZ (pos (length heights)) (book .b) ≡ true → (k : Book) → testOf book ≡ Good k → r ≡ goodRate heights (book .lines) k line → r ≡ rateAnswer book heights line
   unfolding rateAnswer
-  rate-good q k h e = e ∙ sym (ap (λ (x : Bool). cond x (testedRate heights lines line (testOf b t held lines)) (refusedRate 4 0)) q ∙ ap (testedRate heights lines line) h)
+  rate-good q k h e = rw (q, h) e

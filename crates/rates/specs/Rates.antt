@@ -13,12 +13,11 @@ use Rattle.laws.specs.Range.{Between}
 use Rattle.book.specs.Limits.{mostDifference}
 use Rattle.book.specs.Line.{lengthAt, standingAt, lineAt}
 use Rattle.book.specs.Height.{workHeightOut}
-use Rattle.book.specs.Test.{testOf}
+use Rattle.book.specs.Lent.{Lent}
+use Rattle.book.specs.Test.{testOf, ifGood}
 use Rattle.fields.specs.Heights.{height}
 use Rattle.book.specs.declared.Book.{Book}
-use Rattle.book.specs.declared.Tested.{Tested}
 use Rattle.book.specs.declared.line.Line.{Line}
-use Rattle.book.specs.declared.Tested.the-variants.{Good, Refused}
 use Rattle.rates.specs.declared.Rate.{Rate}
 use Rattle.rates.specs.declared.Rate.the-variants.{PerKm, Withdrawn}
 use Rattle.rates.specs.declared.RateRow.{RateRow}
@@ -72,11 +71,10 @@ goodRate heights lines book line =
     cond (outZ (pos 1) (pos (book .lines)) line) (refusedRate 8 0)
     (cond (ltb 0 (firstHigh heights)) (refusedRate 13 (firstHigh heights)) (lineRate heights lines (natAbs line) (natAbs line - 1)))
 
-abbrev pub testedRate : List ℤ → List ℤ → ℤ → Tested → RateAnswer
-testedRate heights lines line (Refused r) = refusedRate (r .number) (r .place)
-testedRate heights lines line (Good book) = goodRate heights lines book line
-
 -- 4: "heights lent to be read not b in number"; then the book's own refusals
-unfoldable pub rateAnswer : ℤ → ℤ → List ℤ → List ℤ → List ℤ → ℤ → RateAnswer
+unfoldable pub rateAnswer : Lent → List ℤ → ℤ → RateAnswer
 unfolding refusedRate goodRate testOf
-rateAnswer b t held lines heights line = cond (eqZ (pos (length heights)) b) (testedRate heights lines line (testOf b t held lines)) (refusedRate 4 0)
+rateAnswer book heights line =
+    cond (eqZ (pos (length heights)) (book .b))
+    (ifGood (testOf book) (λ r. refusedRate (r .number) (r .place)) (λ k. goodRate heights (book .lines) k line))
+    (refusedRate 4 0)

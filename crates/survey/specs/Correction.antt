@@ -7,10 +7,9 @@ use lib.ListN.{length, drop, set, replicate}
 use lib.IntN.{ℤ, pos, natAbs}
 use Rattle.laws.specs.Tests.{outZ, eqZ}
 use Rattle.book.specs.Line.{lineWords, differenceField, standingField, lineCount, standingAt, differenceOut}
-use Rattle.book.specs.Test.{testOf}
+use Rattle.book.specs.Lent.{Lent}
+use Rattle.book.specs.Test.{testOf, ifGood}
 use Rattle.book.specs.declared.Book.{Book}
-use Rattle.book.specs.declared.Tested.{Tested}
-use Rattle.book.specs.declared.Tested.the-variants.{Good, Refused}
 unfoldable pub use Rattle.kept.specs.Other.{sameNumbers, otherReport}
 use Rattle.loops.specs.Report.{reportOf}
 use Rattle.survey.specs.Report.{refusal, counted}
@@ -43,10 +42,12 @@ correctGood k lines report number new =
     (cond (otherReport report before) (corrected (refusal 9 0) lines report)
     (corrected (counted (k .marks) new) new (updated report before (reportOf (k .marks) (k .tolerance) new))))
 
-unfoldable pub correctTested : List ℤ → List ℤ → ℤ → List ℤ → Tested → Corrected
-unfolding correctGood
-correctTested lines report number new (Refused r) = corrected (refusal (r .number) (r .place)) lines report
-correctTested lines report number new (Good k) = correctGood k lines report number new
+-- and of a lent book's
+unfoldable pub correctOf : Lent → List ℤ → ℤ → List ℤ → Corrected
+unfolding correctGood testOf
+correctOf book report number new =
+    ifGood (testOf book) (λ r. corrected (refusal (r .number) (r .place)) (book .lines) report)
+    (λ k. correctGood k (book .lines) report number new)
 
 -- the place in the slice of a line's k-th number, by the line's number from 1
 abbrev pub placeOf : ℤ → ℕ → ℕ
@@ -61,12 +62,12 @@ unfoldable pub withdrawLines : List ℤ → ℤ → List ℤ
 withdrawLines lines number = set lines (placeOf number standingField) (pos 0)
 
 -- 4 is also "a new difference outside its limit"
-unfoldable pub rerunOf : ℤ → ℤ → List ℤ → List ℤ → List ℤ → ℤ → ℤ → Corrected
-unfolding correctTested testOf rerunLines differenceOut
-rerunOf b t held lines report number difference =
-    cond (differenceOut difference) (corrected (refusal 4 0) lines report)
-    (correctTested lines report number (rerunLines lines number difference) (testOf b t held lines))
+unfoldable pub rerunOf : Lent → List ℤ → ℤ → ℤ → Corrected
+unfolding correctOf rerunLines differenceOut
+rerunOf book report number difference =
+    cond (differenceOut difference) (corrected (refusal 4 0) (book .lines) report)
+    (correctOf book report number (rerunLines (book .lines) number difference))
 
-unfoldable pub withdrawOf : ℤ → ℤ → List ℤ → List ℤ → List ℤ → ℤ → Corrected
-unfolding correctTested testOf withdrawLines
-withdrawOf b t held lines report number = correctTested lines report number (withdrawLines lines number) (testOf b t held lines)
+unfoldable pub withdrawOf : Lent → List ℤ → ℤ → Corrected
+unfolding correctOf withdrawLines
+withdrawOf book report number = correctOf book report number (withdrawLines (book .lines) number)

@@ -5,10 +5,9 @@ use mathlib.Core.List.{List, _++_}
 use lib.Dec.{ltb}
 use lib.ListN.{length, drop}
 use lib.IntN.{ℤ}
-use Rattle.book.specs.Test.{testOf}
+use Rattle.book.specs.Lent.{Lent}
+use Rattle.book.specs.Test.{testOf, ifGood}
 use Rattle.book.specs.declared.Book.{Book}
-use Rattle.book.specs.declared.Tested.{Tested}
-use Rattle.book.specs.declared.Tested.the-variants.{Good, Refused}
 use Rattle.loops.specs.Report.{reportOf}
 use Rattle.survey.specs.Report.{refusal, counted}
 use Rattle.survey.specs.declared.Answer.{Answer}
@@ -29,11 +28,8 @@ surveyGood k lines out =
     cond (ltb (length out) (length report)) (surveyed (refusal 10 0) out)
     (surveyed (counted (k .marks) lines) (report ++ drop (length report) out))
 
-unfoldable pub surveyTested : List ℤ → List ℤ → Tested → Surveyed
-unfolding surveyGood
-surveyTested lines out (Refused r) = surveyed (refusal (r .number) (r .place)) out
-surveyTested lines out (Good k) = surveyGood k lines out
-
-unfoldable pub surveyOf : ℤ → ℤ → List ℤ → List ℤ → List ℤ → Surveyed
-unfolding surveyTested testOf
-surveyOf b t held lines out = surveyTested lines out (testOf b t held lines)
+unfoldable pub surveyOf : Lent → List ℤ → Surveyed
+unfolding surveyGood testOf
+surveyOf book out =
+    ifGood (testOf book) (λ r. surveyed (refusal (r .number) (r .place)) out)
+    (λ k. surveyGood k (book .lines) out)

@@ -1,5 +1,6 @@
 // The public calls on a lent book and its report: survey, re-run and withdrawal.
 ghost use mathlib.Core.Path.{_≡_};
+ghost use Rattle.book.specs.Lent.{lent};
 ghost use Rattle.survey.specs.Report.{refusal, countOf};
 ghost use Rattle.survey.specs.Survey.{surveyed, surveyOf};
 ghost use Rattle.survey.specs.Correction.{corrected, rerunOf, withdrawOf};
@@ -43,7 +44,7 @@ pub(crate) fn count_of(found: Found) -> Answer
 
 // The loops of the book as rows. A refusal leaves the rows as they were.
 pub fn survey(b: i64, t: i64, held: &[i64], lines: &[i64], rows: &mut [i64]) -> Answer
-    ensures { λ r. ⌜ surveyed r (now (rows .exit)) ≡ surveyOf b t (now (held .entry)) (now (lines .entry)) (now (rows .entry)) ⌝ }
+    ensures { λ r. ⌜ surveyed r (now (rows .exit)) ≡ surveyOf (lent b t (now (held .entry)) (now (lines .entry))) (now (rows .entry)) ⌝ }
 {
     match book::test(b, t, held, lines) {
         Tested::Refused(r) => refuse(r.number, r.place),
@@ -61,7 +62,8 @@ pub fn rerun(
     line: i64,
     difference: i64,
 ) -> Answer
-    ensures { λ r. ⌜ corrected r (now (lines .exit)) (now (report .exit)) ≡ rerunOf b t (now (held .entry)) (now (lines .entry)) (now (report .entry)) line difference ⌝ }
+    ensures { λ r. ⌜ corrected r (now (lines .exit)) (now (report .exit))
+        ≡ rerunOf (lent b t (now (held .entry)) (now (lines .entry))) (now (report .entry)) line difference ⌝ }
 {
     if Line::outside_difference(difference) {
         return refuse(4, 0);
@@ -81,7 +83,8 @@ pub fn withdraw(
     report: &mut [i64],
     line: i64,
 ) -> Answer
-    ensures { λ r. ⌜ corrected r (now (lines .exit)) (now (report .exit)) ≡ withdrawOf b t (now (held .entry)) (now (lines .entry)) (now (report .entry)) line ⌝ }
+    ensures { λ r. ⌜ corrected r (now (lines .exit)) (now (report .exit))
+        ≡ withdrawOf (lent b t (now (held .entry)) (now (lines .entry))) (now (report .entry)) line ⌝ }
 {
     match book::test(b, t, held, lines) {
         Tested::Refused(r) => refuse(r.number, r.place),

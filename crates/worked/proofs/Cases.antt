@@ -20,6 +20,7 @@ use Rattle.rates.specs.Rates.{quotient, rateAnswer}
 use Rattle.rates.specs.declared.Rate.{Rate}
 use Rattle.rates.specs.declared.Rate.the-variants.{PerKm, Withdrawn}
 use Rattle.rates.specs.declared.RateAnswer.{RateAnswer}
+use Rattle.book.specs.Lent.{Lent, lent, withLines}
 use Rattle.book.specs.Height.{workHeightOut}
 use Rattle.worked.specs.Network.{line, lines, held}
 
@@ -66,6 +67,10 @@ ofRate Withdrawn = []
 abbrev ofRateAnswer : RateAnswer → List (List ℤ)
 ofRateAnswer r = (pos (r .number) ∷ pos (r .place) ∷ pos (r .line) ∷ r .correction ∷ []) ∷ ofRate (r .rate) ∷ []
 
+-- the book above
+abbrev book : Lent
+book = lent (pos 5) (pos 120) held lines
+
 -- the morning's report
 report : List ℤ
 report = row 6 3 4450 (minus 40000) 1 ++ row 4 3 7600 (minus 5000) 0 ++ row 3 4 6750 (pos 65000) 1
@@ -86,39 +91,39 @@ withdrawn from to difference length = pos from ∷ pos to ∷ pos difference ∷
 -- two lines of 500 m between two marks, surveyed at t = 40: one loop of 1,000 m with the misclosure m
 edge : ℤ → List (List ℤ)
 unfolding surveyOf
-edge m = ofSurvey (surveyOf (pos 2) (pos 40) [] (line 1 2 0 500 ++ (pos 1 ∷ pos 2 ∷ m ∷ pos 500 ∷ pos 1 ∷ [])) (places 5))
+edge m = ofSurvey (surveyOf (lent (pos 2) (pos 40) [] (line 1 2 0 500 ++ (pos 1 ∷ pos 2 ∷ m ∷ pos 500 ∷ pos 1 ∷ []))) (places 5))
 
 pub cases : List Case
 unfolding lines held report lineSix lineThree withdrawn edge surveyOf listingOf notCheckedOf rerunOf withdrawOf withdrawLines tree treeLines network.standing outZ outN eqZ firstFrom firstBad anyBelow rateAnswer workHeightOut quotient div ofInt round units odd size climb span
 cases =
     -- (a) the three loops
-    case (ofSurvey (surveyOf (pos 5) (pos 120) held lines (places 15))) (answer 3 1 ∷ report ∷ [])
-    ∷ case (ofListing (listingOf (pos 5) (pos 120) held lines (pos 1) (places 3))) ((pos 0 ∷ pos 0 ∷ pos 3 ∷ []) ∷ (pos 6 ∷ minus 1 ∷ pos 5 ∷ []) ∷ [])
-    ∷ case (ofListing (listingOf (pos 5) (pos 120) held lines (pos 2) (places 3))) ((pos 0 ∷ pos 0 ∷ pos 3 ∷ []) ∷ (pos 4 ∷ pos 5 ∷ minus 7 ∷ []) ∷ [])
-    ∷ case (ofListing (listingOf (pos 5) (pos 120) held lines (pos 3) (places 4))) ((pos 0 ∷ pos 0 ∷ pos 4 ∷ []) ∷ (pos 3 ∷ pos 2 ∷ minus 6 ∷ minus 7 ∷ []) ∷ [])
-    ∷ case (ofListing (notCheckedOf (pos 5) (pos 120) held lines [])) ((pos 0 ∷ pos 0 ∷ pos 0 ∷ []) ∷ [] ∷ [])
+    case (ofSurvey (surveyOf book (places 15))) (answer 3 1 ∷ report ∷ [])
+    ∷ case (ofListing (listingOf book (pos 1) (places 3))) ((pos 0 ∷ pos 0 ∷ pos 3 ∷ []) ∷ (pos 6 ∷ minus 1 ∷ pos 5 ∷ []) ∷ [])
+    ∷ case (ofListing (listingOf book (pos 2) (places 3))) ((pos 0 ∷ pos 0 ∷ pos 3 ∷ []) ∷ (pos 4 ∷ pos 5 ∷ minus 7 ∷ []) ∷ [])
+    ∷ case (ofListing (listingOf book (pos 3) (places 4))) ((pos 0 ∷ pos 0 ∷ pos 4 ∷ []) ∷ (pos 3 ∷ pos 2 ∷ minus 6 ∷ minus 7 ∷ []) ∷ [])
+    ∷ case (ofListing (notCheckedOf book [])) ((pos 0 ∷ pos 0 ∷ pos 0 ∷ []) ∷ [] ∷ [])
     -- (b) tree 1, 5, 7, 2 in that order
     ∷ case (map pos (numbers (treeLines (tree 5 (network.standing lines)))) ∷ []) ((pos 1 ∷ pos 5 ∷ pos 7 ∷ pos 2 ∷ []) ∷ [])
     -- (c) re-run of 6 to 2,428,000: only loop 1's verdict changes
-    ∷ case (ofCorrection (rerunOf (pos 5) (pos 120) held lines report (pos 6) (pos 2428000)))
+    ∷ case (ofCorrection (rerunOf book report (pos 6) (pos 2428000)))
     (answer 3 1 ∷ lineSix (line 4 3 2428000 1250) ∷ (row 6 3 4450 (minus 22000) 0 ++ row 4 3 7600 (minus 5000) 0 ++ row 3 4 6750 (pos 47000) 1) ∷ [])
     -- (d) withdraw 6: rows for 4 (unchanged) and 3, the vacated row zeros
-    ∷ case (ofCorrection (withdrawOf (pos 5) (pos 120) held lines report (pos 6)))
+    ∷ case (ofCorrection (withdrawOf book report (pos 6)))
     (answer 2 1 ∷ lineSix (withdrawn 4 3 2410000 1250) ∷ (row 4 3 7600 (minus 5000) 0 ++ row 3 5 8700 (pos 25000) 0 ++ places 5) ∷ [])
-    ∷ case (ofListing (listingOf (pos 5) (pos 120) held (withdrawLines lines (pos 6)) (pos 2) (places 5)))
+    ∷ case (ofListing (listingOf (withLines book (withdrawLines lines (pos 6))) (pos 2) (places 5)))
     ((pos 0 ∷ pos 0 ∷ pos 5 ∷ []) ∷ (pos 3 ∷ pos 2 ∷ minus 1 ∷ pos 5 ∷ minus 7 ∷ []) ∷ [])
     -- (e) withdraw 3: two loops, line 2 not checked
-    ∷ case (ofCorrection (withdrawOf (pos 5) (pos 120) held lines report (pos 3)))
+    ∷ case (ofCorrection (withdrawOf book report (pos 3)))
     (answer 2 1 ∷ lineThree (withdrawn 5 2 3060000 1000) ∷ (row 6 3 4450 (minus 40000) 1 ++ row 4 3 7600 (minus 5000) 0 ++ places 5) ∷ [])
-    ∷ case (ofListing (notCheckedOf (pos 5) (pos 120) held (withdrawLines lines (pos 3)) (places 1))) ((pos 0 ∷ pos 0 ∷ pos 1 ∷ []) ∷ (pos 2 ∷ []) ∷ [])
+    ∷ case (ofListing (notCheckedOf (withLines book (withdrawLines lines (pos 3))) (places 1))) ((pos 0 ∷ pos 0 ∷ pos 1 ∷ []) ∷ (pos 2 ∷ []) ∷ [])
     -- (f) t = 40, L = 1000: m = 4000 within, -4000 within, 4001 over
     ∷ case (edge (pos 4000)) (answer 1 1 ∷ row 2 2 1000 (pos 4000) 0 ∷ [])
     ∷ case (edge (minus 4000)) (answer 1 1 ∷ row 2 2 1000 (minus 4000) 0 ∷ [])
     ∷ case (edge (pos 4001)) (answer 1 1 ∷ row 2 2 1000 (pos 4001) 1 ∷ [])
     -- (g) n = 0: no loop, b pieces
-    ∷ case (ofSurvey (surveyOf (pos 5) (pos 120) held [] [])) (answer 0 5 ∷ [] ∷ [])
+    ∷ case (ofSurvey (surveyOf (withLines book []) [])) (answer 0 5 ∷ [] ∷ [])
     -- (h) rate of 500 over 2000 m is 0.25: line 7, between marks 5 at 0 and 4 at its difference and 500 more
-    ∷ case (ofRateAnswer (rateAnswer (pos 5) (pos 120) held lines (pos 0 ∷ pos 0 ∷ pos 0 ∷ pos 4820500 ∷ pos 0 ∷ []) (pos 7)))
+    ∷ case (ofRateAnswer (rateAnswer book (pos 0 ∷ pos 0 ∷ pos 0 ∷ pos 4820500 ∷ pos 0 ∷ []) (pos 7)))
     ((pos 0 ∷ pos 0 ∷ pos 7 ∷ pos 500 ∷ []) ∷ (pos 0 ∷ pos 1 ∷ minus 2 ∷ []) ∷ []) ∷ []
 
 abbrev gives : List Case → List (List (List ℤ))

@@ -1,8 +1,8 @@
 use mathlib.Core.Path.{_≡_, sym, _∙_}
+use Rattle.book.specs.Lent.{lent}
 use Rattle.book.specs.Test.{testOf}
 use Rattle.book.proofs.Goods.{tested-good}
-use Rattle.adjust.specs.Call.{adjustTested, adjustOf}
-use Rattle.adjust.proofs.Calling.{good-entries}
+use Rattle.adjust.proofs.Calling.{good-entries, by-refusal, by-good-book}
 use borrow.Author.Needs.{needs}
 use Rattle.adjust.proofs.adjust.Statement.{statement}
 use Rattle.adjust.proofs.adjust.Tie as tie
@@ -20,7 +20,7 @@ enum-known-book : tie.Need-enum-known-book
 enum-known-book c = search needs
 
 -- what the test answered, at the numbers that were lent
-tested : (c : tie.After-test) → (let a = c .before .args in c .test .result ≡ testOf (a .b) (a .t) (a .held .now) (a .lines .now))
+tested : (c : tie.After-test) → (let a = c .before .args in c .test .result ≡ testOf (lent (a .b) (a .t) (a .held .now) (a .lines .now)))
 tested c = c .test .ensures ∙ search needs
 
 adjust-good-requires : tie.Need-adjust-good-requires
@@ -29,23 +29,23 @@ adjust-good-requires c κs =
     let entry : tie.Start = search in
     let g = c .before .before in
     let a = entry .args in
-    good-entries _ _ _ _ _ (tested-good (a .b) (a .t) (a .held .now) (a .lines .now) (g .book .given .0 .0) (sym (tested after-test) ∙ g .book .given .1))
+    good-entries _ _ (tested-good (lent (a .b) (a .t) (a .held .now) (a .lines .now)) (g .book .given .0 .0) (sym (tested after-test) ∙ g .book .given .1))
 
 returns : tie.Need-returns
-unfolding adjustOf adjustTested
 returns c =
     let after-test : tie.After-test = search in
-    rw (← (tested after-test), c .before .before .r .given .1, c .refuse .ensures)
+    let r = c .before .before .r .given in
+    rw (c .refuse .ensures) (sym (by-refusal _ _ (r .0 .0) (sym (tested after-test) ∙ r .1)))
 
 same-length : tie.Need-same-length
 same-length c = search needs
 
 returns-2 : tie.Need-returns-2
-unfolding adjustOf adjustTested
 returns-2 c =
     let after-book : tie.After-book = search in
     let after-test : tie.After-test = search in
-    rw (← (tested after-test), after-book .book .given .1) (c .before .adjust-good .ensures)
+    let k = after-book .book .given in
+    c .before .adjust-good .ensures ∙ sym (by-good-book _ _ (k .0 .0) (sym (tested after-test) ∙ k .1))
 
 pub adjust-spec : {M : Type 1} → statement M
 adjust-spec =

@@ -4,6 +4,7 @@ use lib.IntN.{pos}
 use mir.Facts.{toZ-ofZ}
 use Rattle.laws.specs.Tests.{eqZ}
 use Rattle.laws.proofs.Signed.{stored}
+use Rattle.book.specs.Lent.{lent}
 use Rattle.book.specs.Test.{testOf}
 use Rattle.fields.proofs.Stands.{lines-of}
 use Rattle.rates.proofs.Rating.{marks-of, rate-four, rate-refused, rate-good}
@@ -17,7 +18,7 @@ count-read c =
     let k = c .before .signed-count in
     sym (c .same .ensures ∙ rw (stored (k .result) (k .ok) (k .ensures), toZ-ofZ (s .fits .b)))
 
-test-read : (c : tie.After-test) → (let s : tie.Start = search in testOf (s .args .b) (s .args .t) (s .args .held .now) (s .args .lines .now) ≡ c .test .result)
+test-read : (c : tie.After-test) → (let s : tie.Start = search in testOf (lent (s .args .b) (s .args .t) (s .args .held .now) (s .args .lines .now)) ≡ c .test .result)
 test-read c =
     let s : tie.Start = search in
     sym (c .test .ensures ∙ rw (toZ-ofZ (s .fits .b), toZ-ofZ (s .fits .t)))
@@ -47,7 +48,7 @@ good-rate-requires c κs =
     let s : tie.Start = search in
     let k = c .before .tested2 .given in
     let e = test-read (c .before .before .before) ∙ k .1 in
-    (lines-of (s .args .b) (s .args .t) (s .args .held .now) (s .args .lines .now) (k .0 .0) e, marks-of (s .args .b) (s .args .t) (s .args .held .now) (s .args .lines .now) (k .0 .0) e (length (s .args .heights .now)) (count-read after-same ∙ then1 .if1 .taken))
+    (lines-of (lent (s .args .b) (s .args .t) (s .args .held .now) (s .args .lines .now)) (k .0 .0) e, marks-of (lent (s .args .b) (s .args .t) (s .args .held .now) (s .args .lines .now)) (k .0 .0) e (length (s .args .heights .now)) (count-read after-same ∙ then1 .if1 .taken))
 
 returns : tie.Need-returns
 returns c =
@@ -56,7 +57,7 @@ returns c =
     let after-same : tie.After-same = search in
     let s : tie.Start = search in
     let k = c .before .before .tested .given in
-    rate-refused (s .args .b) (s .args .t) (s .args .held .now) (s .args .lines .now) (s .args .heights .now) (s .args .line) (c .refuse .result) (count-read after-same ∙ then1 .if1 .taken) (k .0 .0) (test-read after-test ∙ k .1) (c .refuse .ensures)
+    rate-refused (lent (s .args .b) (s .args .t) (s .args .held .now) (s .args .lines .now)) (s .args .heights .now) (s .args .line) (c .refuse .result) (count-read after-same ∙ then1 .if1 .taken) (k .0 .0) (test-read after-test ∙ k .1) (c .refuse .ensures)
 
 returns-2 : tie.Need-returns-2
 returns-2 c =
@@ -65,7 +66,7 @@ returns-2 c =
     let after-same : tie.After-same = search in
     let s : tie.Start = search in
     let k = c .before .before .tested2 .given in
-    rate-good (s .args .b) (s .args .t) (s .args .held .now) (s .args .lines .now) (s .args .heights .now) (s .args .line) (c .good-rate .result) (count-read after-same ∙ then1 .if1 .taken) (k .0 .0) (test-read after-test ∙ k .1) (c .good-rate .ensures ∙ rw (toZ-ofZ (s .fits .line)))
+    rate-good (lent (s .args .b) (s .args .t) (s .args .held .now) (s .args .lines .now)) (s .args .heights .now) (s .args .line) (c .good-rate .result) (count-read after-same ∙ then1 .if1 .taken) (k .0 .0) (test-read after-test ∙ k .1) (c .good-rate .ensures ∙ rw (toZ-ofZ (s .fits .line)))
 
 refuse-requires-2 : tie.Need-refuse-requires-2
 refuse-requires-2 c κs = search needs
@@ -73,7 +74,7 @@ refuse-requires-2 c κs = search needs
 returns-3 : tie.Need-returns-3
 returns-3 c =
     let s : tie.Start = search in
-    rate-four (s .args .b) (s .args .t) (s .args .held .now) (s .args .lines .now) (s .args .heights .now) (s .args .line) (c .refuse2 .result) (count-read (c .before .before) ∙ c .before .if1 .left) (c .refuse2 .ensures)
+    rate-four (lent (s .args .b) (s .args .t) (s .args .held .now) (s .args .lines .now)) (s .args .heights .now) (s .args .line) (c .refuse2 .result) (count-read (c .before .before) ∙ c .before .if1 .left) (c .refuse2 .ensures)
 
 pub rate-spec : {M : Type 1} → statement M
 rate-spec =

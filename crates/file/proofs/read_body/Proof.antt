@@ -1,4 +1,4 @@
-use Rattle.file.specs.Read.{testedOf, bodyOf}
+use Rattle.file.specs.Read.{bodyOf}
 use borrow.Author.Needs.{needs}
 use Rattle.file.proofs.read_body.Statement.{statement}
 use Rattle.file.proofs.read_body.Tie as tie
@@ -19,7 +19,7 @@ fill-requires : tie.Need-fill-requires
 fill-requires c κs = search needs
 
 returns : tie.Need-returns
-unfolding bodyOf testedOf
+unfolding bodyOf
 returns c =
     let r = c .before .before in
     rw (← (r .before .before .tested .ensures), r .r .given .1, c .refuse .ensures)
@@ -31,7 +31,7 @@ same-length-2 : tie.Need-same-length-2
 same-length-2 c = search needs
 
 returns-2 : tie.Need-returns-2
-unfolding bodyOf testedOf
+unfolding bodyOf
 returns-2 c =
     let f = c .before .before in
     let g = f .before .before .before in

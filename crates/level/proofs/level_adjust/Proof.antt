@@ -1,4 +1,5 @@
 use mathlib.Core.Path.{_≡_, sym, _∙_, ap, subst}
+use Rattle.book.specs.Lent.{lent}
 use Rattle.adjust.specs.Call.{Given, adjustOf}
 use Rattle.level.specs.Heights.{SmallAdjusted, ofAdjust}
 use Rattle.level.proofs.Settled.{adjust-small}
@@ -10,7 +11,7 @@ adjust-requires : tie.Need-adjust-requires
 adjust-requires c κs = search needs
 
 -- what the call below answered, at the numbers that were lent
-called : (c : tie.After-adjust) → (let a = c .before .before .args in c .adjust .result ≡ adjustOf (a .b) (a .t) (a .held .now) (a .lines .now) (a .heights .now) .answer)
+called : (c : tie.After-adjust) → (let a = c .before .before .args in c .adjust .result ≡ adjustOf (lent (a .b) (a .t) (a .held .now) (a .lines .now)) (a .heights .now) .answer)
 called c = ap (λ (o : Given). o .answer) (c .adjust .ensures) ∙ search needs
 
 adjust-answer-requires : tie.Need-adjust-answer-requires
@@ -18,7 +19,7 @@ adjust-answer-requires c κs =
     let r = c .before in
     let s = r .before .before in
     let a = s .args in
-    subst SmallAdjusted (sym (called r)) (adjust-small (a .b) (a .t) (a .held .now) (a .lines .now) (a .heights .now))
+    subst SmallAdjusted (sym (called r)) (adjust-small (lent (a .b) (a .t) (a .held .now) (a .lines .now)) (a .heights .now))
 
 same-length : tie.Need-same-length
 same-length c = search needs

@@ -1,5 +1,6 @@
 use mathlib.Core.Path.{_≡_, sym, _∙_, ap, subst}
 use native.Mathlib.Omega.{arith}
+use Rattle.book.specs.Lent.{lent}
 use Rattle.lists.specs.Listing.{Listing, listingsOf}
 use Rattle.level.specs.Listings.{SmallListed, ofListing}
 use Rattle.level.proofs.Small.{listings-small}
@@ -11,7 +12,7 @@ listings-requires : tie.Need-listings-requires
 listings-requires c κs = search needs
 
 -- what the call below answered, at the numbers that were lent
-called : (c : tie.After-listings) → (let a = c .before .before .args in c .listings .result ≡ listingsOf (a .b) (a .t) (a .held .now) (a .lines .now) (a .out .now) .answer)
+called : (c : tie.After-listings) → (let a = c .before .before .args in c .listings .result ≡ listingsOf (lent (a .b) (a .t) (a .held .now) (a .lines .now)) (a .out .now) .answer)
 called c = ap (λ (o : Listing). o .answer) (c .listings .ensures) ∙ search needs
 
 listing-answer-requires : tie.Need-listing-answer-requires
@@ -19,7 +20,7 @@ listing-answer-requires c κs =
     let r = c .before in
     let s = r .before .before in
     let a = s .args in
-    subst SmallListed (sym (called r)) (listings-small (a .b) (a .t) (a .held .now) (a .lines .now) (a .out .now) (omega (arith, s .good)))
+    subst SmallListed (sym (called r)) (listings-small (lent (a .b) (a .t) (a .held .now) (a .lines .now)) (a .out .now) (omega (arith, s .good)))
 
 same-length : tie.Need-same-length
 same-length c = search needs

@@ -1,5 +1,6 @@
 use mathlib.Core.Path.{_≡_, sym, _∙_, ap, subst}
 use native.Mathlib.Omega.{arith}
+use Rattle.book.specs.Lent.{lent}
 use Rattle.lists.specs.Listing.{Listing}
 use Rattle.lists.specs.NotChecked.{notCheckedOf}
 use Rattle.level.specs.Listings.{SmallListed, ofListing}
@@ -12,7 +13,7 @@ not-checked-requires : tie.Need-not-checked-requires
 not-checked-requires c κs = search needs
 
 -- what the call below answered, at the numbers that were lent
-called : (c : tie.After-not-checked) → (let a = c .before .before .args in c .not-checked .result ≡ notCheckedOf (a .b) (a .t) (a .held .now) (a .lines .now) (a .out .now) .answer)
+called : (c : tie.After-not-checked) → (let a = c .before .before .args in c .not-checked .result ≡ notCheckedOf (lent (a .b) (a .t) (a .held .now) (a .lines .now)) (a .out .now) .answer)
 called c = ap (λ (o : Listing). o .answer) (c .not-checked .ensures) ∙ search needs
 
 listing-answer-requires : tie.Need-listing-answer-requires
@@ -20,7 +21,7 @@ listing-answer-requires c κs =
     let r = c .before in
     let s = r .before .before in
     let a = s .args in
-    subst SmallListed (sym (called r)) (not-checked-small (a .b) (a .t) (a .held .now) (a .lines .now) (a .out .now) (omega (arith, s .good)))
+    subst SmallListed (sym (called r)) (not-checked-small (lent (a .b) (a .t) (a .held .now) (a .lines .now)) (a .out .now) (omega (arith, s .good)))
 
 same-length : tie.Need-same-length
 same-length c = search needs

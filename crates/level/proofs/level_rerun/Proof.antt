@@ -1,4 +1,5 @@
 use mathlib.Core.Path.{_≡_, sym, _∙_, ap, subst}
+use Rattle.book.specs.Lent.{lent}
 use Rattle.survey.specs.Correction.{Corrected, rerunOf}
 use Rattle.level.specs.Answers.{SmallAnswer, ofCorrection}
 use Rattle.level.proofs.Small.{rerun-small}
@@ -10,14 +11,14 @@ rerun-requires : tie.Need-rerun-requires
 rerun-requires c κs = search needs
 
 -- what the call below answered, at the numbers that were lent
-called : (c : tie.After-rerun) → (let a = c .before .before .before .args in c .rerun .result ≡ rerunOf (a .b) (a .t) (a .held .now) (a .lines .now) (a .report .now) (a .line) (a .difference) .answer)
+called : (c : tie.After-rerun) → (let a = c .before .before .before .args in c .rerun .result ≡ rerunOf (lent (a .b) (a .t) (a .held .now) (a .lines .now)) (a .report .now) (a .line) (a .difference) .answer)
 called c = ap (λ (o : Corrected). o .answer) (c .rerun .ensures) ∙ search needs
 
 survey-answer-requires : tie.Need-survey-answer-requires
 survey-answer-requires c κs =
     let r = c .before .before in
     let a = r .before .before .before .args in
-    subst SmallAnswer (sym (called r)) (rerun-small (a .b) (a .t) (a .held .now) (a .lines .now) (a .report .now) (a .line) (a .difference))
+    subst SmallAnswer (sym (called r)) (rerun-small (lent (a .b) (a .t) (a .held .now) (a .lines .now)) (a .report .now) (a .line) (a .difference))
 
 same-length : tie.Need-same-length
 same-length c = search needs

@@ -1,4 +1,5 @@
 use mathlib.Core.Path.{_≡_, sym, _∙_, ap, subst}
+use Rattle.book.specs.Lent.{lent}
 use Rattle.survey.specs.Survey.{Surveyed, surveyOf}
 use Rattle.level.specs.Answers.{SmallAnswer, ofSurvey}
 use Rattle.level.proofs.Small.{survey-small}
@@ -10,14 +11,14 @@ survey-requires : tie.Need-survey-requires
 survey-requires c κs = search needs
 
 -- what the call below answered, at the numbers that were lent
-called : (c : tie.After-survey) → (let a = c .before .before .args in c .survey .result ≡ surveyOf (a .b) (a .t) (a .held .now) (a .lines .now) (a .rows .now) .answer)
+called : (c : tie.After-survey) → (let a = c .before .before .args in c .survey .result ≡ surveyOf (lent (a .b) (a .t) (a .held .now) (a .lines .now)) (a .rows .now) .answer)
 called c = ap (λ (o : Surveyed). o .answer) (c .survey .ensures) ∙ search needs
 
 survey-answer-requires : tie.Need-survey-answer-requires
 survey-answer-requires c κs =
     let r = c .before in
     let a = r .before .before .args in
-    subst SmallAnswer (sym (called r)) (survey-small (a .b) (a .t) (a .held .now) (a .lines .now) (a .rows .now))
+    subst SmallAnswer (sym (called r)) (survey-small (lent (a .b) (a .t) (a .held .now) (a .lines .now)) (a .rows .now))
 
 same-length : tie.Need-same-length
 same-length c = search needs

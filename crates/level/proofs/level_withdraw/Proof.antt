@@ -1,4 +1,5 @@
 use mathlib.Core.Path.{_≡_, sym, _∙_, ap, subst}
+use Rattle.book.specs.Lent.{lent}
 use Rattle.survey.specs.Correction.{Corrected, withdrawOf}
 use Rattle.level.specs.Answers.{SmallAnswer, ofCorrection}
 use Rattle.level.proofs.Small.{withdraw-small}
@@ -10,14 +11,14 @@ withdraw-requires : tie.Need-withdraw-requires
 withdraw-requires c κs = search needs
 
 -- what the call below answered, at the numbers that were lent
-called : (c : tie.After-withdraw) → (let a = c .before .before .before .args in c .withdraw .result ≡ withdrawOf (a .b) (a .t) (a .held .now) (a .lines .now) (a .report .now) (a .line) .answer)
+called : (c : tie.After-withdraw) → (let a = c .before .before .before .args in c .withdraw .result ≡ withdrawOf (lent (a .b) (a .t) (a .held .now) (a .lines .now)) (a .report .now) (a .line) .answer)
 called c = ap (λ (o : Corrected). o .answer) (c .withdraw .ensures) ∙ search needs
 
 survey-answer-requires : tie.Need-survey-answer-requires
 survey-answer-requires c κs =
     let r = c .before .before in
     let a = r .before .before .before .args in
-    subst SmallAnswer (sym (called r)) (withdraw-small (a .b) (a .t) (a .held .now) (a .lines .now) (a .report .now) (a .line))
+    subst SmallAnswer (sym (called r)) (withdraw-small (lent (a .b) (a .t) (a .held .now) (a .lines .now)) (a .report .now) (a .line))
 
 same-length : tie.Need-same-length
 same-length c = search needs

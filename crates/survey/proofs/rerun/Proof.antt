@@ -1,8 +1,9 @@
 use mir.Facts.{toZ-ofZ}
 use mathlib.Core.Path.{_≡_, sym, _∙_}
+use Rattle.book.specs.Lent.{lent}
 use Rattle.book.specs.Test.{testOf}
 use Rattle.book.proofs.Goods.{tested-good}
-use Rattle.survey.specs.Correction.{correctTested, rerunOf}
+use Rattle.survey.specs.Correction.{correctOf, rerunOf}
 use Prim.Native.Nat.{_≤_}
 use lib.IntN.{natAbs}
 use Rattle.book.specs.Limits.{mostDifference}
@@ -40,7 +41,7 @@ enum-known-book : tie.Need-enum-known-book
 enum-known-book c = search needs
 
 -- what the test answered, at the numbers that were lent
-tested : (c : tie.After-test) → (let entry : tie.Start = search in let a = entry .args in c .test .result ≡ testOf (a .b) (a .t) (a .held .now) (a .lines .now))
+tested : (c : tie.After-test) → (let entry : tie.Start = search in let a = entry .args in c .test .result ≡ testOf (lent (a .b) (a .t) (a .held .now) (a .lines .now)))
 tested c = c .test .ensures ∙ search needs
 
 -- the difference is inside its limit
@@ -55,13 +56,13 @@ rerun-good-requires c κs =
     let entry : tie.Start = search in
     let g = c .before .before .before in
     let a = entry .args in
-    (good-lines _ _ _ _ _ (tested-good (a .b) (a .t) (a .held .now) (a .lines .now) (g .book .given .0 .0) (sym (tested after-test) ∙ g .book .given .1)), rw (toZ-ofZ (entry .fits .difference)) (small else1))
+    (good-lines _ _ (tested-good (lent (a .b) (a .t) (a .held .now) (a .lines .now)) (g .book .given .0 .0) (sym (tested after-test) ∙ g .book .given .1)), rw (toZ-ofZ (entry .fits .difference)) (small else1))
 
 same-length : tie.Need-same-length
 same-length c = search needs
 
 returns-2 : tie.Need-returns-2
-unfolding rerunOf correctTested
+unfolding rerunOf correctOf
 returns-2 c =
     let after-test : tie.After-test = search in
     let else1 : tie.Else1 = search in
@@ -75,7 +76,7 @@ same-length-3 : tie.Need-same-length-3
 same-length-3 c = search needs
 
 returns-3 : tie.Need-returns-3
-unfolding rerunOf correctTested
+unfolding rerunOf correctOf
 returns-3 c =
     let after-book : tie.After-book = search in
     let after-test : tie.After-test = search in

@@ -1,7 +1,8 @@
 use mathlib.Core.Path.{_≡_, sym, _∙_}
+use Rattle.book.specs.Lent.{lent}
 use Rattle.book.specs.Test.{testOf}
 use Rattle.book.proofs.Goods.{tested-good}
-use Rattle.survey.specs.Correction.{correctTested, withdrawOf}
+use Rattle.survey.specs.Correction.{correctOf, withdrawOf}
 use Rattle.book.proofs.Goods.{good-lines}
 use borrow.Author.Needs.{needs}
 use Rattle.survey.proofs.withdraw.Statement.{statement}
@@ -20,7 +21,7 @@ enum-known-book : tie.Need-enum-known-book
 enum-known-book c = search needs
 
 -- what the test answered, at the numbers that were lent
-tested : (c : tie.After-test) → (let a = c .before .before .args in c .test .result ≡ testOf (a .b) (a .t) (a .held .now) (a .lines .now))
+tested : (c : tie.After-test) → (let a = c .before .before .args in c .test .result ≡ testOf (lent (a .b) (a .t) (a .held .now) (a .lines .now)))
 tested c = c .test .ensures ∙ search needs
 
 withdraw-good-requires : tie.Need-withdraw-good-requires
@@ -29,13 +30,13 @@ withdraw-good-requires c κs =
     let entry : tie.Start = search in
     let g = c .before .before .before in
     let a = entry .args in
-    good-lines _ _ _ _ _ (tested-good (a .b) (a .t) (a .held .now) (a .lines .now) (g .book .given .0 .0) (sym (tested after-test) ∙ g .book .given .1))
+    good-lines _ _ (tested-good (lent (a .b) (a .t) (a .held .now) (a .lines .now)) (g .book .given .0 .0) (sym (tested after-test) ∙ g .book .given .1))
 
 same-length : tie.Need-same-length
 same-length c = search needs
 
 returns : tie.Need-returns
-unfolding withdrawOf correctTested
+unfolding withdrawOf correctOf
 returns c =
     let after-test : tie.After-test = search in
     rw (← (tested after-test), c .before .before .r .given .1, c .refuse .ensures)
@@ -47,7 +48,7 @@ same-length-3 : tie.Need-same-length-3
 same-length-3 c = search needs
 
 returns-2 : tie.Need-returns-2
-unfolding withdrawOf correctTested
+unfolding withdrawOf correctOf
 returns-2 c =
     let after-book : tie.After-book = search in
     let after-test : tie.After-test = search in
