@@ -12,7 +12,7 @@ use borrow.Author.Tests.{eq-eqb}
 use Rattle.book.specs.Lent.{Lent}
 use Rattle.book.specs.Held.{heldWords}
 use Rattle.book.specs.Line.{lineWords, differenceOut}
-use Rattle.book.specs.Test.{torn, bookOut}
+use Rattle.book.specs.Test.{torn, bookOut, refusal}
 use Rattle.book.specs.declared.Book.{Book}
 use Rattle.file.specs.Read as read
 use Rattle.file.specs.Read.{Outcome, answered, statedLength, statedVersion, statedT, statedB, statedH, statedN, statedCounts, fileLength, headOf, heldOf, linesOf, bookIn, roomOf, bodyOf, afterHead, readOf}
@@ -21,9 +21,11 @@ use Rattle.file.specs.declared.Head.the-variants as head
 use Rattle.file.proofs.Entries.{entries-length}
 use Rattle.loops.specs.Row.{listings}
 use Rattle.loops.specs.Report.{loopsOf}
-use Rattle.survey.specs.Report.{refusal, counted}
+use Rattle.survey.specs.Report as survey
+use Rattle.survey.specs.Report.{counted}
 use Rattle.survey.specs.Survey.{Surveyed, surveyed, surveyGood, surveyOf}
-use Rattle.lists.specs.Listing.{Listing, listing, unlisted, listOf, listingGood, listingOf, listingsGood, listingsOf}
+use Rattle.lists.specs.Listing as lists
+use Rattle.lists.specs.Listing.{Listing, listing, listOf, listingGood, listingOf, listingsGood, listingsOf}
 use Rattle.lists.specs.NotChecked.{uncheckedOf, notCheckedOf}
 use Rattle.survey.specs.Correction.{Corrected, corrected, correctGood, rerunLines, withdrawLines, rerunOf, withdrawOf}
 use Rattle.demands.specs.Calls.{afresh, surveyDone, listDone, correctionDone, readDone, SurveyKeepsToTable, ListingKeepsToTable, ListingsKeepsToTable, NotCheckedKeepsToTable, RerunKeepsToTable, WithdrawalKeepsToTable, ReaderKeepsToTable}
@@ -37,14 +39,14 @@ module _ (book : Lent) where
   unfolding surveyOf surveyRules byRules counted
   survey-keeps-to-table out =
       keeps-to-table (λ n p. refl) (λ n p. refl) refl refl refl
-      (by-the-test book (λ k. surveyGood k (book .lines) out) (roomRule out (afresh book) ∷ []) (λ n p. surveyed (refusal n p) out) (surveyDone book out) refl)
+      (by-the-test book (λ k. surveyGood k (book .lines) out) (roomRule out (afresh book) ∷ []) (λ n p. surveyed (survey.refusedWith (refusal n p)) out) (surveyDone book out) refl)
 
   -- the listing of a loop keeps to its table: 4, 6, 7, 8, 10
   pub listing-keeps-to-table : (number : ℤ) (out : List ℤ) → ListingKeepsToTable book number out (listingOf book number out)
   unfolding listingOf listingRules loopListing byRules
   listing-keeps-to-table number out =
       keeps-to-table (λ n p. refl) (λ n p. refl) refl refl refl
-      (by-the-test book (λ k. listingGood k (book .lines) number out) (loopRules book number out) (λ n p. listing (unlisted n p) out)
+      (by-the-test book (λ k. listingGood k (book .lines) number out) (loopRules book number out) (λ n p. listing (lists.refusedWith (refusal n p)) out)
       (listDone (loopListing book number) out) refl)
 
   -- the listing of all loops keeps to its table: 4, 6, 7, 10
@@ -52,7 +54,7 @@ module _ (book : Lent) where
   unfolding listingsOf listingsRules byRules
   listings-keeps-to-table out =
       keeps-to-table (λ n p. refl) (λ n p. refl) refl refl refl
-      (by-the-test book (λ k. listingsGood k (book .lines) out) (roomRule out (listings (loopsOf (natAbs (book .b)) (book .lines))) ∷ []) (λ n p. listing (unlisted n p) out)
+      (by-the-test book (λ k. listingsGood k (book .lines) out) (roomRule out (listings (loopsOf (natAbs (book .b)) (book .lines))) ∷ []) (λ n p. listing (lists.refusedWith (refusal n p)) out)
       (listDone (listings (loopsOf (natAbs (book .b)) (book .lines))) out) refl)
 
   -- the not-checked list keeps to its table: 4, 6, 7, 10
@@ -60,7 +62,7 @@ module _ (book : Lent) where
   unfolding notCheckedOf notCheckedRules byRules
   not-checked-keeps-to-table out =
       keeps-to-table (λ n p. refl) (λ n p. refl) refl refl refl
-      (by-the-test book (λ k. listOf (uncheckedOf (k .marks) (book .lines)) out) (roomRule out (uncheckedOf (natAbs (book .b)) (book .lines)) ∷ []) (λ n p. listing (unlisted n p) out)
+      (by-the-test book (λ k. listOf (uncheckedOf (k .marks) (book .lines)) out) (roomRule out (uncheckedOf (natAbs (book .b)) (book .lines)) ∷ []) (λ n p. listing (lists.refusedWith (refusal n p)) out)
       (listDone (uncheckedOf (natAbs (book .b)) (book .lines)) out) refl)
 
   -- withdrawal keeps to its table: 4, 6, 7, 8, 9
@@ -69,7 +71,7 @@ module _ (book : Lent) where
   withdrawal-keeps-to-table report number =
       keeps-to-table (λ n p. refl) (λ n p. refl) refl refl refl
       (by-the-test book (λ k. correctGood k (book .lines) report number (withdrawLines (book .lines) number)) (correctionRules book report number)
-      (λ n p. corrected (refusal n p) (book .lines) report) (correctionDone book report (withdrawLines (book .lines) number)) refl)
+      (λ n p. corrected (survey.refusedWith (refusal n p)) (book .lines) report) (correctionDone book report (withdrawLines (book .lines) number)) refl)
 
   -- re-run keeps to its table: 4, 6, 7, 8, 9
   pub rerun-keeps-to-table : (report : List ℤ) (number difference : ℤ)
@@ -77,45 +79,45 @@ module _ (book : Lent) where
   unfolding rerunOf rerunRules byRules counted
   rerun-keeps-to-table report number difference =
       keeps-to-table (λ n p. refl) (λ n p. refl) refl refl refl
-      (ap (cond (differenceOut difference) (corrected (refusal 4 0) (book .lines) report))
+      (ap (cond (differenceOut difference) (corrected (survey.refusedWith (refusal 4 0)) (book .lines) report))
       (by-the-test book (λ k. correctGood k (book .lines) report number (rerunLines (book .lines) number difference)) (correctionRules book report number)
-      (λ n p. corrected (refusal n p) (book .lines) report) (correctionDone book report (rerunLines (book .lines) number difference)) refl)
-      ∙ cond-or (differenceOut difference) (bookFault book) (corrected (refusal 4 0) (book .lines) report) _)
+      (λ n p. corrected (survey.refusedWith (refusal n p)) (book .lines) report) (correctionDone book report (rerunLines (book .lines) number difference)) refl)
+      ∙ cond-or (differenceOut difference) (bookFault book) (corrected (survey.refusedWith (refusal 4 0)) (book .lines) report) _)
 
   -- ---- "After a refusal the counts are 0 and no lent buffer has changed."
 
   -- a refused survey: no rows, no pieces, and the output as it was
-  pub refused-survey-changes-nothing : (out : List ℤ) → let s = surveyOf book out in (s .answer .number ≡ 0 → ⊥)
+  pub refused-survey-changes-nothing : (out : List ℤ) → let s = surveyOf book out in (s .answer .refusal .number ≡ 0 → ⊥)
       → (s .answer .rows ≡ 0) × (s .answer .pieces ≡ 0) × (s .rows ≡ out)
   refused-survey-changes-nothing out h = let e = survey-keeps-to-table out .refused h in
       (ap (λ (s : Surveyed). s .answer .rows) e, ap (λ (s : Surveyed). s .answer .pieces) e, ap (λ (s : Surveyed). s .rows) e)
 
   -- a refused listing: no entries, and the output as it was
-  pub refused-listing-changes-nothing : (number : ℤ) (out : List ℤ) → let l = listingOf book number out in (l .answer .number ≡ 0 → ⊥)
+  pub refused-listing-changes-nothing : (number : ℤ) (out : List ℤ) → let l = listingOf book number out in (l .answer .refusal .number ≡ 0 → ⊥)
       → (l .answer .entries ≡ 0) × (l .out ≡ out)
   refused-listing-changes-nothing number out h = let e = listing-keeps-to-table number out .refused h in
       (ap (λ (l : Listing). l .answer .entries) e, ap (λ (l : Listing). l .out) e)
 
   -- a refused listing of all loops: no entries, and the output as it was
-  pub refused-listings-changes-nothing : (out : List ℤ) → let l = listingsOf book out in (l .answer .number ≡ 0 → ⊥)
+  pub refused-listings-changes-nothing : (out : List ℤ) → let l = listingsOf book out in (l .answer .refusal .number ≡ 0 → ⊥)
       → (l .answer .entries ≡ 0) × (l .out ≡ out)
   refused-listings-changes-nothing out h = let e = listings-keeps-to-table out .refused h in
       (ap (λ (l : Listing). l .answer .entries) e, ap (λ (l : Listing). l .out) e)
 
   -- a refused not-checked list: no entries, and the output as it was
-  pub refused-not-checked-changes-nothing : (out : List ℤ) → let l = notCheckedOf book out in (l .answer .number ≡ 0 → ⊥)
+  pub refused-not-checked-changes-nothing : (out : List ℤ) → let l = notCheckedOf book out in (l .answer .refusal .number ≡ 0 → ⊥)
       → (l .answer .entries ≡ 0) × (l .out ≡ out)
   refused-not-checked-changes-nothing out h = let e = not-checked-keeps-to-table out .refused h in
       (ap (λ (l : Listing). l .answer .entries) e, ap (λ (l : Listing). l .out) e)
 
   -- a refused withdrawal: no rows, no pieces, and lines and report as they were
-  pub refused-withdrawal-changes-nothing : (report : List ℤ) (number : ℤ) → let c = withdrawOf book report number in (c .answer .number ≡ 0 → ⊥)
+  pub refused-withdrawal-changes-nothing : (report : List ℤ) (number : ℤ) → let c = withdrawOf book report number in (c .answer .refusal .number ≡ 0 → ⊥)
       → (c .answer .rows ≡ 0) × (c .answer .pieces ≡ 0) × (c .lines ≡ (book .lines)) × (c .report ≡ report)
   refused-withdrawal-changes-nothing report number h = let e = withdrawal-keeps-to-table report number .refused h in
       (ap (λ (c : Corrected). c .answer .rows) e, ap (λ (c : Corrected). c .answer .pieces) e, ap (λ (c : Corrected). c .lines) e, ap (λ (c : Corrected). c .report) e)
 
   -- a refused re-run: no rows, no pieces, and lines and report as they were
-  pub refused-rerun-changes-nothing : (report : List ℤ) (number difference : ℤ) → let c = rerunOf book report number difference in (c .answer .number ≡ 0 → ⊥)
+  pub refused-rerun-changes-nothing : (report : List ℤ) (number difference : ℤ) → let c = rerunOf book report number difference in (c .answer .refusal .number ≡ 0 → ⊥)
       → (c .answer .rows ≡ 0) × (c .answer .pieces ≡ 0) × (c .lines ≡ (book .lines)) × (c .report ≡ report)
   refused-rerun-changes-nothing report number difference h = let e = rerun-keeps-to-table report number difference .refused h in
       (ap (λ (c : Corrected). c .answer .rows) e, ap (λ (c : Corrected). c .answer .pieces) e, ap (λ (c : Corrected). c .lines) e, ap (λ (c : Corrected). c .report) e)
@@ -133,7 +135,7 @@ module _ (file : List ℕ) (held lines : List ℤ) where
       rw (h, n, eq-eqb (statedH file * 2 % 2) 0 (omega arith), eq-eqb (statedN file * 5 % 5) 0 (omega arith)) (ap₂ (bookOut (pos (statedB file)) (pos (statedT file))) (omega arith) (omega arith) ∙ e)
 
   refuse : ℕ → ℕ → Outcome
-  refuse n p = answered held lines (read.refusal n p)
+  refuse n p = answered held lines (read.refusedWith (refusal n p))
 
   -- 10, or the book read
   room : (k : Book) → roomOf file k held lines
@@ -181,7 +183,7 @@ module _ (file : List ℕ) (held lines : List ℤ) where
       go false false false false e false = body e
 
   -- a refused file: b, t, h and n are 0, and both buffers are as they were
-  pub refused-reader-changes-nothing : let o = readOf file held lines in (o .answer .number ≡ 0 → ⊥)
+  pub refused-reader-changes-nothing : let o = readOf file held lines in (o .answer .refusal .number ≡ 0 → ⊥)
       → (o .answer .b ≡ 0) × (o .answer .t ≡ 0) × (o .answer .h ≡ 0) × (o .answer .n ≡ 0) × (o .held ≡ held) × (o .lines ≡ lines)
   refused-reader-changes-nothing h = let e = reader-keeps-to-table .refused h in
       (ap (λ (o : Outcome). o .answer .b) e, ap (λ (o : Outcome). o .answer .t) e, ap (λ (o : Outcome). o .answer .h) e, ap (λ (o : Outcome). o .answer .n) e, ap (λ (o : Outcome). o .held) e, ap (λ (o : Outcome). o .lines) e)
