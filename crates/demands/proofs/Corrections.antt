@@ -11,6 +11,7 @@ use Rattle.book.specs.Lent.{Lent, withLines}
 use Rattle.book.specs.Test.{testOf, refusal}
 use Rattle.book.specs.Good.{GoodBook}
 use Rattle.book.specs.declared.Book.{Book}
+use Rattle.book.specs.declared.Refusal.{Refusal}
 use Rattle.book.specs.declared.Tested.the-variants.{Good}
 use Rattle.book.proofs.Goods.{tested-good}
 use Rattle.book.proofs.Passing.{good-passes}
@@ -158,7 +159,7 @@ module _ (first : Lent) (out : List ℤ) where
   any-step-true : {book : Lent} {report : List ℤ} → Holds book report → (s : Step) → Holds (correctedBook book report s) (correct book report s .report)
   any-step-true {book = book} {report = report} w s = go s (ℕ-discrete (correct book report s .answer .refusal .number) 0)
     where
-      same : {x : Corrected} {n p : ℕ} → x ≡ corrected (survey.refusedWith (refusal n p)) (book .lines) report → Holds (withLines book (x .lines)) (x .report)
+      same : {x : Corrected} {r : Refusal} → x ≡ corrected (survey.refusedWith r) (book .lines) report → Holds (withLines book (x .lines)) (x .report)
       same e = subst (λ (x : Corrected). Holds (withLines book (x .lines)) (x .report)) (sym e) w
 
       go : (s : Step) → Dec (correct book report s .answer .refusal .number ≡ 0) → Holds (correctedBook book report s) (correct book report s .report)

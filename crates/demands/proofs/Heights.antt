@@ -44,8 +44,9 @@ use Rattle.adjust.specs.Adjusted.{done, unlessUnheld, ended, adjustment}
 use Rattle.adjust.specs.Call.{Given, adjusted, givenBy, adjustGood, adjustOf}
 use Rattle.adjust.proofs.Promises.{as-many, never-worse, best-at-every-mark, held-marks-keep}
 use Rattle.demands.specs.Tables.{bookFault}
+use Rattle.demands.specs.Rules.{LowestGiven}
 use Rattle.demands.specs.Heights.{sweepsOf, unheldMark, stillMoves, wentOutside, outsideMark, countOf, heightsOf, sweepRules, adjustRules, adjustDone, AdjustmentKeepsToTable, marksHeights, heightRules, rateRules, ExactFloat, rateDone, RateKeepsToTable}
-use Rattle.demands.proofs.Rules.{byRules, cond-or, keeps-to-table}
+use Rattle.demands.proofs.Rules.{byRules, cond-or, keeps-to-table, lowest-is-given}
 use Rattle.demands.proofs.BookRules.{None, none-in, none-and, first-of, rest-of, by-the-test, passes-if, passes-only-if}
 
 -- ---- refusals
@@ -59,10 +60,10 @@ cond-not : {A : Type 0} (t : Bool) (x y : A) → cond t x y ≡ cond (not t) y x
 cond-not true x y = refl
 cond-not false x y = refl
 
--- a line that there is has an answer with the number and the place 0
-line-number : (heights lines : List ℤ) (line i : ℕ) → (lineRate heights lines line i .refusal .number ≡ 0) × (lineRate heights lines line i .refusal .place ≡ 0)
+-- a line that there is has an answer with no refusal
+line-answered : (heights lines : List ℤ) (line i : ℕ) → lineRate heights lines line i .refusal ≡ noRefusal
 unfolding lineRate
-line-number heights lines line i = go (eqZ (standingAt lines i) (pos 0))
+line-answered heights lines line i = go (eqZ (standingAt lines i) (pos 0))
   where
     x : RateAnswer
     x = record { refusal = noRefusal; line = line; correction = pos 0; rate = Withdrawn }
@@ -70,17 +71,17 @@ line-number heights lines line i = go (eqZ (standingAt lines i) (pos 0))
     y : RateAnswer
     y = record { refusal = noRefusal; line = line; correction = correctionAt heights lines i; rate = PerKm (quotient (correctionAt heights lines i) (lengthAt lines i)) }
 
-    go : (t : Bool) → (cond t x y .refusal .number ≡ 0) × (cond t x y .refusal .place ≡ 0)
-    go true = (refl, refl)
-    go false = (refl, refl)
+    go : (t : Bool) → cond t x y .refusal ≡ noRefusal
+    go true = refl
+    go false = refl
 
 module _ (book : Lent) where
   -- the adjustment keeps to its table: 4, 6, 7, 10, 11, then 12 or 13
   pub adjustment-keeps-to-table : (out : List ℤ) → AdjustmentKeepsToTable book out (adjustOf book out)
   unfolding adjustOf adjustRules sweepsOf unheldMark byRules
   adjustment-keeps-to-table out =
-      keeps-to-table (λ n p. refl) (λ n p. refl) refl refl refl
-      (by-the-test book (λ k. adjustGood k (book .held) (book .lines) out) (sweepRules book out) (λ n p. adjusted (adjust.refusedWith (refusal n p)) out) (adjustDone (sweepsOf (natAbs (book .b)) (book .held) (book .lines)) out)
+      keeps-to-table (λ r. refl) refl refl
+      (by-the-test book (λ k. adjustGood k (book .held) (book .lines) out) (sweepRules book out) (λ r. adjusted (adjust.refusedWith r) out) (adjustDone (sweepsOf (natAbs (book .b)) (book .held) (book .lines)) out)
       (go (ltb (length out) (natAbs (book .b))) (unheldMark (natAbs (book .b)) (book .held) (book .lines)) (sweepsOf (natAbs (book .b)) (book .held) (book .lines))))
     where
       go : (x : Bool) (u : ℕ) (s : Settled) → cond x (adjusted (adjust.refusedWith (refusal 10 0)) out) (givenBy out (unlessUnheld u (λ _. ended s)))
@@ -96,11 +97,20 @@ module _ (book : Lent) where
   pub rate-keeps-to-table : (heights : List ℤ) (line : ℤ) → RateKeepsToTable book heights line (rateAnswer book heights line)
   unfolding rateAnswer rateRules rates.refusedWith goodRate byRules
   rate-keeps-to-table heights line =
-      keeps-to-table (λ n p. refl) (λ n p. refl) (line-number heights (book .lines) (natAbs line) (natAbs line - 1) .0) (line-number heights (book .lines) (natAbs line) (natAbs line - 1) .1) refl
+      keeps-to-table (λ r. refl) (line-answered heights (book .lines) (natAbs line) (natAbs line - 1)) refl
       (cond-not (eqZ (pos (length heights)) (book .b)) (ifGood (testOf book) rates.refusedWith (λ k. goodRate heights (book .lines) k line)) (rates.refusedWith (refusal 4 0))
       ∙ ap (cond (not (eqZ (pos (length heights)) (book .b))) (rates.refusedWith (refusal 4 0)))
-      (by-the-test book (λ k. goodRate heights (book .lines) k line) (heightRules book heights line) (λ n p. rates.refusedWith (refusal n p)) (rateDone book heights line) refl)
+      (by-the-test book (λ k. goodRate heights (book .lines) k line) (heightRules book heights line) rates.refusedWith (rateDone book heights line) refl)
       ∙ cond-or (not (eqZ (pos (length heights)) (book .b))) (bookFault book) (rates.refusedWith (refusal 4 0)) _)
+
+  -- "Where several apply, the lowest number is given": the numbers of both tables rise
+  pub adjustment-gives-the-lowest : (out : List ℤ) → LowestGiven (adjustRules book out) (adjustOf book out .answer .refusal)
+  unfolding adjustRules
+  adjustment-gives-the-lowest out = lowest-is-given refl (adjustment-keeps-to-table out .table)
+
+  pub rate-gives-the-lowest : (heights : List ℤ) (line : ℤ) → LowestGiven (rateRules book heights line) (rateAnswer book heights line .refusal)
+  unfolding rateRules
+  rate-gives-the-lowest heights line = lowest-is-given refl (rate-keeps-to-table heights line .table)
 
   -- a refused adjustment: no sweeps, and the heights as they were
   pub refused-adjustment-changes-nothing : (out : List ℤ) → let g = adjustOf book out in (g .answer .refusal .number ≡ 0 → ⊥) → (g .answer .sweeps ≡ 0) × (g .heights ≡ out)

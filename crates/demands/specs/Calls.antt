@@ -37,8 +37,8 @@ surveyDone book out = surveyed (counted (natAbs (book .b)) (book .lines)) (afres
 
 abbrev pub SurveyKeepsToTable : Lent → List ℤ → Surveyed → Type 0
 SurveyKeepsToTable book out given =
-    KeepsToTable (λ (s : Surveyed). s .answer .refusal .number) (λ (s : Surveyed). s .answer .refusal .place) (surveyRules book out)
-    (λ n p. surveyed (survey.refusedWith (refusal n p)) out) (surveyDone book out) given
+    KeepsToTable (λ (s : Surveyed). s .answer .refusal) (surveyRules book out)
+    (λ r. surveyed (survey.refusedWith r) out) (surveyDone book out) given
 
 -- a list and its count of entries, in the first places of the output
 abbrev pub listDone : List ℤ → List ℤ → Listing
@@ -46,7 +46,7 @@ listDone list out = listing (entered (length list)) (list ++ drop (length list) 
 
 abbrev pub ListKeepsToTable : List Rule → List ℤ → List ℤ → Listing → Type 0
 ListKeepsToTable rules list out given =
-    KeepsToTable (λ (l : Listing). l .answer .refusal .number) (λ (l : Listing). l .answer .refusal .place) rules (λ n p. listing (lists.refusedWith (refusal n p)) out) (listDone list out) given
+    KeepsToTable (λ (l : Listing). l .answer .refusal) rules (λ r. listing (lists.refusedWith r) out) (listDone list out) given
 
 -- the listing: lines and sense of the loop of that number
 abbrev pub ListingKeepsToTable : Lent → ℤ → List ℤ → Listing → Type 0
@@ -67,7 +67,7 @@ correctionDone book report new = corrected (counted (natAbs (book .b)) new) new 
 
 abbrev pub CorrectionKeepsToTable : List Rule → Lent → List ℤ → List ℤ → Corrected → Type 0
 CorrectionKeepsToTable rules book report new given =
-    KeepsToTable (λ (c : Corrected). c .answer .refusal .number) (λ (c : Corrected). c .answer .refusal .place) rules (λ n p. corrected (survey.refusedWith (refusal n p)) (book .lines) report)
+    KeepsToTable (λ (c : Corrected). c .answer .refusal) rules (λ r. corrected (survey.refusedWith r) (book .lines) report)
     (correctionDone book report new) given
 
 abbrev pub RerunKeepsToTable : Lent → List ℤ → ℤ → ℤ → Corrected → Type 0
@@ -91,8 +91,8 @@ readDone file held lines =
 
 abbrev pub ReaderKeepsToTable : List ℕ → List ℤ → List ℤ → Outcome → Type 0
 ReaderKeepsToTable file held lines given =
-    KeepsToTable (λ (o : Outcome). o .answer .refusal .number) (λ (o : Outcome). o .answer .refusal .place) (fileRules file held lines)
-    (λ n p. answered held lines (read.refusedWith (refusal n p))) (readDone file held lines) given
+    KeepsToTable (λ (o : Outcome). o .answer .refusal) (fileRules file held lines)
+    (λ r. answered held lines (read.refusedWith r)) (readDone file held lines) given
 
 -- "Each call tests all that it is lent": a faulty book gets the same refusal from every call, and nothing is changed (a re-run is refused with 4
 -- already where its new difference is outside the limit, and a rate where its heights are not b in number)

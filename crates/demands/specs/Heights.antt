@@ -90,8 +90,8 @@ adjustDone s out = adjusted (settledAt (countOf s)) (heightsOf s ++ drop (length
 
 abbrev pub AdjustmentKeepsToTable : Lent → List ℤ → Given → Type 0
 AdjustmentKeepsToTable book out given =
-    KeepsToTable (λ (g : Given). g .answer .refusal .number) (λ (g : Given). g .answer .refusal .place) (adjustRules book out)
-    (λ n p. adjusted (adjust.refusedWith (refusal n p)) out) (adjustDone (sweepsOf (natAbs (book .b)) (book .held) (book .lines)) out) given
+    KeepsToTable (λ (g : Given). g .answer .refusal) (adjustRules book out)
+    (λ r. adjusted (adjust.refusedWith r) out) (adjustDone (sweepsOf (natAbs (book .b)) (book .held) (book .lines)) out) given
 
 -- the heights of the marks, as an adjustment left them
 abbrev pub marksHeights : Lent → Given → List ℤ
@@ -120,7 +120,7 @@ rateDone book heights line = lineRate heights (book .lines) (natAbs line) (natAb
 
 abbrev pub RateKeepsToTable : Lent → List ℤ → ℤ → RateAnswer → Type 0
 RateKeepsToTable book heights line given =
-    KeepsToTable (λ (r : RateAnswer). r .refusal .number) (λ (r : RateAnswer). r .refusal .place) (rateRules book heights line) (λ n p. rates.refusedWith (refusal n p)) (rateDone book heights line) given
+    KeepsToTable (λ (r : RateAnswer). r .refusal) (rateRules book heights line) rates.refusedWith (rateDone book heights line) given
 
 -- ---- pieces and the start
 
