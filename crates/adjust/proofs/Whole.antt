@@ -9,6 +9,7 @@ use lib.ListN.{length, getD}
 use lib.Seq.{ext-getD}
 use lib.IntN.{ℤ, pos}
 use Rattle.book.specs.Limits.{mostMarks, mostHeldHeight}
+use Rattle.book.specs.Test.{refusal}
 use Rattle.network.specs.Standing.{standing}
 use Rattle.network.specs.Tree.{tree}
 use Rattle.network.proofs.Grown.{treeLine}
@@ -21,7 +22,7 @@ use Rattle.sweeps.specs.Turns.{flags, endedAt}
 use Rattle.start.specs.Start.{heldHeight, isSome, isHeld, Rooted, rootedBy, unheldPiece, startOf, startHeights}
 use Rattle.start.specs.Along.{Entered, rooting, Given, HeldEntries, HeldIn, Started}
 use Rattle.adjust.specs.Adjusted.{Outcome, refused, ended, unlessUnheld, adjustment}
-use Rattle.adjust.specs.Answers.{answer, answerOf, endAnswer, answered, Answers}
+use Rattle.adjust.specs.Answers.{refusedWith, answerOf, endAnswer, answered, Answers}
 use Rattle.fields.proofs.Fair.{fair-lines}
 use Rattle.sweeps.proofs.Best.{Sound, fairs-sound}
 use Rattle.start.proofs.Joining.{named, rooting-is}
@@ -105,9 +106,9 @@ module _ (lines held : List ℤ) (order best : List ℕ) (b n h : ℕ) (few : b 
     is-unheld = begins (heldHeight held) g .0
 
     -- 11
-    pub unheld-answer : (a : Adjusted) (hs : List ℤ) → 0 < r → a ≡ answer 11 r 0 → Answers a hs (adjustment b held lines)
+    pub unheld-answer : (a : Adjusted) (hs : List ℤ) → 0 < r → a ≡ refusedWith (refusal 11 r) → Answers a hs (adjustment b held lines)
     unfolding adjustment
-    unheld-answer a hs l e = answers-of a (answer 11 r 0) hs (adjustment b held lines) e refl (ap (λ (x : Adjusted). answered x hs) e ∙ by r is-unheld l)
+    unheld-answer a hs l e = answers-of a (refusedWith (refusal 11 r)) hs (adjustment b held lines) e refl (ap (λ (x : Adjusted). answered x hs) e ∙ by r is-unheld l)
       where
         by : (k : ℕ) → k ≡ unheldPiece (rootedBy (tree b (standing lines))) (heldHeight held) b → 0 < k
             → refused 11 k ≡ unlessUnheld (unheldPiece (rootedBy (tree b (standing lines))) (heldHeight held) b) (λ _. ended (settle (sightsOf (standing lines)) (isHeld held) b (startHeights b held lines)))

@@ -7,11 +7,11 @@ use lib.ListN.{length, drop}
 use lib.IntN.{ℤ}
 use Rattle.book.specs.Good.{GoodLines}
 use Rattle.book.specs.Lent.{Lent}
-use Rattle.book.specs.Test.{testOf, ifGood}
+use Rattle.book.specs.Test.{refusal, testOf, ifGood}
 use Rattle.book.specs.declared.Book.{Book}
 use Rattle.start.specs.Along.{HeldEntries}
 use Rattle.adjust.specs.Adjusted.{Outcome, done, refused, adjustment}
-use Rattle.adjust.specs.Answers.{answer}
+use Rattle.adjust.specs.Answers.{settledAt, refusedWith}
 use Rattle.adjust.specs.declared.Adjusted.{Adjusted}
 
 -- the answer, and the heights after the call
@@ -24,18 +24,18 @@ adjusted a out = record { answer = a; heights = out }
 
 -- "Output places past the answer stay unchanged"; "After a refusal the counts are 0 and no lent buffer has changed"
 abbrev pub givenBy : List ℤ → Outcome → Given
-givenBy out (done sweeps hs) = adjusted (answer 0 0 sweeps) (hs ++ drop (length hs) out)
-givenBy out (refused number place) = adjusted (answer number place 0) out
+givenBy out (done sweeps hs) = adjusted (settledAt sweeps) (hs ++ drop (length hs) out)
+givenBy out (refused number place) = adjusted (refusedWith (refusal number place)) out
 
 -- of a good book: 10, "lent output too short for the whole answer", or the adjustment
 unfoldable pub adjustGood : Book → List ℤ → List ℤ → List ℤ → Given
 unfolding adjustment
-adjustGood k held lines out = cond (ltb (length out) (k .marks)) (adjusted (answer 10 0 0) out) (givenBy out (adjustment (k .marks) held lines))
+adjustGood k held lines out = cond (ltb (length out) (k .marks)) (adjusted (refusedWith (refusal 10 0)) out) (givenBy out (adjustment (k .marks) held lines))
 
 unfoldable pub adjustOf : Lent → List ℤ → Given
 unfolding adjustGood testOf
 adjustOf book out =
-    ifGood (testOf book) (λ r. adjusted (answer (r .number) (r .place) 0) out)
+    ifGood (testOf book) (λ r. adjusted (refusedWith r) out)
     (λ k. adjustGood k (book .held) (book .lines) out)
 
 -- What the adjustment uses of a tested book: that every held entry and every line is good

@@ -14,11 +14,7 @@ fn answer_of(e: End) -> Adjusted
     ensures { λ r. ⌜ r ≡ endAnswer e ⌝ }
 {
     match e {
-        End::Settled(n) => Adjusted {
-            number: 0,
-            place: 0,
-            sweeps: n,
-        },
+        End::Settled(n) => crate::settled_at(n),
         End::Outside(m) => crate::refuse(13, m),
         End::Unsettled => crate::refuse(12, 0),
     }

@@ -87,7 +87,8 @@ fn adjust_by(
     ensures { λ r. ⌜ adjusted r (now (heights .exit)) ≡ adjustGood book (now (held .entry)) (now (lines .entry)) (now (heights .entry)) ⌝ }
 {
     let a = adjust_into(book, held, lines, z);
-    if a.number == 0 {
+    let refusal = a.refusal;
+    if refusal.number == 0 {
         kept::put(z, heights);
     }
     a

@@ -1,31 +1,41 @@
 // The public calls on a lent book: the adjustment by sweeps, and correction rates. Document 01, "Adjustment".
 ghost use mathlib.Core.Path.{_≡_};
 ghost use Rattle.book.specs.Lent.{lent};
+ghost use Rattle.book.specs.Test.{refusal};
 ghost use Rattle.rates.specs.Rates.{rateAnswer};
-ghost use Rattle.adjust.specs.Answers.{answer};
+ghost use Rattle.adjust.specs.Answers.{settledAt, refusedWith};
 ghost use Rattle.adjust.specs.Call.{adjusted, adjustOf};
 
 mod along;
 mod good;
 
+use book::Refusal;
 use book::Tested;
 use rates::RateAnswer;
 
-// What the adjustment answers: a refusal's number and place, 0 when done, and the sweeps.
+// What the adjustment answers: a refusal, or none and the sweeps.
 pub struct Adjusted {
-    pub number: usize,
-    pub place: usize,
+    pub refusal: Refusal,
     pub sweeps: usize,
 }
 
 pub(crate) fn refuse(number: usize, place: usize) -> Adjusted
-    ensures { λ r. ⌜ r ≡ answer number place 0 ⌝ }
+    ensures { λ r. ⌜ r ≡ refusedWith (refusal number place) ⌝ }
 {
-    Adjusted {
-        number,
-        place,
-        sweeps: 0,
-    }
+    refused(Refusal::new(number, place))
+}
+
+fn refused(refusal: Refusal) -> Adjusted
+    ensures { λ r. ⌜ r ≡ refusedWith refusal ⌝ }
+{
+    Adjusted { refusal, sweeps: 0 }
+}
+
+pub(crate) fn settled_at(sweeps: usize) -> Adjusted
+    ensures { λ r. ⌜ r ≡ settledAt sweeps ⌝ }
+{
+    let refusal = Refusal::none();
+    Adjusted { refusal, sweeps }
 }
 
 // The adjusted heights of the marks. Refusals 4, 6, 7, 10, 11, then 12 or 13 by whichever comes first; a refusal leaves the heights as they were.
@@ -34,7 +44,7 @@ pub fn adjust(b: i64, t: i64, held: &[i64], lines: &[i64], heights: &mut [i64]) 
         ≡ adjustOf (lent b t (now (held .entry)) (now (lines .entry))) (now (heights .entry)) ⌝ }
 {
     match book::test(b, t, held, lines) {
-        Tested::Refused(r) => refuse(r.number, r.place),
+        Tested::Refused(r) => refused(r),
         Tested::Good(book) => good::adjust_good(book, held, lines, heights),
     }
 }
@@ -46,7 +56,7 @@ pub fn rate(b: i64, t: i64, held: &[i64], lines: &[i64], heights: &[i64], line: 
     if signed::same(signed::signed_count(heights.len()), b) {
         let tested = book::test(b, t, held, lines);
         return match tested {
-            Tested::Refused(r) => rates::refuse(r.number, r.place),
+            Tested::Refused(r) => rates::refused(r),
             Tested::Good(book) => rates::good_rate(lines, heights, book, line),
         };
     }

@@ -20,8 +20,9 @@ fn put(text: &[u8]) {
 fn adjust(name: &[u8], b: i64, t: i64, held: &[i64], lines: &[i64], heights: &mut [i64]) {
     let a = adjust::adjust(b, t, held, lines, heights);
     put(name);
-    cases::put(a.number);
-    cases::put(a.place);
+    let r = a.refusal;
+    cases::put(r.number);
+    cases::put(r.place);
     cases::put(a.sweeps);
     put(b" |");
     cases::show_numbers(heights);
@@ -47,8 +48,9 @@ fn rate(b: i64, t: i64, held: &[i64], lines: &[i64], heights: &[i64], line: usiz
     let number = signed::signed_count(line % 65536);
     let a = adjust::rate(b, t, held, lines, heights, number);
     put(b"  rate");
-    cases::put(a.number);
-    cases::put(a.place);
+    let r = a.refusal;
+    cases::put(r.number);
+    cases::put(r.place);
     cases::put(a.line);
     cases::put_signed(a.correction);
     let x = a.rate;

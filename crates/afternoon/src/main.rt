@@ -106,7 +106,8 @@ fn call(
     words::put_call(step);
     words::put_answer(a);
     words::put_book(&lines_were, lines);
-    words::put_report(a.number, &report_was, report);
+    let r = a.refusal;
+    words::put_report(r.number, &report_was, report);
 }
 
 // Somebody writes a number into the book or the report by hand.

@@ -42,8 +42,9 @@ pub(crate) fn put_note(note: &[u8]) {
 }
 
 pub(crate) fn put_read(a: file::ReadAnswer) {
-    count(b"  READ:", a.number);
-    count(b" AT", a.place);
+    let r = a.refusal;
+    count(b"  READ:", r.number);
+    count(b" AT", r.place);
     count(b", MARKS", a.b);
     count(b", LINES", a.n);
     put(b"\n");
@@ -65,13 +66,14 @@ pub(crate) fn put_call(step: Step) {
 
 // `DONE, 0 AT 0, ROWS 3, PIECES 1`
 pub(crate) fn put_answer(a: survey::Answer) {
-    if a.number == 0 {
+    let r = a.refusal;
+    if r.number == 0 {
         put(b" DONE,");
     } else {
         put(b" REFUSED,");
     }
-    cases::put(a.number);
-    count(b" AT", a.place);
+    cases::put(r.number);
+    count(b" AT", r.place);
     count(b", ROWS", a.rows);
     count(b", PIECES", a.pieces);
     put(b"\n");

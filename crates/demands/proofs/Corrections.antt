@@ -8,15 +8,17 @@ use lib.ListN.{length, drop, replicate, length-append, replicate-append-replicat
 use lib.Seq.{drop-append-seam}
 use lib.IntN.{ℤ, pos, natAbs}
 use Rattle.book.specs.Lent.{Lent, withLines}
-use Rattle.book.specs.Test.{testOf}
+use Rattle.book.specs.Test.{testOf, refusal}
 use Rattle.book.specs.Good.{GoodBook}
 use Rattle.book.specs.declared.Book.{Book}
+use Rattle.book.specs.declared.Refusal.{Refusal}
 use Rattle.book.specs.declared.Tested.the-variants.{Good}
 use Rattle.book.proofs.Goods.{tested-good}
 use Rattle.book.proofs.Passing.{good-passes}
 use Rattle.book.specs.Line.{differenceField, standingField}
 use Rattle.loops.specs.Report.{loopsOf}
-use Rattle.survey.specs.Report.{refusal, counted}
+use Rattle.survey.specs.Report as survey
+use Rattle.survey.specs.Report.{counted}
 use Rattle.survey.specs.Survey.{surveyed, surveyOf}
 use Rattle.survey.specs.Correction.{Corrected, corrected, placeOf, updated, rerunLines, withdrawLines, rerunOf, withdrawOf}
 use Rattle.demands.specs.Calls.{afresh, correctionDone}
@@ -44,7 +46,7 @@ record Made (book : Lent) (report : List ℤ) (s : Step) : Type 0 where
   no-more-loops : length (loopsOf (could .counts .marks) (newLines (book .lines) s)) ≤ length (loopsOf (could .counts .marks) (book .lines))
   done : correct book report s ≡ correctionDone book report (newLines (book .lines) s)
 
-made : (book : Lent) (report : List ℤ) (s : Step) → correct book report s .answer .number ≡ 0 → Made book report s
+made : (book : Lent) (report : List ℤ) (s : Step) → correct book report s .answer .refusal .number ≡ 0 → Made book report s
 unfolding newLines
 made book report (rerun number difference) z =
     let p = rerun-done-exactly-if book report number difference .0 z in
@@ -85,7 +87,7 @@ shorter {book = book} {s = s} w =
 
 module _ (book : Lent) (report : List ℤ) where
   -- a re-run sets the line's difference to the new one, "and nothing else in the book changes"
-  pub rerun-sets-one-number : (number difference : ℤ) → rerunOf book report number difference .answer .number ≡ 0
+  pub rerun-sets-one-number : (number difference : ℤ) → rerunOf book report number difference .answer .refusal .number ≡ 0
       → OnlyChange (book .lines) (rerunOf book report number difference .lines) (placeOf number differenceField) difference
   unfolding rerunLines
   rerun-sets-one-number number difference z =
@@ -94,7 +96,7 @@ module _ (book : Lent) (report : List ℤ) where
       (set-changes (book .lines) (placeOf number differenceField) difference (omega (arith, place-is (a .stands) differenceField, has-line (a .stands))))
 
   -- a withdrawal sets its standing to 0, "and nothing else in the book changes"
-  pub withdrawal-sets-one-number : (number : ℤ) → withdrawOf book report number .answer .number ≡ 0
+  pub withdrawal-sets-one-number : (number : ℤ) → withdrawOf book report number .answer .refusal .number ≡ 0
       → OnlyChange (book .lines) (withdrawOf book report number .lines) (placeOf number standingField) (pos 0)
   unfolding withdrawLines
   withdrawal-sets-one-number number z =
@@ -103,16 +105,16 @@ module _ (book : Lent) (report : List ℤ) where
       (set-changes (book .lines) (placeOf number standingField) (pos 0) (omega (arith, place-is (a .stands) standingField, has-line (a .stands))))
 
   -- a good book stays good: after an accepted correction no call refuses it for 4, 6 or 7
-  pub accepted-book-stays-good : (s : Step) → correct book report s .answer .number ≡ 0 → testOf (correctedBook book report s) ≡ testOf book
+  pub accepted-book-stays-good : (s : Step) → correct book report s .answer .refusal .number ≡ 0 → testOf (correctedBook book report s) ≡ testOf book
   accepted-book-stays-good s z = let c = made book report s z in ap (λ (x : Corrected). testOf (withLines book (x .lines))) (c .done) ∙ passes-still c
 
   -- an accepted correction answers "the rows and pieces of the book as it then stands"
-  pub accepted-counts-are-of-the-new-book : (s : Step) → correct book report s .answer .number ≡ 0
+  pub accepted-counts-are-of-the-new-book : (s : Step) → correct book report s .answer .refusal .number ≡ 0
       → correct book report s .answer ≡ counted (natAbs (book .b)) (correct book report s .lines)
   accepted-counts-are-of-the-new-book s z = rw (made book report s z .done)
 
   -- and leaves the report of the corrected book, zeros in a vacated row, and all places past the old rows as they were
-  pub accepted-report-is-afresh : (s : Step) → correct book report s .answer .number ≡ 0
+  pub accepted-report-is-afresh : (s : Step) → correct book report s .answer .refusal .number ≡ 0
       → let new = afresh (correctedBook book report s) in let old = afresh book in
       correct book report s .report ≡ new ++ replicate (length old - length new) (pos 0) ++ drop (length old) report
   unfolding updated
@@ -143,7 +145,7 @@ module _ (first : Lent) (out : List ℤ) where
     report-is : report ≡ padded m (afresh book) (drop m out)
 
   -- an accepted correction keeps it so
-  step-true : {book : Lent} {report : List ℤ} → Holds book report → (s : Step) → correct book report s .answer .number ≡ 0
+  step-true : {book : Lent} {report : List ℤ} → Holds book report → (s : Step) → correct book report s .answer .refusal .number ≡ 0
       → Holds (correctedBook book report s) (correct book report s .report)
   step-true {book = book} {report = report} w s z =
       let c = made book report s z in
@@ -155,12 +157,12 @@ module _ (first : Lent) (out : List ℤ) where
 
   -- a refused one changes nothing
   any-step-true : {book : Lent} {report : List ℤ} → Holds book report → (s : Step) → Holds (correctedBook book report s) (correct book report s .report)
-  any-step-true {book = book} {report = report} w s = go s (ℕ-discrete (correct book report s .answer .number) 0)
+  any-step-true {book = book} {report = report} w s = go s (ℕ-discrete (correct book report s .answer .refusal .number) 0)
     where
-      same : {x : Corrected} {n p : ℕ} → x ≡ corrected (refusal n p) (book .lines) report → Holds (withLines book (x .lines)) (x .report)
+      same : {x : Corrected} {r : Refusal} → x ≡ corrected (survey.refusedWith r) (book .lines) report → Holds (withLines book (x .lines)) (x .report)
       same e = subst (λ (x : Corrected). Holds (withLines book (x .lines)) (x .report)) (sym e) w
 
-      go : (s : Step) → Dec (correct book report s .answer .number ≡ 0) → Holds (correctedBook book report s) (correct book report s .report)
+      go : (s : Step) → Dec (correct book report s .answer .refusal .number ≡ 0) → Holds (correctedBook book report s) (correct book report s .report)
       go s (yes z) = step-true w s z
       go (rerun number difference) (no h) = same (rerun-keeps-to-table book report number difference .refused h)
       go (withdraw number) (no h) = same (withdrawal-keeps-to-table book report number .refused h)
@@ -174,7 +176,7 @@ module _ (first : Lent) (out : List ℤ) where
   tries-true w [] = w
   tries-true w (s ∷ steps) = tries-true (any-step-true w s) steps
 
-  module _ (done : surveyOf first out .answer .number ≡ 0) where
+  module _ (done : surveyOf first out .answer .refusal .number ≡ 0) where
     did : (k : Book) × (testOf first ≡ Good k) × (m ≤ length out)
     did = survey-done-exactly-if first out .0 done
 

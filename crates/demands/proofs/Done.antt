@@ -41,7 +41,7 @@ use Rattle.demands.proofs.BookRules.{None, none-in, none-and, first-of,
 module _ (book : Lent) where
   -- a survey is done exactly if the book passes the test and its report has room
   pub survey-done-exactly-if : (out : List ℤ)
-      → (surveyOf book out .answer .number ≡ 0) ↔ ((k : Book) × (testOf book ≡ Good k) × (length (afresh book) ≤ length out))
+      → (surveyOf book out .answer .refusal .number ≡ 0) ↔ ((k : Book) × (testOf book ≡ Good k) × (length (afresh book) ≤ length out))
   unfolding surveyRules
   survey-done-exactly-if out =
       let w = survey-keeps-to-table book out .table .done-exactly-if in (
@@ -50,7 +50,7 @@ module _ (book : Lent) where
       )
 
   -- a listing is done exactly if the book passes the test, the loop's number is one of the book's, and the listing has room
-  pub listing-done-exactly-if : (loop : ℤ) (out : List ℤ) → (listingOf book loop out .answer .number ≡ 0)
+  pub listing-done-exactly-if : (loop : ℤ) (out : List ℤ) → (listingOf book loop out .answer .refusal .number ≡ 0)
       ↔ ((k : Book) × (testOf book ≡ Good k) × Between 1 (length (loopsOf (natAbs (book .b)) (book .lines))) loop × (length (loopListing book loop) ≤ length out))
   unfolding listingRules
   listing-done-exactly-if loop out =
@@ -63,7 +63,7 @@ module _ (book : Lent) where
       )
 
   -- the lines of all loops are listed exactly if the book passes the test and they have room
-  pub listings-done-exactly-if : (out : List ℤ) → (listingsOf book out .answer .number ≡ 0)
+  pub listings-done-exactly-if : (out : List ℤ) → (listingsOf book out .answer .refusal .number ≡ 0)
       ↔ ((k : Book) × (testOf book ≡ Good k) × (length (listings (loopsOf (natAbs (book .b)) (book .lines))) ≤ length out))
   unfolding listingsRules
   listings-done-exactly-if out =
@@ -75,7 +75,7 @@ module _ (book : Lent) where
 
   -- a not-checked list is done exactly if the book passes the test and the list has room
   pub not-checked-done-exactly-if : (out : List ℤ)
-      → (notCheckedOf book out .answer .number ≡ 0) ↔ ((k : Book) × (testOf book ≡ Good k) × (length (uncheckedOf (natAbs (book .b)) (book .lines)) ≤ length out))
+      → (notCheckedOf book out .answer .refusal .number ≡ 0) ↔ ((k : Book) × (testOf book ≡ Good k) × (length (uncheckedOf (natAbs (book .b)) (book .lines)) ≤ length out))
   unfolding notCheckedRules
   not-checked-done-exactly-if out =
       let w = not-checked-keeps-to-table book out .table .done-exactly-if in (
@@ -95,7 +95,7 @@ module _ (book : Lent) where
       none-and (line-exactly-if-stands (book .lines) number .1 (a .line, a .stands)) (none-and (report-exactly-if-rows report (afresh book) .1 (a .its-report)) none-in)
 
   -- a withdrawal is done exactly if it is acceptable
-  pub withdrawal-done-exactly-if : (report : List ℤ) (number : ℤ) → (withdrawOf book report number .answer .number ≡ 0) ↔ Acceptable book report number
+  pub withdrawal-done-exactly-if : (report : List ℤ) (number : ℤ) → (withdrawOf book report number .answer .refusal .number ≡ 0) ↔ Acceptable book report number
   unfolding withdrawRules
   withdrawal-done-exactly-if report number =
       let w = withdrawal-keeps-to-table book report number .table .done-exactly-if in (
@@ -105,7 +105,7 @@ module _ (book : Lent) where
 
   -- a re-run is done exactly if it is acceptable and the new difference is inside its limit
   pub rerun-done-exactly-if : (report : List ℤ) (number difference : ℤ)
-      → (rerunOf book report number difference .answer .number ≡ 0) ↔ ((natAbs difference ≤ mostDifference) × Acceptable book report number)
+      → (rerunOf book report number difference .answer .refusal .number ≡ 0) ↔ ((natAbs difference ≤ mostDifference) × Acceptable book report number)
   unfolding rerunRules differenceOut
   rerun-done-exactly-if report number difference =
       let w = rerun-keeps-to-table book report number difference .table .done-exactly-if in (
@@ -142,11 +142,11 @@ module _ (file : List ℕ) (held lines : List ℤ) where
   GoodWith x y = GoodBook (counts b t x y) book
 
   -- a file is read exactly if it is readable
-  pub read-exactly-if-readable : (readOf file held lines .answer .number ≡ 0) ↔ Readable file held lines
+  pub read-exactly-if-readable : (readOf file held lines .answer .refusal .number ≡ 0) ↔ Readable file held lines
   unfolding fileRules bookFault
   read-exactly-if-readable = (λ z. to (w .0 z), λ r. w .1 (back r))
     where
-      w : (readOf file held lines .answer .number ≡ 0) ↔ None (fileRules file held lines)
+      w : (readOf file held lines .answer .refusal .number ≡ 0) ↔ None (fileRules file held lines)
       w = reader-keeps-to-table file held lines .table .done-exactly-if
 
       to : None (fileRules file held lines) → Readable file held lines
@@ -185,7 +185,7 @@ module _ (file : List ℕ) (held lines : List ℤ) where
           (none-and (rw (le-ltb (length held) (h * heldWords) (r .room-for-held), le-ltb (length lines) (n * lineWords) (r .room-for-lines))) none-in)))))))
 
   -- and the book that it leaves in the buffers passes the test of every call
-  pub read-book-passes : let o = readOf file held lines in o .answer .number ≡ 0
+  pub read-book-passes : let o = readOf file held lines in o .answer .refusal .number ≡ 0
       → testOf (lent (pos (o .answer .b)) (pos (o .answer .t)) (take (o .answer .h * heldWords) (o .held)) (take (o .answer .n * lineWords) (o .lines)))
       ≡ Good (record { marks = o .answer .b; tolerance = o .answer .t; held = o .answer .h; lines = o .answer .n })
   read-book-passes z =

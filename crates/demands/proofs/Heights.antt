@@ -19,7 +19,7 @@ use Rattle.laws.specs.Range.{Between}
 use Rattle.laws.proofs.Size.{between, size-sub}
 use Rattle.book.specs.Lent.{Lent}
 use Rattle.book.specs.Line.{fromAt, toAt, differenceAt, lengthAt, standingAt, lineCount}
-use Rattle.book.specs.Test.{countsOf, testOf, ifGood}
+use Rattle.book.specs.Test.{countsOf, testOf, ifGood, refusal, noRefusal}
 use Rattle.book.specs.declared.Book.{Book}
 use Rattle.book.specs.declared.Tested.the-variants.{Good}
 use Rattle.network.specs.Standing.{standing}
@@ -33,18 +33,20 @@ use Rattle.sweeps.specs.Squares.{squares, moveMark}
 use Rattle.sweeps.specs.Kept.{Kept}
 use Rattle.sweeps.proofs.Best.{fairs-sound, sweep-not-worse}
 use Rattle.start.specs.Start.{heldHeight, isHeld, startHeights}
-use Rattle.rates.specs.Rates.{correctionAt, correctionOf, quotient, refusedRate, lineRate, goodRate, rateAnswer, firstHigh}
+use Rattle.rates.specs.Rates as rates
+use Rattle.rates.specs.Rates.{correctionAt, correctionOf, quotient, lineRate, goodRate, rateAnswer, firstHigh}
 use Rattle.rates.proofs.Exact.{there-and-back}
 use Rattle.rates.proofs.Rating.{marks-of, working-lent}
 use Rattle.rates.specs.declared.Rate.the-variants.{PerKm, Withdrawn}
 use Rattle.rates.specs.declared.RateAnswer.{RateAnswer}
+use Rattle.adjust.specs.Answers as adjust
 use Rattle.adjust.specs.Adjusted.{done, unlessUnheld, ended, adjustment}
-use Rattle.adjust.specs.Answers.{answer}
 use Rattle.adjust.specs.Call.{Given, adjusted, givenBy, adjustGood, adjustOf}
 use Rattle.adjust.proofs.Promises.{as-many, never-worse, best-at-every-mark, held-marks-keep}
 use Rattle.demands.specs.Tables.{bookFault}
+use Rattle.demands.specs.Rules.{LowestGiven}
 use Rattle.demands.specs.Heights.{sweepsOf, unheldMark, stillMoves, wentOutside, outsideMark, countOf, heightsOf, sweepRules, adjustRules, adjustDone, AdjustmentKeepsToTable, marksHeights, heightRules, rateRules, ExactFloat, rateDone, RateKeepsToTable}
-use Rattle.demands.proofs.Rules.{byRules, cond-or, keeps-to-table}
+use Rattle.demands.proofs.Rules.{byRules, cond-or, keeps-to-table, lowest-is-given}
 use Rattle.demands.proofs.BookRules.{None, none-in, none-and, first-of, rest-of, by-the-test, passes-if, passes-only-if}
 
 -- ---- refusals
@@ -58,33 +60,33 @@ cond-not : {A : Type 0} (t : Bool) (x y : A) → cond t x y ≡ cond (not t) y x
 cond-not true x y = refl
 cond-not false x y = refl
 
--- a line that there is has an answer with the number and the place 0
-line-number : (heights lines : List ℤ) (line i : ℕ) → (lineRate heights lines line i .number ≡ 0) × (lineRate heights lines line i .place ≡ 0)
+-- a line that there is has an answer with no refusal
+line-answered : (heights lines : List ℤ) (line i : ℕ) → lineRate heights lines line i .refusal ≡ noRefusal
 unfolding lineRate
-line-number heights lines line i = go (eqZ (standingAt lines i) (pos 0))
+line-answered heights lines line i = go (eqZ (standingAt lines i) (pos 0))
   where
     x : RateAnswer
-    x = record { number = 0; place = 0; line = line; correction = pos 0; rate = Withdrawn }
+    x = record { refusal = noRefusal; line = line; correction = pos 0; rate = Withdrawn }
 
     y : RateAnswer
-    y = record { number = 0; place = 0; line = line; correction = correctionAt heights lines i; rate = PerKm (quotient (correctionAt heights lines i) (lengthAt lines i)) }
+    y = record { refusal = noRefusal; line = line; correction = correctionAt heights lines i; rate = PerKm (quotient (correctionAt heights lines i) (lengthAt lines i)) }
 
-    go : (t : Bool) → (cond t x y .number ≡ 0) × (cond t x y .place ≡ 0)
-    go true = (refl, refl)
-    go false = (refl, refl)
+    go : (t : Bool) → cond t x y .refusal ≡ noRefusal
+    go true = refl
+    go false = refl
 
 module _ (book : Lent) where
   -- the adjustment keeps to its table: 4, 6, 7, 10, 11, then 12 or 13
   pub adjustment-keeps-to-table : (out : List ℤ) → AdjustmentKeepsToTable book out (adjustOf book out)
   unfolding adjustOf adjustRules sweepsOf unheldMark byRules
   adjustment-keeps-to-table out =
-      keeps-to-table (λ n p. refl) (λ n p. refl) refl refl refl
-      (by-the-test book (λ k. adjustGood k (book .held) (book .lines) out) (sweepRules book out) (λ n p. adjusted (answer n p 0) out) (adjustDone (sweepsOf (natAbs (book .b)) (book .held) (book .lines)) out)
+      keeps-to-table (λ r. refl) refl refl
+      (by-the-test book (λ k. adjustGood k (book .held) (book .lines) out) (sweepRules book out) (λ r. adjusted (adjust.refusedWith r) out) (adjustDone (sweepsOf (natAbs (book .b)) (book .held) (book .lines)) out)
       (go (ltb (length out) (natAbs (book .b))) (unheldMark (natAbs (book .b)) (book .held) (book .lines)) (sweepsOf (natAbs (book .b)) (book .held) (book .lines))))
     where
-      go : (x : Bool) (u : ℕ) (s : Settled) → cond x (adjusted (answer 10 0 0) out) (givenBy out (unlessUnheld u (λ _. ended s)))
-          ≡ cond x (adjusted (answer 10 0 0) out) (cond (ltb 0 u) (adjusted (answer 11 u 0) out) (cond (stillMoves s) (adjusted (answer 12 0 0) out)
-          (cond (wentOutside s) (adjusted (answer 13 (outsideMark s) 0) out) (adjustDone s out))))
+      go : (x : Bool) (u : ℕ) (s : Settled) → cond x (adjusted (adjust.refusedWith (refusal 10 0)) out) (givenBy out (unlessUnheld u (λ _. ended s)))
+          ≡ cond x (adjusted (adjust.refusedWith (refusal 10 0)) out) (cond (ltb 0 u) (adjusted (adjust.refusedWith (refusal 11 u)) out) (cond (stillMoves s) (adjusted (adjust.refusedWith (refusal 12 0)) out)
+          (cond (wentOutside s) (adjusted (adjust.refusedWith (refusal 13 (outsideMark s))) out) (adjustDone s out))))
       go true u s = refl
       go false zero (settled n hs) = refl
       go false zero (Settled.outside m) = refl
@@ -93,29 +95,38 @@ module _ (book : Lent) where
 
   -- the rate keeps to its table: 4, 6, 7, 8, 13
   pub rate-keeps-to-table : (heights : List ℤ) (line : ℤ) → RateKeepsToTable book heights line (rateAnswer book heights line)
-  unfolding rateAnswer rateRules refusedRate goodRate byRules
+  unfolding rateAnswer rateRules rates.refusedWith goodRate byRules
   rate-keeps-to-table heights line =
-      keeps-to-table (λ n p. refl) (λ n p. refl) (line-number heights (book .lines) (natAbs line) (natAbs line - 1) .0) (line-number heights (book .lines) (natAbs line) (natAbs line - 1) .1) refl
-      (cond-not (eqZ (pos (length heights)) (book .b)) (ifGood (testOf book) (λ r. refusedRate (r .number) (r .place)) (λ k. goodRate heights (book .lines) k line)) (refusedRate 4 0)
-      ∙ ap (cond (not (eqZ (pos (length heights)) (book .b))) (refusedRate 4 0))
-      (by-the-test book (λ k. goodRate heights (book .lines) k line) (heightRules book heights line) refusedRate (rateDone book heights line) refl)
-      ∙ cond-or (not (eqZ (pos (length heights)) (book .b))) (bookFault book) (refusedRate 4 0) _)
+      keeps-to-table (λ r. refl) (line-answered heights (book .lines) (natAbs line) (natAbs line - 1)) refl
+      (cond-not (eqZ (pos (length heights)) (book .b)) (ifGood (testOf book) rates.refusedWith (λ k. goodRate heights (book .lines) k line)) (rates.refusedWith (refusal 4 0))
+      ∙ ap (cond (not (eqZ (pos (length heights)) (book .b))) (rates.refusedWith (refusal 4 0)))
+      (by-the-test book (λ k. goodRate heights (book .lines) k line) (heightRules book heights line) rates.refusedWith (rateDone book heights line) refl)
+      ∙ cond-or (not (eqZ (pos (length heights)) (book .b))) (bookFault book) (rates.refusedWith (refusal 4 0)) _)
+
+  -- "Where several apply, the lowest number is given": the numbers of both tables rise
+  pub adjustment-gives-the-lowest : (out : List ℤ) → LowestGiven (adjustRules book out) (adjustOf book out .answer .refusal)
+  unfolding adjustRules
+  adjustment-gives-the-lowest out = lowest-is-given refl (adjustment-keeps-to-table out .table)
+
+  pub rate-gives-the-lowest : (heights : List ℤ) (line : ℤ) → LowestGiven (rateRules book heights line) (rateAnswer book heights line .refusal)
+  unfolding rateRules
+  rate-gives-the-lowest heights line = lowest-is-given refl (rate-keeps-to-table heights line .table)
 
   -- a refused adjustment: no sweeps, and the heights as they were
-  pub refused-adjustment-changes-nothing : (out : List ℤ) → let g = adjustOf book out in (g .answer .number ≡ 0 → ⊥) → (g .answer .sweeps ≡ 0) × (g .heights ≡ out)
+  pub refused-adjustment-changes-nothing : (out : List ℤ) → let g = adjustOf book out in (g .answer .refusal .number ≡ 0 → ⊥) → (g .answer .sweeps ≡ 0) × (g .heights ≡ out)
   refused-adjustment-changes-nothing out h = let e = adjustment-keeps-to-table out .refused h in
       (ap (λ (g : Given). g .answer .sweeps) e, ap (λ (g : Given). g .heights) e)
 
   -- "Of a refused call, line, correction and rate are 0"
-  pub refused-rate-is-zero : (heights : List ℤ) (line : ℤ) → let r = rateAnswer book heights line in (r .number ≡ 0 → ⊥)
+  pub refused-rate-is-zero : (heights : List ℤ) (line : ℤ) → let r = rateAnswer book heights line in (r .refusal .number ≡ 0 → ⊥)
       → (r .line ≡ 0) × (r .correction ≡ pos 0) × (r .rate ≡ PerKm (fin false 0 (pos 0)))
-  unfolding refusedRate
+  unfolding rates.refusedWith
   refused-rate-is-zero heights line h = let e = rate-keeps-to-table heights line .refused h in
       (ap (λ (r : RateAnswer). r .line) e, ap (λ (r : RateAnswer). r .correction) e, ap (λ (r : RateAnswer). r .rate) e)
 
   -- ---- the rate of a call that is done
 
-  module _ (heights : List ℤ) (line : ℤ) (given : rateAnswer book heights line .number ≡ 0) where
+  module _ (heights : List ℤ) (line : ℤ) (given : rateAnswer book heights line .refusal .number ≡ 0) where
     abbrev at : ℕ
     at = natAbs line - 1
 
@@ -155,13 +166,13 @@ module _ (book : Lent) where
     -- of a standing line: "adjusted minus observed difference", and the one rounded quotient of two whole numbers
     pub rate-is-one-quotient : standingAt (book .lines) at ≡ pos 1 → let c = height heights (natAbs (toAt (book .lines) at)) -ℤ height heights (natAbs (fromAt (book .lines) at)) -ℤ differenceAt (book .lines) at in
         rateAnswer book heights line
-        ≡ record { number = 0; place = 0; line = natAbs line; correction = c; rate = PerKm (div binary64 (ofInt binary64 c) (ofInt binary64 (lengthAt (book .lines) at))) }
+        ≡ record { refusal = noRefusal; line = natAbs line; correction = c; rate = PerKm (div binary64 (ofInt binary64 c) (ofInt binary64 (lengthAt (book .lines) at))) }
     unfolding lineRate correctionAt correctionOf quotient eqZ
     rate-is-one-quotient stands = rate-keeps-to-table heights line .finished given ∙ rw stands
 
     -- "or that the line is withdrawn"; its correction is 0
     pub withdrawn-line-has-no-rate : standingAt (book .lines) at ≡ pos 0
-        → rateAnswer book heights line ≡ record { number = 0; place = 0; line = natAbs line; correction = pos 0; rate = Withdrawn }
+        → rateAnswer book heights line ≡ record { refusal = noRefusal; line = natAbs line; correction = pos 0; rate = Withdrawn }
     unfolding lineRate eqZ
     withdrawn-line-has-no-rate stands = rate-keeps-to-table heights line .finished given ∙ rw stands
 
@@ -174,7 +185,7 @@ module _ (book : Lent) where
   have-settled unsettled x y = absurd (true≢false x)
 
   -- an adjustment is done exactly if the book passes the test, there is room for its heights, each piece has a held mark, and the sweeps settle
-  pub adjustment-done-exactly-if : (out : List ℤ) → (adjustOf book out .answer .number ≡ 0)
+  pub adjustment-done-exactly-if : (out : List ℤ) → (adjustOf book out .answer .refusal .number ≡ 0)
       ↔ ((k : Book) × (testOf book ≡ Good k) × (natAbs (book .b) ≤ length out) × (unheldMark (natAbs (book .b)) (book .held) (book .lines) ≡ 0) × (n : ℕ) × (hs : List ℤ) × (sweepsOf (natAbs (book .b)) (book .held) (book .lines) ≡ settled n hs))
   unfolding adjustRules
   adjustment-done-exactly-if out =
@@ -194,7 +205,7 @@ module _ (book : Lent) where
         λ p. w .1 (passes-only-if book (p .0) (p .1) (none-and (le-ltb (length out) (natAbs (book .b)) (p .2)) (none-and (ap (ltb 0) (p .3)) (none-and (ap stillMoves (p .6)) (none-and (ap wentOutside (p .6)) none-in))))),
       )
 
-  module _ (out : List ℤ) (is-done : adjustOf book out .answer .number ≡ 0) where
+  module _ (out : List ℤ) (is-done : adjustOf book out .answer .refusal .number ≡ 0) where
     abbrev given : Given
     given = adjustOf book out
 

@@ -18,11 +18,12 @@ use Rattle.book.specs.Lent.{Lent}
 use Rattle.book.specs.Limits.{mostDifference, leastLength, mostLength}
 use Rattle.book.specs.Held.{firstBadHeld}
 use Rattle.book.specs.Line.{fromAt, toAt, differenceAt, lengthAt, standingAt, lineCount, differenceOut, lineFault, lineBad, firstBadLine}
-use Rattle.book.specs.Test.{refused, testOf}
+use Rattle.book.specs.Test.{refused, testOf, refusal}
 use Rattle.book.specs.declared.Book.{Book}
-use Rattle.book.specs.declared.Tested.the-variants.{Good}
+use Rattle.book.specs.declared.Refusal.{Refusal}
+use Rattle.book.specs.declared.Tested.the-variants.{Good, Refused}
 use Rattle.loops.specs.Report.{reportOf}
-use Rattle.survey.specs.Report.{refusal}
+use Rattle.survey.specs.Report as survey
 use Rattle.survey.specs.Survey.{surveyOf}
 use Rattle.lists.specs.Listing.{listingOf, listingsOf}
 use Rattle.lists.specs.NotChecked.{notCheckedOf}
@@ -39,10 +40,10 @@ use Rattle.demands.proofs.BookRules.{test-by-rules}
 -- ---- a faulty book
 
 -- a book that the test refuses gets the same refusal from every call
-pub faulty-book-same-at-every-call : (book : Lent) (number place : ℕ) → testOf book ≡ refused number place → SameAtEveryCall book number place
+pub faulty-book-same-at-every-call : (book : Lent) (r : Refusal) → testOf book ≡ Refused r → SameAtEveryCall book r
 unfolding surveyOf listingOf listingsOf notCheckedOf withdrawOf rerunOf correctOf differenceOut rateAnswer
-faulty-book-same-at-every-call book number place e = record {
-  survey = λ out. rw e;
+faulty-book-same-at-every-call book r e = record {
+  survey-of = λ out. rw e;
   listing-of = λ loop out. rw e;
   listings-of = λ out. rw e;
   not-checked = λ out. rw e;
@@ -92,11 +93,11 @@ module _ (book : Lent) (report : List ℤ) (k : Book) (passes : testOf book ≡ 
       go false e = absurd (other (report-exactly-if-rows report (reportOf (k .marks) (k .tolerance) (book .lines)) .0 e))
 
   -- a withdrawal with a report that is not this book's is refused with 9, and lines and report stay as they are
-  pub other-report-is-refused : withdrawOf book report number ≡ corrected (refusal 9 0) (book .lines) report
+  pub other-report-is-refused : withdrawOf book report number ≡ corrected (survey.refusedWith (refusal 9 0)) (book .lines) report
   unfolding withdrawOf correctOf correctGood
   other-report-is-refused = rw (passes, line-exactly-if-stands (book .lines) number .1 (i, stands), differs)
 
   -- and so is a re-run
-  pub other-report-is-refused-in-rerun : (difference : ℤ) → natAbs difference ≤ mostDifference → rerunOf book report number difference ≡ corrected (refusal 9 0) (book .lines) report
+  pub other-report-is-refused-in-rerun : (difference : ℤ) → natAbs difference ≤ mostDifference → rerunOf book report number difference ≡ corrected (survey.refusedWith (refusal 9 0)) (book .lines) report
   unfolding rerunOf correctOf correctGood differenceOut
   other-report-is-refused-in-rerun difference small = rw (size-inside mostDifference difference small, passes, line-exactly-if-stands (book .lines) number .1 (i, stands), differs)

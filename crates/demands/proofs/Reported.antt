@@ -84,7 +84,7 @@ module _ (book : Lent) (k : Book) (passes : testOf book ≡ Good k) where
 
   -- ---- the survey
 
-  module _ (out : List ℤ) (done : surveyOf book out .answer .number ≡ 0) where
+  module _ (out : List ℤ) (done : surveyOf book out .answer .refusal .number ≡ 0) where
     -- the rows and pieces answered are those of the book
     pub survey-counts : (surveyOf book out .answer .rows ≡ length (loopsOf (k .marks) (book .lines))) × (surveyOf book out .answer .pieces ≡ piecesOf (k .marks) (book .lines))
     unfolding counted
@@ -115,7 +115,7 @@ module _ (book : Lent) (k : Book) (passes : testOf book ≡ Good k) where
   -- ---- the listing
 
   -- the listing of loop i, numbered i + 1, is its lines in the order in which they are run, each with its sense
-  pub listing-is-the-loop : (i : ℕ) (out : List ℤ) → listingOf book (pos (suc i)) out .answer .number ≡ 0
+  pub listing-is-the-loop : (i : ℕ) (out : List ℤ) → listingOf book (pos (suc i)) out .answer .refusal .number ≡ 0
       → (i < length (loopsOf (k .marks) (book .lines))) × ListedIn (map listed (loopAt (loopsOf (k .marks) (book .lines)) i)) out (listingOf book (pos (suc i)) out)
   unfolding listingRules loopListing
   listing-is-the-loop i out done =
@@ -133,7 +133,7 @@ module _ (book : Lent) (k : Book) (passes : testOf book ≡ Good k) where
 
   -- ---- the lines of all loops
 
-  pub listings-in-first-places : (out : List ℤ) → listingsOf book out .answer .number ≡ 0
+  pub listings-in-first-places : (out : List ℤ) → listingsOf book out .answer .refusal .number ≡ 0
       → ListedIn (listings (loopsOf (k .marks) (book .lines))) out (listingsOf book out)
   listings-in-first-places out done =
       rw (listings-keeps-to-table book out .finished done, ← marks-are) (in-first-places (listings (loopsOf (natAbs (book .b)) (book .lines))) out)
@@ -150,7 +150,7 @@ module _ (book : Lent) (k : Book) (passes : testOf book ≡ Good k) where
       )
 
   -- "each loop's count is the second number of its row": the lines of loop i stand after as many places as the rows before it count
-  module _ (rows out : List ℤ) (surveyed : surveyOf book rows .answer .number ≡ 0) (done : listingsOf book out .answer .number ≡ 0) where
+  module _ (rows out : List ℤ) (surveyed : surveyOf book rows .answer .refusal .number ≡ 0) (done : listingsOf book out .answer .refusal .number ≡ 0) where
     abbrev ls : List Loop
     ls = loopsOf (k .marks) (book .lines)
 
@@ -175,14 +175,14 @@ module _ (book : Lent) (k : Book) (passes : testOf book ≡ Good k) where
   -- ---- the not-checked list
 
   -- the list stands in the first places of the output
-  pub not-checked-in-first-places : (out : List ℤ) → notCheckedOf book out .answer .number ≡ 0
+  pub not-checked-in-first-places : (out : List ℤ) → notCheckedOf book out .answer .refusal .number ≡ 0
       → ListedIn (map pos (notChecked (loopsOf (k .marks) (book .lines)) (standing (book .lines)))) out (notCheckedOf book out)
   unfolding uncheckedOf
   not-checked-in-first-places out done =
       rw (not-checked-keeps-to-table book out .finished done, ← marks-are) (in-first-places (map pos (notChecked (loopsOf (natAbs (book .b)) (book .lines)) (standing (book .lines)))) out)
 
   -- a number is in them exactly if it is that of a standing line through which no circuit passes
-  pub listed-exactly-if-no-circuit : (out : List ℤ) → notCheckedOf book out .answer .number ≡ 0 → (n : ℕ)
+  pub listed-exactly-if-no-circuit : (out : List ℤ) → notCheckedOf book out .answer .refusal .number ≡ 0 → (n : ℕ)
       → List·Memᴰ (pos n) (take (notCheckedOf book out .answer .entries) (notCheckedOf book out .out))
       ↔ ((l : Line) × List·Memᴰ l (standing (book .lines)) × (n ≡ l .number) × (Circuit (standing (book .lines)) n → ⊥))
   listed-exactly-if-no-circuit out done n =

@@ -98,7 +98,7 @@ module _ (book : Lent) (report : List ℤ) where
   run-stands k e i h p m = pass-line (all-closed (natAbs (book .b)) (standing (book .lines)) (sound-book k e) (loopAt (loopsOf (natAbs (book .b)) (book .lines)) i) (loop-at-is (loopsOf (natAbs (book .b)) (book .lines)) i h) .1) p m
 
   -- a line is re-run: what still stands
-  pub rerun-what-still-stands : (number difference : ℤ) → rerunOf book report number difference .answer .number ≡ 0
+  pub rerun-what-still-stands : (number difference : ℤ) → rerunOf book report number difference .answer .refusal .number ≡ 0
       → AfterRerun (natAbs (book .b)) (natAbs (book .t)) (natAbs number) (book .lines) (rerunOf book report number difference .lines)
   rerun-what-still-stands number difference z =
       let a = rerun-done-exactly-if book report number difference .0 z .1 in
@@ -106,7 +106,7 @@ module _ (book : Lent) (report : List ℤ) where
       (after-rerun (book .lines) number (a .line) (a .stands) (natAbs (book .b)) (natAbs (book .t)) difference)
 
   -- the misclosure of a loop moves by the change of the difference, as often as the loop runs the line and in its sense
-  pub rerun-moves-misclosures : (number difference : ℤ) → rerunOf book report number difference .answer .number ≡ 0
+  pub rerun-moves-misclosures : (number difference : ℤ) → rerunOf book report number difference .answer .refusal .number ≡ 0
       → (i : ℕ) → i < length (loopsOf (natAbs (book .b)) (book .lines)) → let before = loopAt (loopsOf (natAbs (book .b)) (book .lines)) i in
       misclosure (loopAt (loopsOf (natAbs (book .b)) (rerunOf book report number difference .lines)) i)
       ≡ misclosure before +ℤ (difference -ℤ differenceAt (book .lines) (natAbs number - 1)) *ℤ passes before (natAbs number)
@@ -124,7 +124,7 @@ module _ (book : Lent) (report : List ℤ) where
 
   -- a closing line is withdrawn: what still stands
   pub withdrawal-what-still-stands : (c : Line) → List·Memᴰ c (closingLinesOf (natAbs (book .b)) (book .lines))
-      → withdrawOf book report (pos (c .number)) .answer .number ≡ 0
+      → withdrawOf book report (pos (c .number)) .answer .refusal .number ≡ 0
       → AfterClosingLine (natAbs (book .b)) (natAbs (book .t)) (c .number) (book .lines) (withdrawOf book report (pos (c .number)) .lines)
   unfolding loopsOf piecesOf
   withdrawal-what-still-stands c closes z =
@@ -141,7 +141,7 @@ module _ (book : Lent) (report : List ℤ) where
       })
 
   -- any line is withdrawn: the rows are as many, or one fewer
-  pub withdrawal-rows : (number : ℤ) → withdrawOf book report number .answer .number ≡ 0
+  pub withdrawal-rows : (number : ℤ) → withdrawOf book report number .answer .refusal .number ≡ 0
       → (length (loopsOf (natAbs (book .b)) (withdrawOf book report number .lines)) ≤ length (loopsOf (natAbs (book .b)) (book .lines)))
       × (length (loopsOf (natAbs (book .b)) (book .lines)) ≤ suc (length (loopsOf (natAbs (book .b)) (withdrawOf book report number .lines))))
   unfolding loopsOf

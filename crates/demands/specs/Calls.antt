@@ -5,22 +5,27 @@ use mathlib.Core.List.{List, _++_}
 use Prim.Native.Nat.{ℕ, _*_, _≤_}
 use lib.ListN.{length, drop}
 use lib.IntN.{ℤ, pos, natAbs}
+use Rattle.book.specs.Test.{refusal}
 use Rattle.book.specs.Lent.{Lent, withLines}
 use Rattle.book.specs.Limits.{mostDifference}
 use Rattle.book.specs.Held.{heldWords}
 use Rattle.book.specs.Line.{lineWords}
 use Rattle.book.specs.Good.{GoodBook}
+use Rattle.book.specs.declared.Refusal.{Refusal}
 use Rattle.file.specs.Read as read
 use Rattle.file.specs.Read.{Outcome, answered, done, statedLength, statedVersion, fileLength, statedH, statedN, statedCounts, heldOf, linesOf, bookIn}
 use Rattle.loops.specs.Row.{listings}
 use Rattle.loops.specs.Report.{loopsOf}
-use Rattle.survey.specs.Report.{refusal, counted}
+use Rattle.survey.specs.Report as survey
+use Rattle.survey.specs.Report.{counted}
 use Rattle.survey.specs.Survey.{Surveyed, surveyed, surveyOf}
-use Rattle.lists.specs.Listing.{Listing, listing, unlisted, listingOf, listingsOf}
+use Rattle.lists.specs.Listing as lists
+use Rattle.lists.specs.Listing.{Listing, listing, listingOf, listingsOf, entered}
 use Rattle.lists.specs.NotChecked.{uncheckedOf, notCheckedOf}
 use Rattle.survey.specs.Correction.{Corrected, corrected, updated, rerunLines, withdrawLines, rerunOf, withdrawOf}
-use Rattle.rates.specs.Rates.{refusedRate, rateAnswer}
-use Rattle.adjust.specs.Answers.{answer}
+use Rattle.rates.specs.Rates as rates
+use Rattle.rates.specs.Rates.{rateAnswer}
+use Rattle.adjust.specs.Answers as adjust
 use Rattle.adjust.specs.Call.{adjusted, adjustOf}
 use Rattle.demands.specs.Rules.{Rule, KeepsToTable}
 pub use Rattle.demands.specs.Tables.{afresh}
@@ -32,16 +37,16 @@ surveyDone book out = surveyed (counted (natAbs (book .b)) (book .lines)) (afres
 
 abbrev pub SurveyKeepsToTable : Lent → List ℤ → Surveyed → Type 0
 SurveyKeepsToTable book out given =
-    KeepsToTable (λ (s : Surveyed). s .answer .number) (λ (s : Surveyed). s .answer .place) (surveyRules book out)
-    (λ n p. surveyed (refusal n p) out) (surveyDone book out) given
+    KeepsToTable (λ (s : Surveyed). s .answer .refusal) (surveyRules book out)
+    (λ r. surveyed (survey.refusedWith r) out) (surveyDone book out) given
 
 -- a list and its count of entries, in the first places of the output
 abbrev pub listDone : List ℤ → List ℤ → Listing
-listDone list out = listing (record { number = 0; place = 0; entries = length list }) (list ++ drop (length list) out)
+listDone list out = listing (entered (length list)) (list ++ drop (length list) out)
 
 abbrev pub ListKeepsToTable : List Rule → List ℤ → List ℤ → Listing → Type 0
 ListKeepsToTable rules list out given =
-    KeepsToTable (λ (l : Listing). l .answer .number) (λ (l : Listing). l .answer .place) rules (λ n p. listing (unlisted n p) out) (listDone list out) given
+    KeepsToTable (λ (l : Listing). l .answer .refusal) rules (λ r. listing (lists.refusedWith r) out) (listDone list out) given
 
 -- the listing: lines and sense of the loop of that number
 abbrev pub ListingKeepsToTable : Lent → ℤ → List ℤ → Listing → Type 0
@@ -62,7 +67,7 @@ correctionDone book report new = corrected (counted (natAbs (book .b)) new) new 
 
 abbrev pub CorrectionKeepsToTable : List Rule → Lent → List ℤ → List ℤ → Corrected → Type 0
 CorrectionKeepsToTable rules book report new given =
-    KeepsToTable (λ (c : Corrected). c .answer .number) (λ (c : Corrected). c .answer .place) rules (λ n p. corrected (refusal n p) (book .lines) report)
+    KeepsToTable (λ (c : Corrected). c .answer .refusal) rules (λ r. corrected (survey.refusedWith r) (book .lines) report)
     (correctionDone book report new) given
 
 abbrev pub RerunKeepsToTable : Lent → List ℤ → ℤ → ℤ → Corrected → Type 0
@@ -86,21 +91,21 @@ readDone file held lines =
 
 abbrev pub ReaderKeepsToTable : List ℕ → List ℤ → List ℤ → Outcome → Type 0
 ReaderKeepsToTable file held lines given =
-    KeepsToTable (λ (o : Outcome). o .answer .number) (λ (o : Outcome). o .answer .place) (fileRules file held lines)
-    (λ n p. answered held lines (read.refusal n p)) (readDone file held lines) given
+    KeepsToTable (λ (o : Outcome). o .answer .refusal) (fileRules file held lines)
+    (λ r. answered held lines (read.refusedWith r)) (readDone file held lines) given
 
 -- "Each call tests all that it is lent": a faulty book gets the same refusal from every call, and nothing is changed (a re-run is refused with 4
 -- already where its new difference is outside the limit, and a rate where its heights are not b in number)
-pub record SameAtEveryCall (book : Lent) (number place : ℕ) : Type 0 where
-  pub survey : (out : List ℤ) → surveyOf book out ≡ surveyed (refusal number place) out
-  pub listing-of : (loop : ℤ) (out : List ℤ) → listingOf book loop out ≡ listing (unlisted number place) out
-  pub listings-of : (out : List ℤ) → listingsOf book out ≡ listing (unlisted number place) out
-  pub not-checked : (out : List ℤ) → notCheckedOf book out ≡ listing (unlisted number place) out
-  pub withdrawal : (report : List ℤ) (line : ℤ) → withdrawOf book report line ≡ corrected (refusal number place) (book .lines) report
+pub record SameAtEveryCall (book : Lent) (r : Refusal) : Type 0 where
+  pub survey-of : (out : List ℤ) → surveyOf book out ≡ surveyed (survey.refusedWith r) out
+  pub listing-of : (loop : ℤ) (out : List ℤ) → listingOf book loop out ≡ listing (lists.refusedWith r) out
+  pub listings-of : (out : List ℤ) → listingsOf book out ≡ listing (lists.refusedWith r) out
+  pub not-checked : (out : List ℤ) → notCheckedOf book out ≡ listing (lists.refusedWith r) out
+  pub withdrawal : (report : List ℤ) (line : ℤ) → withdrawOf book report line ≡ corrected (survey.refusedWith r) (book .lines) report
   pub re-run : (report : List ℤ) (line difference : ℤ) → natAbs difference ≤ mostDifference
-      → rerunOf book report line difference ≡ corrected (refusal number place) (book .lines) report
-  pub adjustment : (out : List ℤ) → adjustOf book out ≡ adjusted (answer number place 0) out
-  pub rate : (heights : List ℤ) (line : ℤ) → pos (length heights) ≡ book .b → rateAnswer book heights line ≡ refusedRate number place
+      → rerunOf book report line difference ≡ corrected (survey.refusedWith r) (book .lines) report
+  pub adjustment : (out : List ℤ) → adjustOf book out ≡ adjusted (adjust.refusedWith r) out
+  pub rate : (heights : List ℤ) (line : ℤ) → pos (length heights) ≡ book .b → rateAnswer book heights line ≡ rates.refusedWith r
 
 -- a file that is read: it has 13 bytes or more, its stated length, version 1, a good book of the stated counts and nothing more, and there is room for its entries
 pub record Readable (file : List ℕ) (held lines : List ℤ) : Type 0 where

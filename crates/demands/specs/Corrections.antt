@@ -46,7 +46,7 @@ correctedBook book report s = withLines book (correct book report s .lines)
 -- corrections one after the other, each accepted (its number is 0) and made from the book and the report that the one before left; the last leaves book′ and report′
 pub data Accepted : Lent → List ℤ → List Step → Lent → List ℤ → Type 0 where
   no-more : {book : Lent} {report : List ℤ} → Accepted book report [] book report
-  accepted : {book book′ : Lent} {report report′ : List ℤ} {s : Step} {steps : List Step} → correct book report s .answer .number ≡ 0
+  accepted : {book book′ : Lent} {report report′ : List ℤ} {s : Step} {steps : List Step} → correct book report s .answer .refusal .number ≡ 0
       → Accepted (correctedBook book report s) (correct book report s .report) steps book′ report′
       → Accepted book report (s ∷ steps) book′ report′
 

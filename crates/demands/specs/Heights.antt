@@ -10,6 +10,7 @@ use lib.Ieee.{binary64, inSigned, toSigned, ofInt}
 use lib.ListN.{length, take, drop}
 use lib.IntN.{ℤ, pos, natAbs, _+ℤ_}
 use Rattle.laws.specs.Tests.{outZ, eqZ}
+use Rattle.book.specs.Test.{refusal}
 use Rattle.book.specs.Lent.{Lent}
 use Rattle.book.specs.Line.{lineCount}
 use Rattle.network.specs.Standing.{Line, standing}
@@ -20,9 +21,11 @@ use Rattle.fields.specs.Heights.{height}
 use Rattle.sights.specs.Sights.{sightsOf}
 use Rattle.sweeps.specs.Sweeps.{Settled, settled, unsettled, settle}
 use Rattle.start.specs.Start.{heldHeight, isHeld, rootedBy, unheldPiece, startHeights}
-use Rattle.rates.specs.Rates.{refusedRate, lineRate, firstHigh}
+use Rattle.rates.specs.Rates as rates
+use Rattle.rates.specs.Rates.{lineRate, firstHigh}
 use Rattle.rates.specs.declared.RateAnswer.{RateAnswer}
-use Rattle.adjust.specs.Answers.{answer}
+use Rattle.adjust.specs.Answers.{settledAt}
+use Rattle.adjust.specs.Answers as adjust
 use Rattle.adjust.specs.Call.{Given, adjusted}
 use Rattle.demands.specs.Rules.{Rule, rule, KeepsToTable}
 use Rattle.demands.specs.Tables.{bookFault, heldRule, lineRule, bookRules}
@@ -83,12 +86,12 @@ adjustRules book out = bookRules book (sweepRules book out)
 
 -- the settled heights in the first places of the output
 abbrev pub adjustDone : Settled → List ℤ → Given
-adjustDone s out = adjusted (answer 0 0 (countOf s)) (heightsOf s ++ drop (length (heightsOf s)) out)
+adjustDone s out = adjusted (settledAt (countOf s)) (heightsOf s ++ drop (length (heightsOf s)) out)
 
 abbrev pub AdjustmentKeepsToTable : Lent → List ℤ → Given → Type 0
 AdjustmentKeepsToTable book out given =
-    KeepsToTable (λ (g : Given). g .answer .number) (λ (g : Given). g .answer .place) (adjustRules book out)
-    (λ n p. adjusted (answer n p 0) out) (adjustDone (sweepsOf (natAbs (book .b)) (book .held) (book .lines)) out) given
+    KeepsToTable (λ (g : Given). g .answer .refusal) (adjustRules book out)
+    (λ r. adjusted (adjust.refusedWith r) out) (adjustDone (sweepsOf (natAbs (book .b)) (book .held) (book .lines)) out) given
 
 -- the heights of the marks, as an adjustment left them
 abbrev pub marksHeights : Lent → Given → List ℤ
@@ -117,7 +120,7 @@ rateDone book heights line = lineRate heights (book .lines) (natAbs line) (natAb
 
 abbrev pub RateKeepsToTable : Lent → List ℤ → ℤ → RateAnswer → Type 0
 RateKeepsToTable book heights line given =
-    KeepsToTable (λ (r : RateAnswer). r .number) (λ (r : RateAnswer). r .place) (rateRules book heights line) refusedRate (rateDone book heights line) given
+    KeepsToTable (λ (r : RateAnswer). r .refusal) (rateRules book heights line) rates.refusedWith (rateDone book heights line) given
 
 -- ---- pieces and the start
 

@@ -1,4 +1,4 @@
--- Document 01's table of refusals as it stands for each call: the numbers that the call can give, lowest first, with condition and place.
+-- Document 01's table of refusals as it stands for each call: its rules in the order in which they are tried, each a number, its condition and its place.
 -- Assumes nothing.
 use mathlib.Core.Bool.{Bool, not, _||_}
 use mathlib.Core.List.{List, [], _∷_, map}

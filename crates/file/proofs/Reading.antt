@@ -12,14 +12,14 @@ use lib.IntN.{ℤ}
 use Rattle.book.specs.Limits.{mostLines}
 use Rattle.book.specs.Held.{heldWords, heldCount}
 use Rattle.book.specs.Line.{lineWords, lineCount}
-use Rattle.book.specs.Test.{testOf}
+use Rattle.book.specs.Test.{refusal, testOf}
 use Rattle.book.specs.Good.{GoodBook}
 use Rattle.book.proofs.IfGood.{either-way}
 use Rattle.book.proofs.Goods.{tested-good, tested-counts, tested-numbered}
 use Rattle.book.specs.declared.Book.{Book}
 use Rattle.book.specs.declared.Refusal.{Refusal}
 use Rattle.book.specs.declared.Tested.the-variants.{Good, Refused}
-use Rattle.file.specs.Read.{Outcome, answered, refusal, done, heldOf, linesOf, bookIn, headOf, roomOf, bodyOf, afterHead, readOf}
+use Rattle.file.specs.Read.{Outcome, answered, refusedWith, done, heldOf, linesOf, bookIn, headOf, roomOf, bodyOf, afterHead, readOf}
 use Rattle.file.specs.Owed.{BookRead, FileRefused}
 use Rattle.file.specs.declared.Head as head
 use Rattle.file.specs.declared.Head.{Head}
@@ -32,7 +32,7 @@ module _ (file : List ℕ) (held lines : List ℤ) where
   abbrev pub ReadOrRefused : Outcome → Type 0
   ReadOrRefused o = BookRead file held lines o ⊎ FileRefused held lines o
 
-  refuses : (number place : ℕ) → 0 < number → number ≤ 10 → place ≤ mostLines → ReadOrRefused (answered held lines (refusal number place))
+  refuses : (number place : ℕ) → 0 < number → number ≤ 10 → place ≤ mostLines → ReadOrRefused (answered held lines (refusedWith (refusal number place)))
   refuses number place low high near =
       inr (record { number = number; place = place; low = low; high = high; near = near; answer = refl; held-kept = refl; lines-kept = refl })
 
@@ -52,7 +52,7 @@ module _ (file : List ℕ) (held lines : List ℤ) where
   unfolding roomOf GoodFile
   room-or-ten k good = go (ltb (length held) (k .held * heldWords)) (ltb (length lines) (k .lines * lineWords))
     where
-      go : (s t : Bool) → ReadOrRefused (cond s (answered held lines (refusal 10 0)) (cond t (answered held lines (refusal 10 0)) (record {
+      go : (s t : Bool) → ReadOrRefused (cond s (answered held lines (refusedWith (refusal 10 0))) (cond t (answered held lines (refusedWith (refusal 10 0))) (record {
         answer = done k;
         held = heldOf file (k .held) ++ drop (k .held * heldWords) held;
         lines = linesOf file (k .held) (k .lines) ++ drop (k .lines * lineWords) lines;
@@ -65,7 +65,7 @@ module _ (file : List ℕ) (held lines : List ℤ) where
   unfolding bodyOf GoodFile
   body k = either-way (bookIn file k) _ _ ReadOrRefused bad good
     where
-      bad : (r : Refusal) → testOf (bookIn file k) ≡ Refused r → ReadOrRefused (answered held lines (refusal (r .number) (r .place)))
+      bad : (r : Refusal) → testOf (bookIn file k) ≡ Refused r → ReadOrRefused (answered held lines (refusedWith r))
       bad r e = let w = tested-numbered (bookIn file k) r e in refuses (r .number) (r .place) (w .low) (omega (arith, w .high)) (w .near)
 
       good : (j : Book) → testOf (bookIn file k) ≡ Good j → ReadOrRefused (roomOf file k held lines)
@@ -83,9 +83,9 @@ module _ (file : List ℕ) (held lines : List ℤ) where
       go (head.the-variants.States k) e = body k
 
   -- the answer 0 says which
-  pub zero-is-read : readOf file held lines .answer .number ≡ 0 → BookRead file held lines (readOf file held lines)
+  pub zero-is-read : readOf file held lines .answer .refusal .number ≡ 0 → BookRead file held lines (readOf file held lines)
   zero-is-read z = go read-or-refused
     where
       go : ReadOrRefused (readOf file held lines) → BookRead file held lines (readOf file held lines)
       go (inl r) = r
-      go (inr f) = absurd (omega (arith, f .low, ap (λ (a : _). a .number) (f .answer)))
+      go (inr f) = absurd (omega (arith, f .low, ap (λ (a : _). a .refusal .number) (f .answer)))

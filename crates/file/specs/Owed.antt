@@ -8,9 +8,10 @@ use lib.IntN.{ℤ}
 use Rattle.book.specs.Limits.{mostLines}
 use Rattle.book.specs.Held.{heldWords}
 use Rattle.book.specs.Line.{lineWords}
+use Rattle.book.specs.Test.{refusal}
 use Rattle.book.specs.Good.{GoodBook}
 use Rattle.book.specs.declared.Book.{Book}
-use Rattle.file.specs.Read.{Outcome, refusal, done, heldOf, linesOf, bookIn}
+use Rattle.file.specs.Read.{Outcome, refusedWith, done, heldOf, linesOf, bookIn}
 
 -- a file that was read: a book inside every limit, in the first places of the buffers, whose other places are as they were
 pub record BookRead (file : List ℕ) (held lines : List ℤ) (o : Outcome) : Type 0 where
@@ -27,6 +28,6 @@ pub record FileRefused (held lines : List ℤ) (o : Outcome) : Type 0 where
   pub low : 0 < number
   pub high : number ≤ 10
   pub near : place ≤ mostLines
-  pub answer : o .answer ≡ refusal number place
+  pub answer : o .answer ≡ refusedWith (refusal number place)
   pub held-kept : o .held ≡ held
   pub lines-kept : o .lines ≡ lines

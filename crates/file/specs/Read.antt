@@ -11,7 +11,8 @@ use Rattle.book.specs.Limits.{mostMarks, mostLines, mostHeld, mostTolerance}
 use Rattle.book.specs.Held.{heldWords}
 use Rattle.book.specs.Line.{lineWords}
 use Rattle.book.specs.Lent.{Lent, lent}
-use Rattle.book.specs.Test.{bookOut, counts, testOf, ifGood}
+use Rattle.book.specs.Test.{bookOut, counts, refusal, noRefusal, testOf, ifGood}
+use Rattle.book.specs.declared.Refusal.{Refusal}
 use Rattle.book.specs.declared.Book.{Book}
 use Rattle.file.specs.Wire.{be}
 use Rattle.file.specs.Entry.{entries}
@@ -71,11 +72,11 @@ abbrev pub bookIn : List ℕ → Book → Lent
 bookIn file k = lent (pos (k .marks)) (pos (k .tolerance)) (heldOf file (k .held)) (linesOf file (k .held) (k .lines))
 
 -- "After a refusal the counts are 0"
-abbrev pub refusal : ℕ → ℕ → ReadAnswer
-refusal number place = record { number = number; place = place; b = 0; t = 0; h = 0; n = 0 }
+abbrev pub refusedWith : Refusal → ReadAnswer
+refusedWith r = record { refusal = r; b = 0; t = 0; h = 0; n = 0 }
 
 abbrev pub done : Book → ReadAnswer
-done k = record { number = 0; place = 0; b = k .marks; t = k .tolerance; h = k .held; n = k .lines }
+done k = record { refusal = noRefusal; b = k .marks; t = k .tolerance; h = k .held; n = k .lines }
 
 -- what a call answers, and what the two lent buffers then hold
 pub record Outcome : Type 0 where
@@ -90,8 +91,8 @@ answered held lines a = record { answer = a; held = held; lines = lines }
 unfoldable pub roomOf : List ℕ → Book → List ℤ → List ℤ → Outcome
 unfolding heldOf linesOf
 roomOf file k held lines =
-    cond (ltb (length held) (k .held * heldWords)) (answered held lines (refusal 10 0))
-    (cond (ltb (length lines) (k .lines * lineWords)) (answered held lines (refusal 10 0))
+    cond (ltb (length held) (k .held * heldWords)) (answered held lines (refusedWith (refusal 10 0)))
+    (cond (ltb (length lines) (k .lines * lineWords)) (answered held lines (refusedWith (refusal 10 0)))
     (record {
       answer = done k;
       held = heldOf file (k .held) ++ drop (k .held * heldWords) held;
@@ -102,11 +103,11 @@ roomOf file k held lines =
 unfoldable pub bodyOf : List ℕ → Book → List ℤ → List ℤ → Outcome
 unfolding roomOf testOf heldOf linesOf
 bodyOf file k held lines =
-    ifGood (testOf (bookIn file k)) (λ r. answered held lines (refusal (r .number) (r .place))) (λ _. roomOf file k held lines)
+    ifGood (testOf (bookIn file k)) (λ r. answered held lines (refusedWith r)) (λ _. roomOf file k held lines)
 
 unfoldable pub afterHead : List ℕ → List ℤ → List ℤ → Head → Outcome
 unfolding bodyOf
-afterHead file held lines (head.the-variants.Refused number) = answered held lines (refusal number 0)
+afterHead file held lines (head.the-variants.Refused number) = answered held lines (refusedWith (refusal number 0))
 afterHead file held lines (head.the-variants.States k) = bodyOf file k held lines
 
 -- what the reader does with a file

@@ -2,22 +2,22 @@
 // It takes any part of a longer input as its file.
 ghost use mathlib.Core.Path.{_≡_};
 ghost use lib.ListN.{length};
-ghost use Rattle.book.specs.Test.{testOf};
-ghost use Rattle.file.specs.Read.{Stated, headOf, answered, refusal, bookIn, bodyOf, roomOf, readOf};
+ghost use Rattle.book.specs.Test.{refusal, testOf};
+ghost use Rattle.file.specs.Read.{Stated, headOf, answered, refusedWith, bookIn, bodyOf, roomOf, readOf};
 
 mod entry;
 mod wire;
 
 use book::Book;
+use book::Refusal;
 use book::Tested;
 use book::held::Held;
 use book::line::Line;
 use entry::Kind;
 
-// What the reader answers: a refusal number and place, or 0, 0 and the book's counts.
+// What the reader answers: a refusal, or none and the book's counts.
 pub struct ReadAnswer {
-    pub number: usize,
-    pub place: usize,
+    pub refusal: Refusal,
     pub b: usize,
     pub t: usize,
     pub h: usize,
@@ -48,11 +48,16 @@ const N_AT: usize = 11;
 const VERSION: u8 = 1;
 
 fn refuse(number: usize, place: usize) -> ReadAnswer
-    ensures { λ r. ⌜ r ≡ refusal number place ⌝ }
+    ensures { λ r. ⌜ r ≡ refusedWith (refusal number place) ⌝ }
+{
+    refused(Refusal::new(number, place))
+}
+
+fn refused(refusal: Refusal) -> ReadAnswer
+    ensures { λ r. ⌜ r ≡ refusedWith refusal ⌝ }
 {
     ReadAnswer {
-        number,
-        place,
+        refusal,
         b: 0,
         t: 0,
         h: 0,
@@ -134,9 +139,9 @@ fn fill(file: &[u8], book: Book, held: &mut [i64], lines: &mut [i64]) -> ReadAns
         n,
         lines,
     );
+    let refusal = Refusal::none();
     ReadAnswer {
-        number: 0,
-        place: 0,
+        refusal,
         b: book.marks,
         t: book.tolerance,
         h,
@@ -151,7 +156,7 @@ fn read_body(file: &[u8], book: Book, held: &mut [i64], lines: &mut [i64]) -> Re
         ≡ bodyOf (now (file .entry)) book (now (held .entry)) (now (lines .entry)) ⌝ }
 {
     match tested(file, book) {
-        Tested::Refused(r) => refuse(r.number, r.place),
+        Tested::Refused(r) => refused(r),
         Tested::Good(_) => fill(file, book, held, lines),
     }
 }

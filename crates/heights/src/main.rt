@@ -152,8 +152,9 @@ fn put_counts(b: usize, n: usize, h: usize, sweeps: usize) {
 fn sheet(t: i64, held: &[i64], lines: &[i64], heights: &mut [i64], n: usize) {
     let b = signed::signed_count(heights.len() % 65536);
     let a = adjust::adjust(b, t, held, lines, heights);
-    if 0 < a.number {
-        put_refusal(a.number, a.place);
+    let r = a.refusal;
+    if 0 < r.number {
+        put_refusal(r.number, r.place);
         return;
     }
     put(b"ADJUSTED HEIGHTS\n");
@@ -164,8 +165,9 @@ fn sheet(t: i64, held: &[i64], lines: &[i64], heights: &mut [i64], n: usize) {
 
 fn run(file: &[u8], held: &mut [i64], lines: &mut [i64], heights: &mut [i64]) {
     let book = file::read(file, held, lines);
-    if 0 < book.number {
-        put_refusal(book.number, book.place);
+    let r = book.refusal;
+    if 0 < r.number {
+        put_refusal(r.number, r.place);
         return;
     }
     let t = signed::signed_count(book.t % 65536);

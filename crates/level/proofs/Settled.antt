@@ -13,6 +13,7 @@ use Rattle.laws.proofs.Scans.{first-most}
 use Rattle.book.specs.Limits.{mostLines, mostMarks}
 use Rattle.book.specs.Height.{workHeightOut}
 use Rattle.book.specs.Lent.{Lent}
+use Rattle.book.specs.Test.{refusal}
 use Rattle.book.proofs.IfGood.{either-way}
 use Rattle.book.proofs.Goods.{tested-good, tested-numbered}
 use Rattle.fields.specs.Heights.{height}
@@ -22,7 +23,6 @@ use Rattle.network.specs.Standing.{standing}
 use Rattle.network.specs.Tree.{tree}
 use Rattle.start.specs.Start.{heldHeight, isHeld, rootedBy, unheldPiece, startHeights}
 use Rattle.adjust.specs.Adjusted.{Outcome, done, refused, ended, unlessUnheld, adjustment}
-use Rattle.adjust.specs.Answers.{answer}
 use Rattle.adjust.specs.Call.{Given, givenBy, adjustGood, adjustOf}
 use Rattle.level.specs.Heights.{SmallAdjusted}
 
@@ -104,8 +104,8 @@ outcome-small b held lines =
     unless-small b (unheldPiece (rootedBy (tree b (standing lines))) (heldHeight held) b) _ (unheld-few b held lines)
     (ends b (settle (sightsOf (standing lines)) (isHeld held) b (startHeights b held lines)) (settled-few (sightsOf (standing lines)) (isHeld held) b 10000 0 (startHeights b held lines) (omega arith)))
 
-answer-small : (number place sweeps : ℕ) → number ≤ 13 → place ≤ mostLines → sweeps ≤ 10000 → SmallAdjusted (answer number place sweeps)
-answer-small number place sweeps n p s = record { number = omega arith; place = omega arith; sweeps = omega arith }
+answer-small : (number place sweeps : ℕ) → number ≤ 13 → place ≤ mostLines → sweeps ≤ 10000 → SmallAdjusted (record { refusal = refusal number place; sweeps = sweeps })
+answer-small number place sweeps n p s = record { refusal = record { number = omega arith; place = omega arith }; sweeps = omega arith }
 
 given-small : (b : ℕ) (out : List ℤ) (o : Outcome) → b ≤ mostMarks → SmallOutcome b o → SmallAdjusted (givenBy out o .answer)
 given-small b out (done n hs) few h = answer-small 0 0 n (omega arith) (omega arith) h

@@ -18,7 +18,7 @@ use Rattle.book.specs.Limits.{mostDifference, mostLines}
 use Rattle.book.specs.Line.{differenceOut, standingAt}
 use Rattle.book.specs.Height.{workHeightOut}
 use Rattle.book.specs.Lent.{Lent}
-use Rattle.book.specs.Test.{testOf}
+use Rattle.book.specs.Test.{refusal, testOf}
 use Rattle.book.specs.declared.Book.{Book}
 use Rattle.book.specs.declared.Refusal.{Refusal}
 use Rattle.book.specs.declared.Tested.the-variants.{Good, Refused}
@@ -28,17 +28,20 @@ use Rattle.network.specs.Standing.{standing}
 use Rattle.network.proofs.Entries.{tree-lines-count}
 use Rattle.book.specs.Good.{GoodLines}
 use Rattle.loops.specs.Report.{loopsOf, reportOf, piecesOf}
-use Rattle.survey.specs.Report.{refusal, counted}
+use Rattle.survey.specs.Report as survey
+use Rattle.survey.specs.Report.{counted}
 use Rattle.survey.specs.Survey.{Surveyed, surveyGood, surveyOf}
 use Rattle.survey.specs.Correction.{Corrected, noLine, otherReport, correctGood, correctOf, rerunLines, withdrawLines, rerunOf, withdrawOf}
-use Rattle.lists.specs.Listing.{Listing, unlisted, listOf, listingGood, listingOf, listingsGood, listingsOf}
+use Rattle.lists.specs.Listing as lists
+use Rattle.lists.specs.Listing.{Listing, listOf, listingGood, listingOf, listingsGood, listingsOf}
 use Rattle.lists.specs.NotChecked.{uncheckedOf, notCheckedOf}
 use Rattle.loops.specs.Loops.{loopAt}
 use Rattle.loops.specs.Row.{listed, listings}
 use Rattle.book.proofs.Goods.{good-lines}
 use Rattle.loops.proofs.Sounding.{lines-sound, few-loops}
 use Rattle.survey.proofs.Corrected.{stands-of, rerun-lines-good, withdrawn-lines-good}
-use Rattle.rates.specs.Rates.{refusedRate, lineRate, firstHigh, goodRate, rateAnswer}
+use Rattle.rates.specs.Rates as rates
+use Rattle.rates.specs.Rates.{lineRate, firstHigh, goodRate, rateAnswer}
 use Rattle.rates.proofs.Rating.{marks-of}
 use Rattle.file.specs.Read.{readOf}
 use Rattle.file.proofs.Reading.{ReadOrRefused, read-or-refused}
@@ -53,8 +56,7 @@ read-small file held lines = go (read-or-refused file held lines)
     go : ReadOrRefused file held lines (readOf file held lines) → SmallRead (readOf file held lines .answer)
     go (inl r) = let g = r .good in
         subst SmallRead (sym (r .answer)) (record {
-          number = omega arith;
-          place = omega arith;
+          refusal = record { number = omega arith; place = omega arith };
           b = omega (arith, g .few-marks);
           t = omega (arith, g .small-tolerance);
           h = omega (arith, g .few-held);
@@ -62,30 +64,28 @@ read-small file held lines = go (read-or-refused file held lines)
         })
     go (inr f) =
         subst SmallRead (sym (f .answer)) (record {
-          number = omega (arith, f .high);
-          place = omega (arith, f .near);
+          refusal = record { number = omega (arith, f .high); place = omega (arith, f .near) };
           b = omega arith;
           t = omega arith;
           h = omega arith;
           n = omega arith;
         })
 
-refusal-small : (number place : ℕ) → number ≤ 13 → place ≤ mostLines → SmallAnswer (refusal number place)
-refusal-small number place high near = record { number = omega arith; place = omega arith; rows = omega arith; pieces = omega arith }
+refusal-small : (number place : ℕ) → number ≤ 13 → place ≤ mostLines → SmallAnswer (survey.refusedWith (refusal number place))
+refusal-small number place high near = record { refusal = record { number = omega arith; place = omega arith }; rows = omega arith; pieces = omega arith }
 
 -- no more rows than lines, and no more pieces than marks
 counted-small : (k : Book) (lines : List ℤ) → GoodLines k lines → SmallAnswer (counted (k .marks) lines)
 unfolding counted piecesOf
 counted-small k lines g =
     record {
-      number = omega arith;
-      place = omega arith;
+      refusal = record { number = omega arith; place = omega arith };
       rows = omega (arith, few-loops k lines g, g .few);
       pieces = omega (arith, tree-lines-count (k .marks) (standing lines) (lines-sound k lines g), g .few-marks);
     }
 
-unlisted-small : (number place : ℕ) → number ≤ 13 → place ≤ mostLines → SmallListed (unlisted number place)
-unlisted-small number place high near = record { number = omega arith; place = omega arith; entries = omega arith }
+unlisted-small : (number place : ℕ) → number ≤ 13 → place ≤ mostLines → SmallListed (lists.refusedWith (refusal number place))
+unlisted-small number place high near = record { refusal = record { number = omega arith; place = omega arith }; entries = omega arith }
 
 -- no more entries than places
 list-small : (list out : List ℤ) → Small (length out) → SmallListed (listOf list out .answer)
@@ -93,11 +93,11 @@ unfolding listOf
 list-small list out small =
     cond-ind (λ (o : Listing). SmallListed (o .answer)) (ltb (length out) (length list)) _ _
     (λ _. unlisted-small 10 0 (omega arith) (omega arith))
-    (λ fits. let f = ltb-false (length out) (length list) fits in record { number = omega arith; place = omega arith; entries = omega arith })
+    (λ fits. let f = ltb-false (length out) (length list) fits in record { refusal = record { number = omega arith; place = omega arith }; entries = omega arith })
 
 module _ (book : Lent) where
   -- the test's own refusals
-  tested-small : (r : Refusal) → testOf book ≡ Refused r → SmallAnswer (refusal (r .number) (r .place))
+  tested-small : (r : Refusal) → testOf book ≡ Refused r → SmallAnswer (survey.refusedWith r)
   tested-small r e = let n = tested-numbered book r e in refusal-small (r .number) (r .place) (omega (arith, n .high)) (n .near)
 
   good-of : (k : Book) → testOf book ≡ Good k → GoodLines k (book .lines)
@@ -138,7 +138,7 @@ module _ (book : Lent) where
     withdraw-small = corrected-small (withdrawLines (book .lines) number) (λ k e stands. withdrawn-lines-good k (book .lines) (good-of k e) number (natAbs number - 1) (stands-of (book .lines) number stands))
 
   module _ (out : List ℤ) (small : Small (length out)) where
-    untested-small : (r : Refusal) → testOf book ≡ Refused r → SmallListed (unlisted (r .number) (r .place))
+    untested-small : (r : Refusal) → testOf book ≡ Refused r → SmallListed (lists.refusedWith r)
     untested-small r e = let n = tested-numbered book r e in unlisted-small (r .number) (r .place) (omega (arith, n .high)) (n .near)
 
     pub listing-small : (number : ℤ) → SmallListed (listingOf book number out .answer)
@@ -160,17 +160,17 @@ module _ (book : Lent) where
         either-way book _ _ (λ (o : Listing). SmallListed (o .answer)) untested-small (λ k e. list-small (uncheckedOf (k .marks) (book .lines)) out small)
 
   module _ (heights : List ℤ) (line : ℤ) where
-    rate-refusal-small : (number place : ℕ) → number ≤ 13 → place ≤ mostLines → SmallRate (refusedRate number place)
-    unfolding refusedRate
-    rate-refusal-small number place high near = record { number = omega arith; place = omega arith; line = omega arith }
+    rate-refusal-small : (number place : ℕ) → number ≤ 13 → place ≤ mostLines → SmallRate (rates.refusedWith (refusal number place))
+    unfolding rates.refusedWith
+    rate-refusal-small number place high near = record { refusal = record { number = omega arith; place = omega arith }; line = omega arith }
 
     -- the line itself is one of the book's
     line-small : (i : ℕ) → natAbs line ≤ mostLines → SmallRate (lineRate heights (book .lines) (natAbs line) i)
     unfolding lineRate
     line-small i near =
         cond-ind SmallRate (eqZ (standingAt (book .lines) i) (pos 0)) _ _
-        (λ _. record { number = omega arith; place = omega arith; line = omega arith })
-        (λ _. record { number = omega arith; place = omega arith; line = omega arith })
+        (λ _. record { refusal = record { number = omega arith; place = omega arith }; line = omega arith })
+        (λ _. record { refusal = record { number = omega arith; place = omega arith }; line = omega arith })
 
     good-small : (k : Book) → k .lines ≤ mostLines → length heights ≤ mostLines → SmallRate (goodRate heights (book .lines) k line)
     unfolding goodRate firstHigh

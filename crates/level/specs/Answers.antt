@@ -5,17 +5,18 @@ use lib.IntN.{ℤ, pos}
 use Rattle.survey.specs.declared.Answer as survey
 use Rattle.survey.specs.Survey.{Surveyed}
 use Rattle.survey.specs.Correction.{Corrected}
-use Rattle.level.specs.Signed.{Small}
+use Rattle.level.specs.Signed.{Small, SmallRefusal, signedRefusal}
 use Rattle.level.specs.declared.Answer.{Answer}
 
 pub record SmallAnswer (a : survey.Answer) : Type 0 where
-  pub number : Small (a .number)
-  pub place : Small (a .place)
+  pub refusal : SmallRefusal (a .refusal)
   pub rows : Small (a .rows)
   pub pieces : Small (a .pieces)
 
 unfoldable pub signedAnswer : survey.Answer → Answer
-signedAnswer a = record { number = pos (a .number); place = pos (a .place); rows = pos (a .rows); pieces = pos (a .pieces) }
+signedAnswer a =
+    let r = signedRefusal (a .refusal) in
+    record { number = r .number; place = r .place; rows = pos (a .rows); pieces = pos (a .pieces) }
 
 pub record SurveyNow : Type 0 where
   pub answer : Answer

@@ -4,16 +4,17 @@ use mathlib.Core.List.{List}
 use lib.IntN.{ℤ, pos}
 use Rattle.adjust.specs.declared.Adjusted as adjust
 use Rattle.adjust.specs.Call.{Given}
-use Rattle.level.specs.Signed.{Small}
+use Rattle.level.specs.Signed.{Small, SmallRefusal, signedRefusal}
 use Rattle.level.specs.declared.Adjusted.{Adjusted}
 
 pub record SmallAdjusted (a : adjust.Adjusted) : Type 0 where
-  pub number : Small (a .number)
-  pub place : Small (a .place)
+  pub refusal : SmallRefusal (a .refusal)
   pub sweeps : Small (a .sweeps)
 
 unfoldable pub signedAdjusted : adjust.Adjusted → Adjusted
-signedAdjusted a = record { number = pos (a .number); place = pos (a .place); sweeps = pos (a .sweeps) }
+signedAdjusted a =
+    let r = signedRefusal (a .refusal) in
+    record { number = r .number; place = r .place; sweeps = pos (a .sweeps) }
 
 pub record AdjustNow : Type 0 where
   pub answer : Adjusted

@@ -4,16 +4,17 @@ use mathlib.Core.List.{List}
 use lib.IntN.{ℤ, pos}
 use Rattle.lists.specs.declared.Listed as lists
 use Rattle.lists.specs.Listing.{Listing}
-use Rattle.level.specs.Signed.{Small}
+use Rattle.level.specs.Signed.{Small, SmallRefusal, signedRefusal}
 use Rattle.level.specs.declared.Listed.{Listed}
 
 pub record SmallListed (a : lists.Listed) : Type 0 where
-  pub number : Small (a .number)
-  pub place : Small (a .place)
+  pub refusal : SmallRefusal (a .refusal)
   pub entries : Small (a .entries)
 
 unfoldable pub signedListed : lists.Listed → Listed
-signedListed a = record { number = pos (a .number); place = pos (a .place); entries = pos (a .entries) }
+signedListed a =
+    let r = signedRefusal (a .refusal) in
+    record { number = r .number; place = r .place; entries = pos (a .entries) }
 
 pub record ListingNow : Type 0 where
   pub answer : Listed

@@ -6,12 +6,11 @@ use lib.Ieee.{Float, fin}
 use Rattle.rates.specs.declared.Rate.{Rate}
 use Rattle.rates.specs.declared.Rate.the-variants.{PerKm, Withdrawn}
 use Rattle.rates.specs.declared.RateAnswer.{RateAnswer}
-use Rattle.level.specs.Signed.{Small}
+use Rattle.level.specs.Signed.{Small, SmallRefusal, signedRefusal}
 use Rattle.level.specs.declared.Rated.{Rated}
 
 pub record SmallRate (a : RateAnswer) : Type 0 where
-  pub number : Small (a .number)
-  pub place : Small (a .place)
+  pub refusal : SmallRefusal (a .refusal)
   pub line : Small (a .line)
 
 -- 1 of a withdrawn line, else 0
@@ -28,8 +27,8 @@ rateOf Withdrawn = fin false 0 (pos 0)
 unfoldable pub signedRate : RateAnswer → Rated
 unfolding withdrawnOf rateOf
 signedRate a = record {
-  number = pos (a .number);
-  place = pos (a .place);
+  number = signedRefusal (a .refusal) .number;
+  place = signedRefusal (a .refusal) .place;
   line = pos (a .line);
   correction = a .correction;
   withdrawn = withdrawnOf (a .rate);

@@ -3,17 +3,26 @@
 use Prim.Native.Nat.{ℕ, _<_, _^_}
 use mathlib.Core.List.{List}
 use lib.IntN.{ℤ, pos}
+use Rattle.book.specs.declared.Refusal.{Refusal}
 use Rattle.file.specs.Read as file
 use Rattle.file.specs.declared.ReadAnswer as read
 use Rattle.level.specs.declared.ReadAnswer.{ReadAnswer}
+use Rattle.level.specs.declared.SignedRefusal.{SignedRefusal}
 
 -- n fits an int64
 abbrev pub Small : ℕ → Type 0
 Small n = n < 2 ^ 63
 
+-- what C sees of a refusal: it is taken apart here, and nowhere else
+pub record SmallRefusal (r : Refusal) : Type 0 where
+  pub number : Small (r .number)
+  pub place : Small (r .place)
+
+abbrev pub signedRefusal : Refusal → SignedRefusal
+signedRefusal r = record { number = pos (r .number); place = pos (r .place) }
+
 pub record SmallRead (a : read.ReadAnswer) : Type 0 where
-  pub number : Small (a .number)
-  pub place : Small (a .place)
+  pub refusal : SmallRefusal (a .refusal)
   pub b : Small (a .b)
   pub t : Small (a .t)
   pub h : Small (a .h)
@@ -21,7 +30,8 @@ pub record SmallRead (a : read.ReadAnswer) : Type 0 where
 
 unfoldable pub signedRead : read.ReadAnswer → ReadAnswer
 signedRead a =
-    record { number = pos (a .number); place = pos (a .place); b = pos (a .b); t = pos (a .t); h = pos (a .h); n = pos (a .n) }
+    let r = signedRefusal (a .refusal) in
+    record { number = r .number; place = r .place; b = pos (a .b); t = pos (a .t); h = pos (a .h); n = pos (a .n) }
 
 pub record ReadNow : Type 0 where
   pub answer : ReadAnswer

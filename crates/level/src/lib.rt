@@ -6,7 +6,7 @@ ghost use Rattle.file.specs.Read.{readOf};
 ghost use Rattle.survey.specs.Survey.{surveyOf};
 ghost use Rattle.survey.specs.Correction.{rerunOf, withdrawOf};
 ghost use Rattle.rates.specs.Rates.{rateAnswer};
-ghost use Rattle.level.specs.Signed.{SmallRead, signedRead, readNow, ofRead};
+ghost use Rattle.level.specs.Signed.{SmallRefusal, signedRefusal, SmallRead, signedRead, readNow, ofRead};
 ghost use Rattle.level.specs.Answers.{SmallAnswer, signedAnswer, surveyNow, ofSurvey, correctionNow, ofCorrection};
 ghost use Rattle.lists.specs.Listing.{listingOf, listingsOf};
 ghost use Rattle.lists.specs.NotChecked.{notCheckedOf};
@@ -14,8 +14,25 @@ ghost use Rattle.adjust.specs.Call.{adjustOf};
 ghost use Rattle.level.specs.Listings.{SmallListed, signedListed, listingNow, ofListing};
 ghost use Rattle.level.specs.Heights.{SmallAdjusted, signedAdjusted, adjustNow, ofAdjust};
 ghost use Rattle.level.specs.Rating.{SmallRate, signedRate};
+use book::Refusal;
 use rates::Rate;
 use rates::RateAnswer;
+
+// A refusal, its numbers as C has them.
+pub struct SignedRefusal {
+    pub number: i64,
+    pub place: i64,
+}
+
+fn signed_refusal(r: Refusal) -> SignedRefusal
+    requires { ⌜ SmallRefusal r ⌝ }
+    ensures { λ s. ⌜ s ≡ signedRefusal r ⌝ }
+{
+    SignedRefusal {
+        number: signed::signed_count(r.number),
+        place: signed::signed_count(r.place),
+    }
+}
 
 // What the reader answers.
 #[repr(C)]
@@ -32,9 +49,11 @@ fn read_answer(a: file::ReadAnswer) -> ReadAnswer
     requires { ⌜ SmallRead a ⌝ }
     ensures { λ r. ⌜ r ≡ signedRead a ⌝ }
 {
+    let refusal = a.refusal;
+    let r = signed_refusal(refusal);
     ReadAnswer {
-        number: signed::signed_count(a.number),
-        place: signed::signed_count(a.place),
+        number: r.number,
+        place: r.place,
         b: signed::signed_count(a.b),
         t: signed::signed_count(a.t),
         h: signed::signed_count(a.h),
@@ -63,9 +82,11 @@ fn survey_answer(a: survey::Answer) -> Answer
     requires { ⌜ SmallAnswer a ⌝ }
     ensures { λ r. ⌜ r ≡ signedAnswer a ⌝ }
 {
+    let refusal = a.refusal;
+    let r = signed_refusal(refusal);
     Answer {
-        number: signed::signed_count(a.number),
-        place: signed::signed_count(a.place),
+        number: r.number,
+        place: r.place,
         rows: signed::signed_count(a.rows),
         pieces: signed::signed_count(a.pieces),
     }
@@ -128,9 +149,11 @@ fn listing_answer(a: lists::Listed) -> Listed
     requires { ⌜ SmallListed a ⌝ }
     ensures { λ r. ⌜ r ≡ signedListed a ⌝ }
 {
+    let refusal = a.refusal;
+    let r = signed_refusal(refusal);
     Listed {
-        number: signed::signed_count(a.number),
-        place: signed::signed_count(a.place),
+        number: r.number,
+        place: r.place,
         entries: signed::signed_count(a.entries),
     }
 }
@@ -190,9 +213,11 @@ fn adjust_answer(a: adjust::Adjusted) -> Adjusted
     requires { ⌜ SmallAdjusted a ⌝ }
     ensures { λ r. ⌜ r ≡ signedAdjusted a ⌝ }
 {
+    let refusal = a.refusal;
+    let r = signed_refusal(refusal);
     Adjusted {
-        number: signed::signed_count(a.number),
-        place: signed::signed_count(a.place),
+        number: r.number,
+        place: r.place,
         sweeps: signed::signed_count(a.sweeps),
     }
 }
@@ -226,8 +251,10 @@ fn rate_answer(a: RateAnswer) -> Rated
     requires { ⌜ SmallRate a ⌝ }
     ensures { λ r. ⌜ r ≡ signedRate a ⌝ }
 {
-    let number = signed::signed_count(a.number);
-    let place = signed::signed_count(a.place);
+    let refusal = a.refusal;
+    let r = signed_refusal(refusal);
+    let number = r.number;
+    let place = r.place;
     let line = signed::signed_count(a.line);
     let correction = a.correction;
     let rate = a.rate;

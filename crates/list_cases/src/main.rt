@@ -23,8 +23,9 @@ fn put(text: &[u8]) {
 
 fn put_listed(a: lists::Listed, out: &[i64]) {
     put(b":");
-    cases::put(a.number);
-    cases::put(a.place);
+    let r = a.refusal;
+    cases::put(r.number);
+    cases::put(r.place);
     cases::put(a.entries);
     put(b" |");
     cases::show_numbers(out);
@@ -37,7 +38,8 @@ fn list_loop(b: i64, t: i64, held: &[i64], lines: &[i64], number: i64, out: &mut
     put(b"  loop");
     cases::put_signed(number);
     put_listed(a, out);
-    a.number
+    let r = a.refusal;
+    r.number
 }
 
 // Every loop from the first, and the number past the last.

@@ -5,9 +5,10 @@ use mathlib.Core.List.{List, _++_}
 use lib.IntN.{ℤ}
 use lib.ListN.{length, drop}
 use borrow.Author.Tests.{lt-ltb, le-ltb}
-use Rattle.lists.specs.Listing.{listing, unlisted, entered, listOf}
+use Rattle.book.specs.Test.{refusal}
+use Rattle.lists.specs.Listing.{listing, refusedWith, entered, listOf}
 
-pub list-ten : (list out : List ℤ) → length out < length list → listing (unlisted 10 0) out ≡ listOf list out
+pub list-ten : (list out : List ℤ) → length out < length list → listing (refusedWith (refusal 10 0)) out ≡ listOf list out
 unfolding listOf
 list-ten list out h = rw (lt-ltb (length out) (length list) h)
 

@@ -1,19 +1,19 @@
 -- A run is listed as the definition lists its passes, and the listings are read off the table. Assumes nothing.
 use Prim.Native.Nat.{ℕ, zero, suc, _+_, _*_, _-_, _/_, _%_, _≤_, _<_}
 use native.Mathlib.Omega.{arith}
-use mathlib.Core.Path.{_≡_, refl, sym, _∙_, ap, ap₂, subst}
+use mathlib.Core.Path.{_≡_, refl, _∙_, ap, ap₂}
 use mathlib.Core.Bool.{Bool, true, false}
 use mathlib.Core.List.{List, [], _∷_, _++_, map, List·Memᴰ, List·Memᴰ·head, List·Memᴰ·tail}
 use lib.IntN.{ℤ, pos, natAbs}
-use lib.ListN.{length, getD, take, drop, length-append}
+use lib.ListN.{length, getD, take, drop}
 use borrow.Author.Tests.{eq-eqb, ne-eqb}
+use Rattle.book.specs.Test.{refusal}
 use Rattle.laws.specs.Tests.{outZ}
-use Rattle.laws.specs.Range.{Between}
 use Rattle.laws.proofs.Size.{between}
 use Rattle.book.specs.Limits.{mostLines}
 use Rattle.book.specs.Good.{GoodLines}
 use Rattle.book.specs.declared.Book.{Book}
-use Rattle.network.specs.Standing.{Line, standing}
+use Rattle.network.specs.Standing.{standing}
 use Rattle.network.specs.Walk.{Pass}
 use Rattle.network.specs.Codes.{codeOf, codes}
 use Rattle.loops.specs.Loops.{Loop, loopAt}
@@ -24,7 +24,7 @@ use Rattle.loops.proofs.EachLoop.{loop-runs-lines}
 use Rattle.loops.proofs.Places.{loop-at-is}
 use Rattle.loops.proofs.Sounding.{lines-sound, line-limits}
 use Rattle.loops.proofs.Table.{run-is, all-runs, last-end}
-use Rattle.lists.specs.Listing.{listing, unlisted, listOf, listingGood, listingsGood}
+use Rattle.lists.specs.Listing.{listing, refusedWith, listOf, listingGood, listingsGood}
 use Rattle.lists.specs.Run.{codeLimit, listedBy, Coded}
 
 code-listed : (forward : Bool) (n : ℕ) → listedBy (codeOf forward n) ≡ signed forward (pos n)
@@ -81,7 +81,7 @@ module _ (k : Book) (lines : List ℤ) (good : GoodLines k lines) where
     ls = loopsOf (k .marks) lines
 
     -- there is no such loop
-    pub eight-is : (number : ℤ) (out : List ℤ) → outZ (pos 1) (pos count) number ≡ true → listing (unlisted 8 0) out ≡ listingGood k lines number out
+    pub eight-is : (number : ℤ) (out : List ℤ) → outZ (pos 1) (pos count) number ≡ true → listing (refusedWith (refusal 8 0)) out ≡ listingGood k lines number out
     unfolding listingGood
     eight-is number out e = rw (← (tb .counted), e)
 

@@ -8,7 +8,8 @@ use lib.ListN.{length, drop}
 use lib.IntN.{ℤ, pos, natAbs}
 use Rattle.laws.specs.Tests.{outZ}
 use Rattle.book.specs.Lent.{Lent}
-use Rattle.book.specs.Test.{testOf, ifGood}
+use Rattle.book.specs.Test.{refusal, noRefusal, testOf, ifGood}
+use Rattle.book.specs.declared.Refusal.{Refusal}
 use Rattle.book.specs.declared.Book.{Book}
 use Rattle.loops.specs.Loops.{loopAt}
 use Rattle.loops.specs.Row.{listed, listings}
@@ -16,11 +17,11 @@ use Rattle.loops.specs.Report.{loopsOf}
 use Rattle.lists.specs.declared.Listed.{Listed}
 
 -- "a listing its entries"
-abbrev pub unlisted : ℕ → ℕ → Listed
-unlisted number place = record { number = number; place = place; entries = 0 }
+abbrev pub refusedWith : Refusal → Listed
+refusedWith r = record { refusal = r; entries = 0 }
 
 abbrev pub entered : ℕ → Listed
-entered entries = record { number = 0; place = 0; entries = entries }
+entered entries = record { refusal = noRefusal; entries = entries }
 
 -- the answer, and the output after the call
 pub record Listing : Type 0 where
@@ -33,7 +34,7 @@ listing a out = record { answer = a; out = out }
 -- 10, or a whole list, with "places past the answer .. unchanged"
 unfoldable pub listOf : List ℤ → List ℤ → Listing
 listOf list out =
-    cond (ltb (length out) (length list)) (listing (unlisted 10 0) out)
+    cond (ltb (length out) (length list)) (listing (refusedWith (refusal 10 0)) out)
     (listing (entered (length list)) (list ++ drop (length list) out))
 
 -- "lines and sense are listed from the book, loop by loop", by the loop's number from 1
@@ -41,13 +42,13 @@ unfoldable pub listingGood : Book → List ℤ → ℤ → List ℤ → Listing
 unfolding loopsOf listOf loopAt
 listingGood k lines number out =
     let found = loopsOf (k .marks) lines in
-    cond (outZ (pos 1) (pos (length found)) number) (listing (unlisted 8 0) out)
+    cond (outZ (pos 1) (pos (length found)) number) (listing (refusedWith (refusal 8 0)) out)
     (listOf (map listed (loopAt found (natAbs number - 1))) out)
 
 unfoldable pub listingOf : Lent → ℤ → List ℤ → Listing
 unfolding listingGood testOf
 listingOf book number out =
-    ifGood (testOf book) (λ r. listing (unlisted (r .number) (r .place)) out)
+    ifGood (testOf book) (λ r. listing (refusedWith r) out)
     (λ k. listingGood k (book .lines) number out)
 
 -- the lines of all loops, "loop by loop"
@@ -58,5 +59,5 @@ listingsGood k lines out = listOf (listings (loopsOf (k .marks) lines)) out
 unfoldable pub listingsOf : Lent → List ℤ → Listing
 unfolding listingsGood testOf
 listingsOf book out =
-    ifGood (testOf book) (λ r. listing (unlisted (r .number) (r .place)) out)
+    ifGood (testOf book) (λ r. listing (refusedWith r) out)
     (λ k. listingsGood k (book .lines) out)

@@ -8,7 +8,7 @@ use Rattle.book.specs.Test.{testOf, ifGood}
 use Rattle.network.specs.Standing.{standing}
 use Rattle.loops.specs.Checked.{notChecked}
 use Rattle.loops.specs.Report.{loopsOf}
-use Rattle.lists.specs.Listing.{Listing, listing, unlisted, listOf}
+use Rattle.lists.specs.Listing.{Listing, listing, refusedWith, listOf}
 
 -- the standing lines that no loop checks, "by rising line number"; what that means by circuits is a theorem of crate loops
 unfoldable pub uncheckedOf : ℕ → List ℤ → List ℤ
@@ -18,5 +18,5 @@ uncheckedOf b lines = map pos (notChecked (loopsOf b lines) (standing lines))
 unfoldable pub notCheckedOf : Lent → List ℤ → Listing
 unfolding uncheckedOf listOf testOf
 notCheckedOf book out =
-    ifGood (testOf book) (λ r. listing (unlisted (r .number) (r .place)) out)
+    ifGood (testOf book) (λ r. listing (refusedWith r) out)
     (λ k. listOf (uncheckedOf (k .marks) (book .lines)) out)

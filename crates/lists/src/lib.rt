@@ -1,28 +1,34 @@
 // The lists of a lent book: the lines of a loop, the lines of all loops, and the lines that are not checked.
 ghost use mathlib.Core.Path.{_≡_};
 ghost use Rattle.book.specs.Lent.{lent};
-ghost use Rattle.lists.specs.Listing.{listing, unlisted, entered, listingOf, listingsOf};
+ghost use Rattle.book.specs.Test.{refusal};
+ghost use Rattle.lists.specs.Listing.{listing, refusedWith, entered, listingOf, listingsOf};
 ghost use Rattle.lists.specs.NotChecked.{notCheckedOf};
 
 mod loop_lists;
 pub mod run;
 pub mod watch;
 
+use book::Refusal;
 use book::Tested;
 
 // What a listing answers.
 pub struct Listed {
-    pub number: usize,
-    pub place: usize,
+    pub refusal: Refusal,
     pub entries: usize,
 }
 
-pub(crate) fn unlisted(number: usize, place: usize) -> Listed
-    ensures { λ r. ⌜ r ≡ unlisted number place ⌝ }
+pub(crate) fn refuse(number: usize, place: usize) -> Listed
+    ensures { λ r. ⌜ r ≡ refusedWith (refusal number place) ⌝ }
+{
+    refused(Refusal::new(number, place))
+}
+
+fn refused(refusal: Refusal) -> Listed
+    ensures { λ r. ⌜ r ≡ refusedWith refusal ⌝ }
 {
     Listed {
-        number,
-        place,
+        refusal,
         entries: 0,
     }
 }
@@ -30,11 +36,8 @@ pub(crate) fn unlisted(number: usize, place: usize) -> Listed
 pub(crate) fn entered(entries: usize) -> Listed
     ensures { λ r. ⌜ r ≡ entered entries ⌝ }
 {
-    Listed {
-        number: 0,
-        place: 0,
-        entries,
-    }
+    let refusal = Refusal::none();
+    Listed { refusal, entries }
 }
 
 // The lines of one loop of the book, by the loop's number from 1, its closing line first. A refusal leaves the output as it was.
@@ -43,7 +46,7 @@ pub fn listing(b: i64, t: i64, held: &[i64], lines: &[i64], number: i64, out: &m
         ≡ listingOf (lent b t (now (held .entry)) (now (lines .entry))) number (now (out .entry)) ⌝ }
 {
     match book::test(b, t, held, lines) {
-        Tested::Refused(r) => unlisted(r.number, r.place),
+        Tested::Refused(r) => refused(r),
         Tested::Good(book) => loop_lists::listing_good(book, lines, number, out),
     }
 }
@@ -54,7 +57,7 @@ pub fn listings(b: i64, t: i64, held: &[i64], lines: &[i64], out: &mut [i64]) ->
     ensures { λ r. ⌜ listing r (now (out .exit)) ≡ listingsOf (lent b t (now (held .entry)) (now (lines .entry))) (now (out .entry)) ⌝ }
 {
     match book::test(b, t, held, lines) {
-        Tested::Refused(r) => unlisted(r.number, r.place),
+        Tested::Refused(r) => refused(r),
         Tested::Good(book) => loop_lists::listings_good(book, lines, out),
     }
 }
@@ -64,7 +67,7 @@ pub fn not_checked(b: i64, t: i64, held: &[i64], lines: &[i64], out: &mut [i64])
     ensures { λ r. ⌜ listing r (now (out .exit)) ≡ notCheckedOf (lent b t (now (held .entry)) (now (lines .entry))) (now (out .entry)) ⌝ }
 {
     match book::test(b, t, held, lines) {
-        Tested::Refused(r) => unlisted(r.number, r.place),
+        Tested::Refused(r) => refused(r),
         Tested::Good(book) => watch::not_checked_good(book, lines, out),
     }
 }

@@ -15,7 +15,7 @@ pub(crate) fn listing_good(book: Book, lines: &[i64], number: i64, out: &mut [i6
     let mut runs = [0u16; table::RUNS];
     let found = table::find_loops(book, lines, &mut starts[..], &mut runs[..]);
     if signed::outside(number, 1, signed::signed_count(found.count)) {
-        return crate::unlisted(8, 0);
+        return crate::refuse(8, 0);
     }
     let i = signed::magnitude(number) - 1;
     let begin = starts[i] as usize;

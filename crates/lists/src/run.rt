@@ -37,7 +37,7 @@ pub(crate) fn write_run(run: &[u16], out: &mut [i64]) -> Listed
     ensures { λ r. ⌜ listing r (now (out .exit)) ≡ listOf (map listedBy (now (run .entry))) (now (out .entry)) ⌝ }
 {
     if out.len() < run.len() {
-        return crate::unlisted(10, 0);
+        return crate::refuse(10, 0);
     }
     list_run(run, out);
     crate::entered(run.len())

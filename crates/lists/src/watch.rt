@@ -16,7 +16,7 @@ fn write_list(list: &[u64], out: &mut [i64]) -> Listed
 {
     let count = list.len();
     if out.len() < count {
-        return crate::unlisted(10, 0);
+        return crate::refuse(10, 0);
     }
     let mut i = 0;
     while i < count {

@@ -12,7 +12,7 @@ use Rattle.book.specs.Good.{GoodLines}
 use Rattle.loops.specs.Report.{loopsOf}
 use Rattle.table.specs.Filled.{foundIn}
 use Rattle.table.specs.declared.Found.{Found}
-use Rattle.lists.specs.Listing.{Listing, listing, listOf}
+use Rattle.lists.specs.Listing.{Listing, listing, entered, listOf}
 use Rattle.lists.specs.NotChecked.{uncheckedOf}
 use Rattle.lists.specs.declared.Listed.{Listed}
 use Rattle.lists.proofs.Lists.{list-whole}
@@ -31,7 +31,7 @@ module _ (k : Book) (ls : List ℤ) (g : GoodLines k ls) where
 
   -- the list of the lines that are not checked, in room for the most there can be
   module _ (out : List ℤ) {out′ : List ℤ} {r : Listed} (room : mostLines ≤ length out) (e : listing r out′ ≡ listOf (uncheckedOf (k .marks) ls) out) where
-    both : listing r out′ ≡ listing (record { number = 0; place = 0; entries = length (uncheckedOf (k .marks) ls) }) (uncheckedOf (k .marks) ls ++ drop (length (uncheckedOf (k .marks) ls)) out)
+    both : listing r out′ ≡ listing (entered (length (uncheckedOf (k .marks) ls))) (uncheckedOf (k .marks) ls ++ drop (length (uncheckedOf (k .marks) ls)) out)
     both = e ∙ sym (list-whole (uncheckedOf (k .marks) ls) out (omega (arith, few-listed k ls g)))
 
     entries-are : r .entries ≡ length (uncheckedOf (k .marks) ls)

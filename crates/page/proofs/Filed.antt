@@ -17,7 +17,7 @@ use Rattle.book.specs.declared.Book.{Book}
 use Rattle.book.specs.declared.Tested.{Tested}
 use Rattle.book.specs.declared.Tested.the-variants.{Good, Refused}
 use Rattle.book.proofs.Goods.{tested-numbered}
-use Rattle.file.specs.Read.{Outcome, answered, refusal, headOf, linesOf, bookIn, roomOf, bodyOf, afterHead, readOf}
+use Rattle.file.specs.Read.{Outcome, answered, refusedWith, headOf, linesOf, bookIn, roomOf, bodyOf, afterHead, readOf}
 use Rattle.file.specs.Owed.{BookRead}
 use Rattle.file.specs.declared.Head as head
 use Rattle.file.specs.declared.Head.{Head}
@@ -35,7 +35,7 @@ use Rattle.page.specs.Page.{bookPage, statedPage, pageOf}
 unfoldable pub readPage : Outcome → List ℕ
 readPage o =
     let a = o .answer in
-    cond (eqb (a .number) 0) (bookPage (a .b) (a .t) (a .n) (take (a .n * 5) (o .lines))) (refusedText (a .number) (a .place))
+    cond (eqb (a .refusal .number) 0) (bookPage (a .b) (a .t) (a .n) (take (a .n * 5) (o .lines))) (refusedText (a .refusal .number) (a .refusal .place))
 
 lines-length : (file : List ℕ) (h n : ℕ) → length (linesOf file h n) ≡ n * 5
 unfolding linesOf
@@ -56,7 +56,7 @@ module _ (file : List ℕ) (held lines : List ℤ) (held-room : mostHeld * heldW
   body-page k h n = go (testOf (bookIn file k)) refl
     where
       go : (o : Tested) → testOf (bookIn file k) ≡ o
-          → readPage (ifGood o (λ r. answered held lines (refusal (r .number) (r .place))) (λ _. roomOf file k held lines))
+          → readPage (ifGood o (λ r. answered held lines (refusedWith r)) (λ _. roomOf file k held lines))
           ≡ ifGood o (λ r. refusedText (r .number) (r .place)) (λ _. bookPage (k .marks) (k .tolerance) (k .lines) (linesOf file (k .held) (k .lines)))
       go (Refused r) e =
           let w = tested-numbered (bookIn file k) r e in
@@ -79,14 +79,14 @@ module _ (file : List ℕ) (held lines : List ℤ) (held-room : mostHeld * heldW
     is-page = ap readPage e ∙ page-read
 
     -- a refusal
-    pub refused-page : (o .answer .number ≡ 0 → ⊥) → refusedText (o .answer .number) (o .answer .place) ≡ pageOf file
+    pub refused-page : (o .answer .refusal .number ≡ 0 → ⊥) → refusedText (o .answer .refusal .number) (o .answer .refusal .place) ≡ pageOf file
     unfolding readPage
-    refused-page n = rw (ne-eqb (o .answer .number) 0 n) at is-page
+    refused-page n = rw (ne-eqb (o .answer .refusal .number) 0 n) at is-page
 
     -- a book
-    module _ (zero : o .answer .number ≡ 0) where
+    module _ (zero : o .answer .refusal .number ≡ 0) where
       r : BookRead file held lines o
-      r = subst (λ (x : Outcome). BookRead file held lines x) (sym e) (zero-is-read file held lines (sym (ap (λ (x : Outcome). x .answer .number) e) ∙ zero))
+      r = subst (λ (x : Outcome). BookRead file held lines x) (sym e) (zero-is-read file held lines (sym (ap (λ (x : Outcome). x .answer .refusal .number) e) ∙ zero))
 
       lines-are : take (r .book .lines * 5) (o .lines) ≡ linesOf file (r .book .held) (r .book .lines)
       lines-are =

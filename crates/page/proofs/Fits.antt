@@ -102,12 +102,12 @@ module _ (file : List ℕ) (held lines : List ℤ) (held-room : mostHeld * heldW
 
   read-fits : ReadOrRefused file held lines (readOf file held lines) → Fits (pageOf file)
   read-fits (inl r) =
-      let zero : o .answer .number ≡ 0 = ap (λ (a : ReadAnswer). a .number) (r .answer) in
+      let zero : o .answer .refusal .number ≡ 0 = ap (λ (a : ReadAnswer). a .refusal .number) (r .answer) in
       subst Fits (book-page file held lines held-room lines-room o refl zero) (book-fits _ _ (good-read file held lines held-room lines-room o refl zero))
   read-fits (inr f) =
-      let n = ap (λ (a : ReadAnswer). a .number) (f .answer) in
-      let p = ap (λ (a : ReadAnswer). a .place) (f .answer) in
-      let r = refused-room (o .answer .number) (o .answer .place) (omega (arith, f .high)) (omega (arith, f .near)) in
+      let n = ap (λ (a : ReadAnswer). a .refusal .number) (f .answer) in
+      let p = ap (λ (a : ReadAnswer). a .refusal .place) (f .answer) in
+      let r = refused-room (o .answer .refusal .number) (o .answer .refusal .place) (omega (arith, f .high)) (omega (arith, f .near)) in
       subst Fits (refused-page file held lines held-room lines-room o refl (λ z. omega (arith, f .low))) (omega arith)
 
 pub page-fits : (file : List ℕ) → length (pageOf file) ≤ pageRoom

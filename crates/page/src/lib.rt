@@ -15,8 +15,9 @@ pub fn write_page(file: &[u8], out: &mut [u8]) -> usize
     let mut held = [0i64; Book::HELD_WORDS];
     let mut lines = [0i64; Book::LINE_WORDS];
     let read = file::read(file, &mut held[..], &mut lines[..]);
-    if read.number != 0 {
-        return text::refused_text(out, 0, read.number, read.place);
+    let refusal = read.refusal;
+    if refusal.number != 0 {
+        return text::refused_text(out, 0, refusal.number, refusal.place);
     }
     let words = read.n * Line::WORDS;
     let book = Book {

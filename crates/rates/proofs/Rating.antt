@@ -14,9 +14,9 @@ use Rattle.laws.proofs.Size.{size-within}
 use Rattle.book.specs.Limits.{mostHeight}
 use Rattle.book.specs.Height.{workHeightOut}
 use Rattle.book.specs.Lent.{Lent}
-use Rattle.book.specs.Test.{testOf}
+use Rattle.book.specs.Test.{refusal, testOf}
 use Rattle.fields.specs.Heights.{Working}
-use Rattle.rates.specs.Rates.{firstHigh, refusedRate, goodRate, rateAnswer}
+use Rattle.rates.specs.Rates.{firstHigh, refusedWith, goodRate, rateAnswer}
 use Rattle.book.specs.declared.Book.{Book}
 use Rattle.book.specs.declared.Refusal.{Refusal}
 use Rattle.book.specs.declared.Tested.the-variants.{Good, Refused}
@@ -42,11 +42,11 @@ marks-of book k e n q =
 
 -- the answer by the tests
 module _ (book : Lent) (heights : List ℤ) (line : ℤ) (r : RateAnswer) where
-  pub rate-four : eqZ (pos (length heights)) (book .b) ≡ false → r ≡ refusedRate 4 0 → r ≡ rateAnswer book heights line
+  pub rate-four : eqZ (pos (length heights)) (book .b) ≡ false → r ≡ refusedWith (refusal 4 0) → r ≡ rateAnswer book heights line
   unfolding rateAnswer
   rate-four q e = rw q e
 
-  pub rate-refused : eqZ (pos (length heights)) (book .b) ≡ true → (f : Refusal) → testOf book ≡ Refused f → r ≡ refusedRate (f .number) (f .place) → r ≡ rateAnswer book heights line
+  pub rate-refused : eqZ (pos (length heights)) (book .b) ≡ true → (f : Refusal) → testOf book ≡ Refused f → r ≡ refusedWith f → r ≡ rateAnswer book heights line
   unfolding rateAnswer
   rate-refused q f h e = rw (q, h) e
 

@@ -14,8 +14,9 @@ use Rattle.book.specs.Limits.{mostDifference}
 use Rattle.book.specs.Line.{lengthAt, standingAt, lineAt}
 use Rattle.book.specs.Height.{workHeightOut}
 use Rattle.book.specs.Lent.{Lent}
-use Rattle.book.specs.Test.{testOf, ifGood}
+use Rattle.book.specs.Test.{refusal, noRefusal, testOf, ifGood}
 use Rattle.fields.specs.Heights.{height}
+use Rattle.book.specs.declared.Refusal.{Refusal}
 use Rattle.book.specs.declared.Book.{Book}
 use Rattle.book.specs.declared.line.Line.{Line}
 use Rattle.rates.specs.declared.Rate.{Rate}
@@ -48,16 +49,16 @@ pub record OfBook (b : ℕ) (l : Line) : Type 0 where
   pub difference : natAbs (l .difference) ≤ mostDifference
 
 -- "Of a refused call, line, correction and rate are 0"
-unfoldable pub refusedRate : ℕ → ℕ → RateAnswer
-refusedRate number place = record { number = number; place = place; line = 0; correction = pos 0; rate = PerKm (fin false 0 (pos 0)) }
+unfoldable pub refusedWith : Refusal → RateAnswer
+refusedWith r = record { refusal = r; line = 0; correction = pos 0; rate = PerKm (fin false 0 (pos 0)) }
 
 -- "A line's answer is either its rate or that the line is withdrawn"; "of a withdrawn line, correction and rate" are 0
 unfoldable pub lineRate : List ℤ → List ℤ → ℕ → ℕ → RateAnswer
 unfolding correctionAt quotient
 lineRate heights lines line i =
     cond (eqZ (standingAt lines i) (pos 0))
-    (record { number = 0; place = 0; line = line; correction = pos 0; rate = Withdrawn })
-    (record { number = 0; place = 0; line = line; correction = correctionAt heights lines i; rate = PerKm (quotient (correctionAt heights lines i) (lengthAt lines i)) })
+    (record { refusal = noRefusal; line = line; correction = pos 0; rate = Withdrawn })
+    (record { refusal = noRefusal; line = line; correction = correctionAt heights lines i; rate = PerKm (quotient (correctionAt heights lines i) (lengthAt lines i)) })
 
 -- 13: "a height .. lent, outside its limit", "of lent ones the lowest"
 unfoldable pub firstHigh : List ℤ → ℕ
@@ -66,15 +67,15 @@ firstHigh heights = firstBad (λ i. workHeightOut (getD heights i (pos 0))) (len
 
 -- 8: "no such line", then 13
 unfoldable pub goodRate : List ℤ → List ℤ → Book → ℤ → RateAnswer
-unfolding refusedRate firstHigh lineRate
+unfolding refusedWith firstHigh lineRate
 goodRate heights lines book line =
-    cond (outZ (pos 1) (pos (book .lines)) line) (refusedRate 8 0)
-    (cond (ltb 0 (firstHigh heights)) (refusedRate 13 (firstHigh heights)) (lineRate heights lines (natAbs line) (natAbs line - 1)))
+    cond (outZ (pos 1) (pos (book .lines)) line) (refusedWith (refusal 8 0))
+    (cond (ltb 0 (firstHigh heights)) (refusedWith (refusal 13 (firstHigh heights))) (lineRate heights lines (natAbs line) (natAbs line - 1)))
 
 -- 4: "heights lent to be read not b in number"; then the book's own refusals
 unfoldable pub rateAnswer : Lent → List ℤ → ℤ → RateAnswer
-unfolding refusedRate goodRate testOf
+unfolding refusedWith goodRate testOf
 rateAnswer book heights line =
     cond (eqZ (pos (length heights)) (book .b))
-    (ifGood (testOf book) (λ r. refusedRate (r .number) (r .place)) (λ k. goodRate heights (book .lines) k line))
-    (refusedRate 4 0)
+    (ifGood (testOf book) refusedWith (λ k. goodRate heights (book .lines) k line))
+    (refusedWith (refusal 4 0))

@@ -4,11 +4,13 @@ ghost use lib.IntN.{natAbs};
 ghost use Prim.Native.Nat.{_-_, _*_, _≤_, _<_, _^_};
 ghost use lib.ListN.{length};
 ghost use Rattle.book.specs.Line.{lineWords};
+ghost use Rattle.book.specs.Test.{refusal};
 ghost use Rattle.book.specs.Good.{GoodLine};
 ghost use Rattle.fields.specs.Places.{Lines};
 ghost use Rattle.fields.specs.Heights.{Working};
-ghost use Rattle.rates.specs.Rates.{quotient, rowOf, refusedRate, firstHigh, OfBook, correctionOf, lineRate, goodRate};
+ghost use Rattle.rates.specs.Rates.{quotient, rowOf, refusedWith, firstHigh, OfBook, correctionOf, lineRate, goodRate};
 use book::Book;
+use book::Refusal;
 use book::height::Height;
 use book::height::MadeHeight;
 use book::line::Line;
@@ -28,10 +30,9 @@ pub struct RateRow {
     pub rate: f64,
 }
 
-// What the call answers: a refusal's number and place, 0 when done; the line, its correction, and its rate or that it is withdrawn.
+// What the call answers: a refusal, or none and the line, its correction, and its rate or that it is withdrawn.
 pub struct RateAnswer {
-    pub number: usize,
-    pub place: usize,
+    pub refusal: Refusal,
     pub line: usize,
     pub correction: i64,
     pub rate: Rate,
@@ -64,11 +65,16 @@ pub fn row_of(line: usize, correction: i64, rate: Rate) -> RateRow
 }
 
 pub fn refuse(number: usize, place: usize) -> RateAnswer
-    ensures { λ r. ⌜ r ≡ refusedRate number place ⌝ }
+    ensures { λ r. ⌜ r ≡ refusedWith (refusal number place) ⌝ }
+{
+    refused(Refusal::new(number, place))
+}
+
+pub fn refused(refusal: Refusal) -> RateAnswer
+    ensures { λ r. ⌜ r ≡ refusedWith refusal ⌝ }
 {
     RateAnswer {
-        number,
-        place,
+        refusal,
         line: 0,
         correction: 0,
         rate: Rate::PerKm(0.0),
@@ -114,10 +120,10 @@ fn line_rate(lines: &[i64], heights: &[i64], b: usize, line: usize) -> RateAnswe
     let MadeLine::Good(its) = made else {
         return refuse(7, line);
     };
+    let refusal = Refusal::none();
     if signed::same(its.standing, 0) {
         return RateAnswer {
-            number: 0,
-            place: 0,
+            refusal,
             line,
             correction: 0,
             rate: Rate::Withdrawn,
@@ -126,8 +132,7 @@ fn line_rate(lines: &[i64], heights: &[i64], b: usize, line: usize) -> RateAnswe
     let correction = correction_of(its, heights, b);
     let rate = per_km(correction, its.length);
     RateAnswer {
-        number: 0,
-        place: 0,
+        refusal,
         line,
         correction,
         rate: Rate::PerKm(rate),

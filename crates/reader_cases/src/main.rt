@@ -13,8 +13,9 @@ fn run(file: &[u8], held: &mut [i64], lines: &mut [i64]) {
     cases::clear(held);
     cases::clear(lines);
     let a = file::read(file, held, lines);
-    cases::put(a.number);
-    cases::put(a.place);
+    let r = a.refusal;
+    cases::put(r.number);
+    cases::put(r.place);
     cases::put(a.b);
     cases::put(a.t);
     cases::put(a.h);

@@ -18,7 +18,8 @@ use Rattle.loops.proofs.Sounding.{few-loops, report-length}
 use Rattle.table.specs.Filled.{foundIn}
 use Rattle.table.specs.declared.Found.{Found}
 use Rattle.kept.proofs.SameNumbers.{long-enough}
-use Rattle.survey.specs.Report.{refusal, countOf, counted}
+use Rattle.book.specs.Test.{refusal}
+use Rattle.survey.specs.Report.{refusedWith, countOf, counted}
 use Rattle.survey.specs.Survey.{Surveyed, surveyed, surveyGood}
 use Rattle.survey.specs.Correction.{noLine, otherReport, updated, corrected, correctGood}
 use Rattle.survey.specs.Kept.{keptOf, Refresh, Refreshed}
@@ -55,7 +56,7 @@ module _ (k : Book) (ls : List ℤ) (g : GoodLines k ls) where
 
   -- ---- the survey
 
-  pub ten-is : {f : Found} → f ≡ foundIn (k .marks) ls → (out : List ℤ) → length out < f .count * rowWords → surveyed (refusal 10 0) out ≡ surveyGood k ls out
+  pub ten-is : {f : Found} → f ≡ foundIn (k .marks) ls → (out : List ℤ) → length out < f .count * rowWords → surveyed (refusedWith (refusal 10 0)) out ≡ surveyGood k ls out
   unfolding surveyGood
   ten-is e out h = rw (lt-ltb (length out) (length fresh) (omega (arith, words-are e)))
 

@@ -8,11 +8,11 @@ use lib.IntN.{ℤ, pos, natAbs}
 use Rattle.laws.specs.Tests.{outZ, eqZ}
 use Rattle.book.specs.Line.{lineWords, differenceField, standingField, lineCount, standingAt, differenceOut}
 use Rattle.book.specs.Lent.{Lent}
-use Rattle.book.specs.Test.{testOf, ifGood}
+use Rattle.book.specs.Test.{refusal, testOf, ifGood}
 use Rattle.book.specs.declared.Book.{Book}
 unfoldable pub use Rattle.kept.specs.Other.{sameNumbers, otherReport}
 use Rattle.loops.specs.Report.{reportOf}
-use Rattle.survey.specs.Report.{refusal, counted}
+use Rattle.survey.specs.Report.{refusedWith, counted}
 use Rattle.survey.specs.declared.Answer.{Answer}
 
 -- the answer, and lines and report after the call
@@ -38,15 +38,15 @@ unfoldable pub correctGood : Book → List ℤ → List ℤ → ℤ → List ℤ
 unfolding noLine otherReport updated reportOf counted
 correctGood k lines report number new =
     let before = reportOf (k .marks) (k .tolerance) lines in
-    cond (noLine lines number) (corrected (refusal 8 0) lines report)
-    (cond (otherReport report before) (corrected (refusal 9 0) lines report)
+    cond (noLine lines number) (corrected (refusedWith (refusal 8 0)) lines report)
+    (cond (otherReport report before) (corrected (refusedWith (refusal 9 0)) lines report)
     (corrected (counted (k .marks) new) new (updated report before (reportOf (k .marks) (k .tolerance) new))))
 
 -- and of a lent book's
 unfoldable pub correctOf : Lent → List ℤ → ℤ → List ℤ → Corrected
 unfolding correctGood testOf
 correctOf book report number new =
-    ifGood (testOf book) (λ r. corrected (refusal (r .number) (r .place)) (book .lines) report)
+    ifGood (testOf book) (λ r. corrected (refusedWith r) (book .lines) report)
     (λ k. correctGood k (book .lines) report number new)
 
 -- the place in the slice of a line's k-th number, by the line's number from 1
@@ -65,7 +65,7 @@ withdrawLines lines number = set lines (placeOf number standingField) (pos 0)
 unfoldable pub rerunOf : Lent → List ℤ → ℤ → ℤ → Corrected
 unfolding correctOf rerunLines differenceOut
 rerunOf book report number difference =
-    cond (differenceOut difference) (corrected (refusal 4 0) (book .lines) report)
+    cond (differenceOut difference) (corrected (refusedWith (refusal 4 0)) (book .lines) report)
     (correctOf book report number (rerunLines (book .lines) number difference))
 
 unfoldable pub withdrawOf : Lent → List ℤ → ℤ → Corrected

@@ -4,19 +4,21 @@ use Prim.Native.Nat.{ℕ}
 use mathlib.Core.List.{List}
 use lib.IntN.{ℤ}
 use lib.ListN.{length}
+use Rattle.book.specs.Test.{noRefusal}
+use Rattle.book.specs.declared.Refusal.{Refusal}
 use Rattle.loops.specs.Report.{loopsOf, piecesOf}
 use Rattle.table.specs.declared.Found.{Found}
 use Rattle.survey.specs.declared.Answer.{Answer}
 
 -- "After a refusal the counts are 0"
-abbrev pub refusal : ℕ → ℕ → Answer
-refusal number place = record { number = number; place = place; rows = 0; pieces = 0 }
+abbrev pub refusedWith : Refusal → Answer
+refusedWith r = record { refusal = r; rows = 0; pieces = 0 }
 
 -- the answer that has the counts of what was found
 abbrev pub countOf : Found → Answer
-countOf f = record { number = 0; place = 0; rows = f .count; pieces = f .pieces }
+countOf f = record { refusal = noRefusal; rows = f .count; pieces = f .pieces }
 
 -- "survey, re-run and withdrawal the rows and pieces of the book as it then stands"
 unfoldable pub counted : ℕ → List ℤ → Answer
 unfolding loopsOf piecesOf
-counted b lines = record { number = 0; place = 0; rows = length (loopsOf b lines); pieces = piecesOf b lines }
+counted b lines = record { refusal = noRefusal; rows = length (loopsOf b lines); pieces = piecesOf b lines }

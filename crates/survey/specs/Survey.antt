@@ -6,10 +6,10 @@ use lib.Dec.{ltb}
 use lib.ListN.{length, drop}
 use lib.IntN.{ℤ}
 use Rattle.book.specs.Lent.{Lent}
-use Rattle.book.specs.Test.{testOf, ifGood}
+use Rattle.book.specs.Test.{refusal, testOf, ifGood}
 use Rattle.book.specs.declared.Book.{Book}
 use Rattle.loops.specs.Report.{reportOf}
-use Rattle.survey.specs.Report.{refusal, counted}
+use Rattle.survey.specs.Report.{refusedWith, counted}
 use Rattle.survey.specs.declared.Answer.{Answer}
 
 -- the answer, and the rows after the call
@@ -25,11 +25,11 @@ unfoldable pub surveyGood : Book → List ℤ → List ℤ → Surveyed
 unfolding reportOf counted
 surveyGood k lines out =
     let report = reportOf (k .marks) (k .tolerance) lines in
-    cond (ltb (length out) (length report)) (surveyed (refusal 10 0) out)
+    cond (ltb (length out) (length report)) (surveyed (refusedWith (refusal 10 0)) out)
     (surveyed (counted (k .marks) lines) (report ++ drop (length report) out))
 
 unfoldable pub surveyOf : Lent → List ℤ → Surveyed
 unfolding surveyGood testOf
 surveyOf book out =
-    ifGood (testOf book) (λ r. surveyed (refusal (r .number) (r .place)) out)
+    ifGood (testOf book) (λ r. surveyed (refusedWith r) out)
     (λ k. surveyGood k (book .lines) out)

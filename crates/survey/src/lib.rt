@@ -1,31 +1,37 @@
 // The public calls on a lent book and its report: survey, re-run and withdrawal.
 ghost use mathlib.Core.Path.{_≡_};
 ghost use Rattle.book.specs.Lent.{lent};
-ghost use Rattle.survey.specs.Report.{refusal, countOf};
+ghost use Rattle.book.specs.Test.{refusal};
+ghost use Rattle.survey.specs.Report.{refusedWith, countOf};
 ghost use Rattle.survey.specs.Survey.{surveyed, surveyOf};
 ghost use Rattle.survey.specs.Correction.{corrected, rerunOf, withdrawOf};
 
 mod correct;
 mod report;
 
+use book::Refusal;
 use book::Tested;
 use book::line::Line;
 use table::Found;
 
 // What survey, re-run and withdrawal answer.
 pub struct Answer {
-    pub number: usize,
-    pub place: usize,
+    pub refusal: Refusal,
     pub rows: usize,
     pub pieces: usize,
 }
 
 pub(crate) fn refuse(number: usize, place: usize) -> Answer
-    ensures { λ r. ⌜ r ≡ refusal number place ⌝ }
+    ensures { λ r. ⌜ r ≡ refusedWith (refusal number place) ⌝ }
+{
+    refused(Refusal::new(number, place))
+}
+
+fn refused(refusal: Refusal) -> Answer
+    ensures { λ r. ⌜ r ≡ refusedWith refusal ⌝ }
 {
     Answer {
-        number,
-        place,
+        refusal,
         rows: 0,
         pieces: 0,
     }
@@ -34,9 +40,9 @@ pub(crate) fn refuse(number: usize, place: usize) -> Answer
 pub(crate) fn count_of(found: Found) -> Answer
     ensures { λ r. ⌜ r ≡ countOf found ⌝ }
 {
+    let refusal = Refusal::none();
     Answer {
-        number: 0,
-        place: 0,
+        refusal,
         rows: found.count,
         pieces: found.pieces,
     }
@@ -47,7 +53,7 @@ pub fn survey(b: i64, t: i64, held: &[i64], lines: &[i64], rows: &mut [i64]) -> 
     ensures { λ r. ⌜ surveyed r (now (rows .exit)) ≡ surveyOf (lent b t (now (held .entry)) (now (lines .entry))) (now (rows .entry)) ⌝ }
 {
     match book::test(b, t, held, lines) {
-        Tested::Refused(r) => refuse(r.number, r.place),
+        Tested::Refused(r) => refused(r),
         Tested::Good(book) => report::survey_good(book, lines, rows),
     }
 }
@@ -69,7 +75,7 @@ pub fn rerun(
         return refuse(4, 0);
     }
     match book::test(b, t, held, lines) {
-        Tested::Refused(r) => refuse(r.number, r.place),
+        Tested::Refused(r) => refused(r),
         Tested::Good(book) => correct::rerun_good(book, lines, report, line, difference),
     }
 }
@@ -87,7 +93,7 @@ pub fn withdraw(
         ≡ withdrawOf (lent b t (now (held .entry)) (now (lines .entry))) (now (report .entry)) line ⌝ }
 {
     match book::test(b, t, held, lines) {
-        Tested::Refused(r) => refuse(r.number, r.place),
+        Tested::Refused(r) => refused(r),
         Tested::Good(book) => correct::withdraw_good(book, lines, report, line),
     }
 }

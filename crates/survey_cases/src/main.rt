@@ -7,8 +7,9 @@ use cases::case;
 const NUMBERS: usize = 1;
 
 fn put_answer(a: survey::Answer) {
-    cases::put(a.number);
-    cases::put(a.place);
+    let r = a.refusal;
+    cases::put(r.number);
+    cases::put(r.place);
     cases::put(a.rows);
     cases::put(a.pieces);
     io::write_all(cases::STDOUT, b" |");

@@ -43,13 +43,13 @@ answer rows pieces = pos 0 ∷ pos 0 ∷ pos rows ∷ pos pieces ∷ []
 
 -- an answer and what the lent buffers then hold, as lists of numbers
 abbrev ofSurvey : Surveyed → List (List ℤ)
-ofSurvey s = (pos (s .answer .number) ∷ pos (s .answer .place) ∷ pos (s .answer .rows) ∷ pos (s .answer .pieces) ∷ []) ∷ s .rows ∷ []
+ofSurvey s = (pos (s .answer .refusal .number) ∷ pos (s .answer .refusal .place) ∷ pos (s .answer .rows) ∷ pos (s .answer .pieces) ∷ []) ∷ s .rows ∷ []
 
 abbrev ofListing : Listing → List (List ℤ)
-ofListing l = (pos (l .answer .number) ∷ pos (l .answer .place) ∷ pos (l .answer .entries) ∷ []) ∷ l .out ∷ []
+ofListing l = (pos (l .answer .refusal .number) ∷ pos (l .answer .refusal .place) ∷ pos (l .answer .entries) ∷ []) ∷ l .out ∷ []
 
 abbrev ofCorrection : Corrected → List (List ℤ)
-ofCorrection c = (pos (c .answer .number) ∷ pos (c .answer .place) ∷ pos (c .answer .rows) ∷ pos (c .answer .pieces) ∷ []) ∷ c .lines ∷ c .report ∷ []
+ofCorrection c = (pos (c .answer .refusal .number) ∷ pos (c .answer .refusal .place) ∷ pos (c .answer .rows) ∷ pos (c .answer .pieces) ∷ []) ∷ c .lines ∷ c .report ∷ []
 
 abbrev row : ℕ → ℕ → ℕ → ℤ → ℕ → List ℤ
 row closing count length misclosure over = pos closing ∷ pos count ∷ pos length ∷ misclosure ∷ pos over ∷ []
@@ -65,7 +65,7 @@ ofRate (PerKm x) = ofFloat x
 ofRate Withdrawn = []
 
 abbrev ofRateAnswer : RateAnswer → List (List ℤ)
-ofRateAnswer r = (pos (r .number) ∷ pos (r .place) ∷ pos (r .line) ∷ r .correction ∷ []) ∷ ofRate (r .rate) ∷ []
+ofRateAnswer r = (pos (r .refusal .number) ∷ pos (r .refusal .place) ∷ pos (r .line) ∷ r .correction ∷ []) ∷ ofRate (r .rate) ∷ []
 
 -- the book above
 abbrev book : Lent

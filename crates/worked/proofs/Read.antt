@@ -5,9 +5,10 @@ use mathlib.Core.List.{List}
 use Prim.Native.Nat.{ℕ}
 use lib.IntN.{ℤ, pos}
 use lib.ListN.{length, replicate}
+use Rattle.book.specs.Test.{refusal, noRefusal}
 use Rattle.laws.specs.Tests.{outZ, outN, eqZ}
 use Rattle.laws.specs.Scan.{firstFrom, firstBad, anyBelow}
-use Rattle.file.specs.Read.{answered, refusal, readOf}
+use Rattle.file.specs.Read.{answered, refusedWith, readOf}
 use Rattle.worked.specs.Network.{lines, held, file}
 
 abbrev places : ℕ → List ℤ
@@ -18,10 +19,10 @@ unfolding file
 file-length = refl
 
 pub file-read : readOf file (places 2) (places 35)
-    ≡ record { answer = record { number = 0; place = 0; b = 5; t = 120; h = 1; n = 7 }; held = held; lines = lines }
+    ≡ record { answer = record { refusal = noRefusal; b = 5; t = 120; h = 1; n = 7 }; held = held; lines = lines }
 unfolding file held lines readOf outZ outN eqZ firstFrom firstBad anyBelow
 file-read = refl
 
-pub a-place-missing : readOf file (places 2) (places 34) ≡ answered (places 2) (places 34) (refusal 10 0)
+pub a-place-missing : readOf file (places 2) (places 34) ≡ answered (places 2) (places 34) (refusedWith (refusal 10 0))
 unfolding file readOf outZ outN eqZ firstFrom firstBad anyBelow
 a-place-missing = refl

@@ -13,8 +13,8 @@ test-requires c κs = search needs
 enum-known-r : tie.Need-enum-known-r
 enum-known-r c = search needs
 
-refuse-requires : tie.Need-refuse-requires
-refuse-requires c κs = search needs
+refused-requires : tie.Need-refused-requires
+refused-requires c κs = search needs
 
 enum-known-book : tie.Need-enum-known-book
 enum-known-book c = search needs
@@ -35,7 +35,7 @@ returns : tie.Need-returns
 returns c =
     let after-test : tie.After-test = search in
     let r = c .before .before .r .given in
-    rw (c .refuse .ensures) (sym (by-refusal _ _ (r .0 .0) (sym (tested after-test) ∙ r .1)))
+    rw (c .refused .ensures) (sym (by-refusal _ _ (r .0 .0) (sym (tested after-test) ∙ r .1)))
 
 same-length : tie.Need-same-length
 same-length c = search needs
@@ -53,7 +53,7 @@ adjust-spec =
     (tie.spec
     test-requires
     enum-known-r
-    refuse-requires
+    refused-requires
     enum-known-book
     adjust-good-requires
     returns

@@ -35,8 +35,8 @@ test-requires c κs = search needs
 enum-known-tested : tie.Need-enum-known-tested
 enum-known-tested c = search needs
 
-refuse-requires : tie.Need-refuse-requires
-refuse-requires c κs = search needs
+refused-requires : tie.Need-refused-requires
+refused-requires c κs = search needs
 
 enum-known-tested-2 : tie.Need-enum-known-tested-2
 enum-known-tested-2 c = search needs
@@ -57,7 +57,7 @@ returns c =
     let after-same : tie.After-same = search in
     let s : tie.Start = search in
     let k = c .before .before .tested .given in
-    rate-refused (lent (s .args .b) (s .args .t) (s .args .held .now) (s .args .lines .now)) (s .args .heights .now) (s .args .line) (c .refuse .result) (count-read after-same ∙ then1 .if1 .taken) (k .0 .0) (test-read after-test ∙ k .1) (c .refuse .ensures)
+    rate-refused (lent (s .args .b) (s .args .t) (s .args .held .now) (s .args .lines .now)) (s .args .heights .now) (s .args .line) (c .refused .result) (count-read after-same ∙ then1 .if1 .taken) (k .0 .0) (test-read after-test ∙ k .1) (c .refused .ensures)
 
 returns-2 : tie.Need-returns-2
 returns-2 c =
@@ -68,13 +68,13 @@ returns-2 c =
     let k = c .before .before .tested2 .given in
     rate-good (lent (s .args .b) (s .args .t) (s .args .held .now) (s .args .lines .now)) (s .args .heights .now) (s .args .line) (c .good-rate .result) (count-read after-same ∙ then1 .if1 .taken) (k .0 .0) (test-read after-test ∙ k .1) (c .good-rate .ensures ∙ rw (toZ-ofZ (s .fits .line)))
 
-refuse-requires-2 : tie.Need-refuse-requires-2
-refuse-requires-2 c κs = search needs
+refuse-requires : tie.Need-refuse-requires
+refuse-requires c κs = search needs
 
 returns-3 : tie.Need-returns-3
 returns-3 c =
     let s : tie.Start = search in
-    rate-four (lent (s .args .b) (s .args .t) (s .args .held .now) (s .args .lines .now)) (s .args .heights .now) (s .args .line) (c .refuse2 .result) (count-read (c .before .before) ∙ c .before .if1 .left) (c .refuse2 .ensures)
+    rate-four (lent (s .args .b) (s .args .t) (s .args .held .now) (s .args .lines .now)) (s .args .heights .now) (s .args .line) (c .refuse .result) (count-read (c .before .before) ∙ c .before .if1 .left) (c .refuse .ensures)
 
 pub rate-spec : {M : Type 1} → statement M
 rate-spec =
@@ -84,10 +84,10 @@ rate-spec =
     same-requires
     test-requires
     enum-known-tested
-    refuse-requires
+    refused-requires
     enum-known-tested-2
     good-rate-requires
     returns
     returns-2
-    refuse-requires-2
+    refuse-requires
     returns-3)

@@ -36,6 +36,9 @@ add-read-entries c = search needs
 read-entries-requires-2 : tie.Need-read-entries-requires-2
 read-entries-requires-2 c κs = search needs
 
+none-requires : tie.Need-none-requires
+none-requires c κs = search needs
+
 same-length : tie.Need-same-length
 same-length c = search needs
 
@@ -45,10 +48,10 @@ same-length-2 c = search needs
 returns-3 : tie.Need-returns-3
 unfolding roomOf heldOf linesOf
 returns-3 c =
-    let l = c .before in
+    let l : tie.After-read-entries2 = search in
     let h = l .before .before .before in
     let c₂ = h .before .before in
-    rw (le-ltb _ _ (c₂ .before .if1 .left), le-ltb _ _ (c₂ .if2 .left), h .read-entries .ensures, l .read-entries2 .ensures)
+    rw (le-ltb _ _ (c₂ .before .if1 .left), le-ltb _ _ (c₂ .if2 .left), h .read-entries .ensures, l .read-entries2 .ensures, c .none .ensures)
 
 pub fill-spec : {M : Type 1} → statement M
 fill-spec =
@@ -64,6 +67,7 @@ fill-spec =
     mul-read-entries
     add-read-entries
     read-entries-requires-2
+    none-requires
     same-length
     same-length-2
     returns-3)

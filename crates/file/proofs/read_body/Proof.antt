@@ -9,8 +9,8 @@ tested-requires c κs = search needs
 enum-known-r : tie.Need-enum-known-r
 enum-known-r c = search needs
 
-refuse-requires : tie.Need-refuse-requires
-refuse-requires c κs = search needs
+refused-requires : tie.Need-refused-requires
+refused-requires c κs = search needs
 
 enum-told : tie.Need-enum-told
 enum-told c = search needs
@@ -22,7 +22,7 @@ returns : tie.Need-returns
 unfolding bodyOf
 returns c =
     let r = c .before .before in
-    rw (← (r .before .before .tested .ensures), r .r .given .1, c .refuse .ensures)
+    rw (← (r .before .before .tested .ensures), r .r .given .1, c .refused .ensures)
 
 same-length : tie.Need-same-length
 same-length c = search needs
@@ -43,7 +43,7 @@ read-body-spec =
     (tie.spec
     tested-requires
     enum-known-r
-    refuse-requires
+    refused-requires
     enum-told
     fill-requires
     returns

@@ -8,14 +8,11 @@ use borrow.Author.Needs.{needs}
 use Rattle.level.proofs.rate_answer.Statement.{statement}
 use Rattle.level.proofs.rate_answer.Tie as tie
 
+signed-refusal-requires : tie.Need-signed-refusal-requires
+signed-refusal-requires c κs = search needs
+
 signed-count-requires : tie.Need-signed-count-requires
 signed-count-requires c κs = search needs
-
-signed-count-requires-2 : tie.Need-signed-count-requires-2
-signed-count-requires-2 c κs = search needs
-
-signed-count-requires-3 : tie.Need-signed-count-requires-3
-signed-count-requires-3 c κs = search needs
 
 enum-known-rate : tie.Need-enum-known-rate
 enum-known-rate c = search needs
@@ -26,15 +23,18 @@ enum-told c = search needs
 returns : tie.Need-returns
 unfolding signedRate withdrawnOf rateOf
 returns c =
-    let c₃ : tie.After-signed-count3 = search in
-    let c₂ : tie.After-signed-count2 = search in
     let c₁ : tie.After-signed-count = search in
+    let c₀ : tie.After-signed-refusal = search in
+    let r = c₀ .signed-refusal .result in
+    let number : toZ w64 (ofZ w64 (r .number)) ≡ r .number = search needs in
+    let place : toZ w64 (ofZ w64 (r .place)) ≡ r .place = search needs in
     let s : tie.Start = search in
     let back : toZ w64 (ofZ w64 (s .args .a .correction)) ≡ s .args .a .correction = search needs in
     rw (
+      number,
+      place,
+      c₀ .signed-refusal .ensures,
       stored _ (c₁ .signed-count .ok) (c₁ .signed-count .ensures),
-      stored _ (c₂ .signed-count2 .ok) (c₂ .signed-count2 .ensures),
-      stored _ (c₃ .signed-count3 .ok) (c₃ .signed-count3 .ensures),
       back,
       c .before .rate .given .1,
     )
@@ -42,15 +42,18 @@ returns c =
 returns-2 : tie.Need-returns-2
 unfolding signedRate withdrawnOf rateOf ofBits
 returns-2 c =
-    let c₂ : tie.After-signed-count2 = search in
     let c₁ : tie.After-signed-count = search in
+    let c₀ : tie.After-signed-refusal = search in
+    let r = c₀ .signed-refusal .result in
+    let number : toZ w64 (ofZ w64 (r .number)) ≡ r .number = search needs in
+    let place : toZ w64 (ofZ w64 (r .place)) ≡ r .place = search needs in
     let s : tie.Start = search in
-    let c₃ = c .before .before .before in
     let back : toZ w64 (ofZ w64 (s .args .a .correction)) ≡ s .args .a .correction = search needs in
     rw (
+      number,
+      place,
+      c₀ .signed-refusal .ensures,
       stored _ (c₁ .signed-count .ok) (c₁ .signed-count .ensures),
-      stored _ (c₂ .signed-count2 .ok) (c₂ .signed-count2 .ensures),
-      stored _ (c₃ .signed-count3 .ok) (c₃ .signed-count3 .ensures),
       back,
       c .enum-told .given .1,
     )
@@ -59,9 +62,8 @@ pub rate-answer-spec : {M : Type 1} → statement M
 rate-answer-spec =
     tie.close
     (tie.spec
+    signed-refusal-requires
     signed-count-requires
-    signed-count-requires-2
-    signed-count-requires-3
     enum-known-rate
     enum-told
     returns

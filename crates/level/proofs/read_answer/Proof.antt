@@ -1,8 +1,14 @@
+use mathlib.Core.Path.{_≡_}
+use mir.Syntax.{w64}
+use mir.Val.{toZ, ofZ}
 use Rattle.laws.proofs.Signed.{stored}
 use Rattle.level.specs.Signed.{signedRead}
 use borrow.Author.Needs.{needs}
 use Rattle.level.proofs.read_answer.Statement.{statement}
 use Rattle.level.proofs.read_answer.Tie as tie
+
+signed-refusal-requires : tie.Need-signed-refusal-requires
+signed-refusal-requires c κs = search needs
 
 signed-count-requires : tie.Need-signed-count-requires
 signed-count-requires c κs = search needs
@@ -16,37 +22,34 @@ signed-count-requires-3 c κs = search needs
 signed-count-requires-4 : tie.Need-signed-count-requires-4
 signed-count-requires-4 c κs = search needs
 
-signed-count-requires-5 : tie.Need-signed-count-requires-5
-signed-count-requires-5 c κs = search needs
-
-signed-count-requires-6 : tie.Need-signed-count-requires-6
-signed-count-requires-6 c κs = search needs
-
 returns : tie.Need-returns
 unfolding signedRead
 returns c =
-    let c₅ = c .before in
-    let c₄ = c₅ .before in
-    let c₃ = c₄ .before in
-    let c₂ = c₃ .before in
-    let c₁ = c₂ .before in
+    let c₄ : tie.After-signed-count4 = search in
+    let c₃ : tie.After-signed-count3 = search in
+    let c₂ : tie.After-signed-count2 = search in
+    let c₁ : tie.After-signed-count = search in
+    let c₀ : tie.After-signed-refusal = search in
+    let r = c₀ .signed-refusal .result in
+    let number : toZ w64 (ofZ w64 (r .number)) ≡ r .number = search needs in
+    let place : toZ w64 (ofZ w64 (r .place)) ≡ r .place = search needs in
     rw (
+      number,
+      place,
+      c₀ .signed-refusal .ensures,
       stored _ (c₁ .signed-count .ok) (c₁ .signed-count .ensures),
       stored _ (c₂ .signed-count2 .ok) (c₂ .signed-count2 .ensures),
       stored _ (c₃ .signed-count3 .ok) (c₃ .signed-count3 .ensures),
       stored _ (c₄ .signed-count4 .ok) (c₄ .signed-count4 .ensures),
-      stored _ (c₅ .signed-count5 .ok) (c₅ .signed-count5 .ensures),
-      stored _ (c .signed-count6 .ok) (c .signed-count6 .ensures),
     )
 
 pub read-answer-spec : {M : Type 1} → statement M
 read-answer-spec =
     tie.close
     (tie.spec
+    signed-refusal-requires
     signed-count-requires
     signed-count-requires-2
     signed-count-requires-3
     signed-count-requires-4
-    signed-count-requires-5
-    signed-count-requires-6
     returns)

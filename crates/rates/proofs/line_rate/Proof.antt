@@ -87,12 +87,17 @@ returns c =
     let z : _≡_ {A = ℕ} 0 1 = cc in
     absurd (omega arith)
 
+none-requires : tie.Need-none-requires
+none-requires c κs = search needs
+
 same-requires : tie.Need-same-requires
 same-requires c κs = search needs
 
 returns-2 : tie.Need-returns-2
 unfolding lineRate
-returns-2 c = rw (withdrawn-read (c .before) ∙ c .if1 .taken)
+returns-2 c =
+    let after-none : tie.After-none = search in
+    rw (withdrawn-read (c .before) ∙ c .if1 .taken, after-none .none .ensures)
 
 correction-of-requires : tie.Need-correction-of-requires
 correction-of-requires c κs =
@@ -111,13 +116,14 @@ returns-3 : tie.Need-returns-3
 unfolding lineRate correctionAt
 returns-3 c =
     let after-same : tie.After-same = search in
+    let after-none : tie.After-none = search in
     let s : tie.Start = search in
     let known : tie.After-made = search in
     let k = c .before .before .correction-of in
     let e = withdrawn-read after-same ∙ c .before .before .before .if1 .left in
     let x : toZ w64 (ofZ w64 (k .result)) ≡ correctionAt (s .args .heights .now) (s .args .lines .now) (s .args .line - 1)
     = back (k .result) (k .ok) ∙ k .ensures .0 ∙ ap (correctionOf (s .args .heights .now)) (its-is known) in
-    rw (e, c .per-km .ensures, length-read (c .before), x)
+    rw (e, after-none .none .ensures, c .per-km .ensures, length-read (c .before), x)
 
 pub line-rate-spec : {M : Type 1} → statement M
 line-rate-spec =
@@ -136,6 +142,7 @@ line-rate-spec =
     enum-told
     refuse-requires
     returns
+    none-requires
     same-requires
     returns-2
     correction-of-requires

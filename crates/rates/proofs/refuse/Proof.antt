@@ -1,12 +1,17 @@
-use mathlib.Core.Path.{refl}
-use lib.Ieee.{ofBits}
-use Rattle.rates.specs.Rates.{refusedRate}
+use mathlib.Core.Path.{_∙_, ap}
+use Rattle.rates.specs.Rates.{refusedWith}
+use borrow.Author.Needs.{needs}
 use Rattle.rates.proofs.refuse.Statement.{statement}
 use Rattle.rates.proofs.refuse.Tie as tie
 
+new-requires : tie.Need-new-requires
+new-requires c κs = search needs
+
+refused-requires : tie.Need-refused-requires
+refused-requires c κs = search needs
+
 returns : tie.Need-returns
-unfolding refusedRate ofBits
-returns c = refl
+returns c = c .refused .ensures ∙ ap refusedWith (c .before .new .ensures)
 
 pub refuse-spec : {M : Type 1} → statement M
-refuse-spec = tie.close (tie.spec returns)
+refuse-spec = tie.close (tie.spec new-requires refused-requires returns)

@@ -34,8 +34,8 @@ test-requires c κs = search needs
 enum-known-r : tie.Need-enum-known-r
 enum-known-r c = search needs
 
-refuse-requires-2 : tie.Need-refuse-requires-2
-refuse-requires-2 c κs = search needs
+refused-requires : tie.Need-refused-requires
+refused-requires c κs = search needs
 
 enum-known-book : tie.Need-enum-known-book
 enum-known-book c = search needs
@@ -67,7 +67,7 @@ returns-2 c =
     let after-test : tie.After-test = search in
     let else1 : tie.Else1 = search in
     let after-outside-difference : tie.After-outside-difference = search in
-    rw (← (flag after-outside-difference), else1 .if1 .left, ← (tested after-test), c .before .before .r .given .1, c .refuse2 .ensures)
+    rw (← (flag after-outside-difference), else1 .if1 .left, ← (tested after-test), c .before .before .r .given .1, c .refused .ensures)
 
 same-length-2 : tie.Need-same-length-2
 same-length-2 c = search needs
@@ -94,7 +94,7 @@ rerun-spec =
     returns
     test-requires
     enum-known-r
-    refuse-requires-2
+    refused-requires
     enum-known-book
     rerun-good-requires
     same-length

@@ -6,6 +6,9 @@ use Rattle.adjust.proofs.along.answer_of.Tie as tie
 enum-known-e : tie.Need-enum-known-e
 enum-known-e c = search needs
 
+settled-at-requires : tie.Need-settled-at-requires
+settled-at-requires c κs = search needs
+
 enum-known-e-2 : tie.Need-enum-known-e-2
 enum-known-e-2 c = search needs
 
@@ -19,7 +22,7 @@ refuse-requires-2 : tie.Need-refuse-requires-2
 refuse-requires-2 c κs = search needs
 
 returns : tie.Need-returns
-returns c = rw (c .before .e .given .1)
+returns c = c .settled-at .ensures ∙ rw (c .before .before .e .given .1)
 
 returns-2 : tie.Need-returns-2
 returns-2 c = c .refuse .ensures ∙ rw (c .before .before .e2 .given .1)
@@ -32,6 +35,7 @@ answer-of-spec =
     tie.close
     (tie.spec
     enum-known-e
+    settled-at-requires
     enum-known-e-2
     refuse-requires
     enum-told

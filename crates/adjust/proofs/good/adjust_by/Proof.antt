@@ -28,8 +28,9 @@ same-length-3 c = search needs
 
 returns-2 : tie.Need-returns-2
 returns-2 c =
+    let after-adjust-into : tie.After-adjust-into = search in
     let s : tie.Start = search in
-    let a = c .before .before .before .adjust-into in
+    let a = after-adjust-into .adjust-into in
     call-refused (s .args .book) (s .args .held .now) (s .args .lines .now) (s .args .heights .now) (a .result) _ (s .pre .1 .1) (a .ensures) (c .if1 .left)
 
 pub adjust-by-spec : {M : Type 1} → statement M

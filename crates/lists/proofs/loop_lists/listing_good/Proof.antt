@@ -29,8 +29,8 @@ signed-count-requires c κs = search needs
 outside-requires : tie.Need-outside-requires
 outside-requires c κs = search needs
 
-unlisted-requires : tie.Need-unlisted-requires
-unlisted-requires c κs = search needs
+refuse-requires : tie.Need-refuse-requires
+refuse-requires c κs = search needs
 
 -- the flag that the code has is the definition's test
 flag : (c : tie.After-outside) → (let a : tie.After-find-loops = search in let s : tie.Start = search in
@@ -56,7 +56,7 @@ returns : tie.Need-returns
 returns c =
     let after-find-loops : tie.After-find-loops = search in
     let s : tie.Start = search in
-    rw (c .unlisted .ensures) (eight-is _ _ (s .pre) (after-find-loops .find-loops .ensures .1) (s .args .number) (s .args .out .now) (sym (flag (c .before .before)) ∙ c .before .if1 .taken))
+    rw (c .refuse .ensures) (eight-is _ _ (s .pre) (after-find-loops .find-loops .ensures .1) (s .args .number) (s .args .out .now) (sym (flag (c .before .before)) ∙ c .before .if1 .taken))
 
 magnitude-requires : tie.Need-magnitude-requires
 magnitude-requires c κs = search needs
@@ -145,7 +145,7 @@ listing-good-spec =
     find-loops-requires
     signed-count-requires
     outside-requires
-    unlisted-requires
+    refuse-requires
     returns
     magnitude-requires
     sub-i

@@ -7,13 +7,13 @@ use borrow.Author.Needs.{needs}
 use Rattle.lists.proofs.run.write_run.Statement.{statement}
 use Rattle.lists.proofs.run.write_run.Tie as tie
 
-unlisted-requires : tie.Need-unlisted-requires
-unlisted-requires c κs = search needs
+refuse-requires : tie.Need-refuse-requires
+refuse-requires c κs = search needs
 
 returns : tie.Need-returns
 returns c =
     let s : tie.Start = search in
-    rw (c .unlisted .ensures) (list-ten _ (s .args .out .now) (omega (arith, length-map (s .args .run .now) listedBy, c .before .if1 .taken)))
+    rw (c .refuse .ensures) (list-ten _ (s .args .out .now) (omega (arith, length-map (s .args .run .now) listedBy, c .before .if1 .taken)))
 
 list-run-requires : tie.Need-list-run-requires
 list-run-requires c κs = search needs
@@ -36,4 +36,4 @@ returns-2 c =
 pub write-run-spec : {M : Type 1} → statement M
 write-run-spec =
     tie.close
-    (tie.spec unlisted-requires returns list-run-requires entered-requires same-length returns-2)
+    (tie.spec refuse-requires returns list-run-requires entered-requires same-length returns-2)

@@ -17,13 +17,13 @@ Inv-loop list out₀ count i₀ out i = Laid (map pos list) out₀ out i
 abbrev μ-loop : tie.MeasureT-loop
 μ-loop list out₀ count i₀ out i = length list - i
 
-unlisted-requires : tie.Need-unlisted-requires Inv-loop μ-loop
-unlisted-requires c κs = search needs
+refuse-requires : tie.Need-refuse-requires Inv-loop μ-loop
+refuse-requires c κs = search needs
 
 returns : tie.Need-returns Inv-loop μ-loop
 returns c =
     let s = c .before .before .before in
-    rw (c .unlisted .ensures) (list-ten _ (s .args .out .now) (omega (arith, length-map (s .args .list .now) pos, c .before .if1 .taken)))
+    rw (c .refuse .ensures) (list-ten _ (s .args .out .now) (omega (arith, length-map (s .args .list .now) pos, c .before .if1 .taken)))
 
 loop-holds : tie.Need-loop-holds Inv-loop μ-loop
 loop-holds c = laid-start _ _
@@ -80,7 +80,7 @@ write-list-spec =
     (tie.spec
     Inv-loop
     μ-loop
-    unlisted-requires
+    refuse-requires
     returns
     loop-holds
     mul-signed-count
