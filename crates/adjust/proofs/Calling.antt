@@ -23,7 +23,7 @@ use Rattle.adjust.specs.declared.Adjusted.{Adjusted}
 pub good-entries : (k : Book) (book : Lent) → GoodBook k book → GoodEntries k (book .held) (book .lines)
 good-entries k book g = record {
   lines-good = good-lines k book g;
-  held-good = record { few = g .few-held; whole = g .whole-held; each = g .each-held };
+  held-good = g .held-good;
 }
 
 -- the call by the test of its book

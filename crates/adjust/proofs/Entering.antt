@@ -120,7 +120,7 @@ module _ (k : Book) (lines : List ℤ) (g : GoodLines k lines) {ends head next b
 
   book-growth : k .marks ≤ length order → k .marks < length best → Growth order best (k .marks) (k .lines)
   book-growth lo lb =
-      let lines-are : lineCount lines + 1 - 1 ≡ k .lines = omega (arith, g .whole) in
+      let lines-are : lineCount lines + 1 - 1 ≡ k .lines = omega (arith, g .good .whole) in
       subst (λ (b : ℕ). Growth order best b (k .lines)) marks-are (subst (Growth order best (k .marks + 1 - 1)) lines-are
       (tree-growth (k .marks + 1) (lineCount lines + 1) (standing lines) ends best order (p .listed) (p .holding) (omega arith) (omega arith) (omega arith)))
 

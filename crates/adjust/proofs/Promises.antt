@@ -8,10 +8,10 @@ use mathlib.Core.List.{List}
 use mathlib.Core.Option.{some}
 use lib.ListN.{length}
 use lib.IntN.{ℤ, pos, negsuc}
+use Rattle.book.specs.Good.{Lines}
 use Rattle.network.specs.Standing.{standing}
 use Rattle.network.specs.Tree.{tree}
 use Rattle.fields.specs.Heights.{height}
-use Rattle.fields.specs.Places.{Lines}
 use Rattle.sights.specs.Sights.{sightsOf}
 use Rattle.sweeps.specs.Sweeps.{Settled, settled, unsettled, settle}
 use Rattle.sweeps.specs.Squares.{moveMark, squares}

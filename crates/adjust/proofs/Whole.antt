@@ -10,17 +10,17 @@ use lib.Seq.{ext-getD}
 use lib.IntN.{ℤ, pos}
 use Rattle.book.specs.Limits.{mostMarks, mostHeldHeight}
 use Rattle.book.specs.Test.{refusal}
+use Rattle.book.specs.Good.{Lines, HeldEntries}
 use Rattle.network.specs.Standing.{standing}
 use Rattle.network.specs.Tree.{tree}
 use Rattle.network.proofs.Grown.{treeLine}
 use Rattle.network.proofs.Marks.{size, grows}
 use Rattle.fields.specs.Heights.{Working}
-use Rattle.fields.specs.Places.{Lines}
 use Rattle.sights.specs.Sights.{Sight, sightsOf}
 use Rattle.sweeps.specs.Sweeps.{Swept, still, moved, visit, sweep, Settled, onward, settleFrom, maxSweeps, settle}
 use Rattle.sweeps.specs.Turns.{flags, endedAt}
 use Rattle.start.specs.Start.{heldHeight, isSome, isHeld, Rooted, rootedBy, unheldPiece, startOf, startHeights}
-use Rattle.start.specs.Along.{Entered, rooting, Given, HeldEntries, HeldIn, Started}
+use Rattle.start.specs.Along.{Entered, rooting, Given, HeldIn, Started}
 use Rattle.adjust.specs.Adjusted.{Outcome, refused, ended, unlessUnheld, adjustment}
 use Rattle.adjust.specs.Answers.{refusedWith, answerOf, endAnswer, answered, Answers}
 use Rattle.fields.proofs.Fair.{fair-lines}

@@ -5,11 +5,10 @@ use mathlib.Core.List.{List, _++_}
 use lib.Dec.{ltb}
 use lib.ListN.{length, drop}
 use lib.IntN.{ℤ}
-use Rattle.book.specs.Good.{GoodLines}
+use Rattle.book.specs.Good.{GoodLines, HeldEntries}
 use Rattle.book.specs.Lent.{Lent}
 use Rattle.book.specs.Test.{refusal, testOf, ifGood}
 use Rattle.book.specs.declared.Book.{Book}
-use Rattle.start.specs.Along.{HeldEntries}
 use Rattle.adjust.specs.Adjusted.{Outcome, done, refused, adjustment}
 use Rattle.adjust.specs.Answers.{settledAt, refusedWith}
 use Rattle.adjust.specs.declared.Adjusted.{Adjusted}

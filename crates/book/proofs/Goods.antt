@@ -120,12 +120,18 @@ module _ (book : Lent) (k : Book) where
         tolerance = tolerance .is;
         a-tolerance = tolerance .low;
         small-tolerance = tolerance .high;
-        whole-held = whole heldWords (book .held) (p₁ .0);
-        few-held = inN-high leastHeld mostHeld h (or-right (out₁ || out₂) out₃ o₃);
-        whole-lines = whole lineWords (book .lines) (p₂ .0);
-        few-lines = inN-high leastLines mostLines n (or-right (out₁ || out₂ || out₃) out₄ (p₃ .0));
-        each-held = λ i l. good-held (natAbs (book .b)) (book .held) i (subst (λ (z : ℤ). heldBad z (book .held) i ≡ false) (marks .is) (none-bad (heldBad (book .b) (book .held)) h (none-first (firstBadHeld (book .b) (book .held)) (p₄ .0)) i l));
-        each-line = λ i l. good-line (natAbs (book .b)) (book .lines) i (subst (λ (z : ℤ). lineBad z (book .lines) i ≡ false) (marks .is) (none-bad (lineBad (book .b) (book .lines)) n (none-first (firstBadLine (book .b) (book .lines)) (p₅ .0)) i l));
+        held-good = record {
+          few = inN-high leastHeld mostHeld h (or-right (out₁ || out₂) out₃ o₃);
+          whole = whole heldWords (book .held) (p₁ .0);
+          each = λ i l. good-held (natAbs (book .b)) (book .held) i (subst (λ (z : ℤ). heldBad z (book .held) i ≡ false) (marks .is)
+              (none-bad (heldBad (book .b) (book .held)) h (none-first (firstBadHeld (book .b) (book .held)) (p₄ .0)) i l));
+        };
+        lines-good = record {
+          few = inN-high leastLines mostLines n (or-right (out₁ || out₂ || out₃) out₄ (p₃ .0));
+          whole = whole lineWords (book .lines) (p₂ .0);
+          each = λ i l. good-line (natAbs (book .b)) (book .lines) i (subst (λ (z : ℤ). lineBad z (book .lines) i ≡ false) (marks .is)
+              (none-bad (lineBad (book .b) (book .lines)) n (none-first (firstBadLine (book .b) (book .lines)) (p₅ .0)) i l));
+        };
       })
 
 -- a refusal has a number of the table, and a place that is an entry's or 0
@@ -176,7 +182,5 @@ good-lines k book g = record {
   a-mark = g .a-mark;
   few-marks = g .few-marks;
   small-tolerance = g .small-tolerance;
-  whole = g .whole-lines;
-  few = g .few-lines;
-  each = g .each-line;
+  good = g .lines-good;
 }

@@ -41,8 +41,8 @@ pub good-passes : (k : Book) (book : Lent) → GoodBook k book → testOf book �
 unfolding testOf torn bookOut outN firstBadHeld firstBadLine
 good-passes k book g =
     rw (
-      eq-eqb (length (book .held) % heldWords) 0 (omega (arith, g .whole-held)),
-      eq-eqb (length (book .lines) % lineWords) 0 (omega (arith, g .whole-lines)),
+      eq-eqb (length (book .held) % heldWords) 0 (omega (arith, g .held-good .whole)),
+      eq-eqb (length (book .lines) % lineWords) 0 (omega (arith, g .lines-good .whole)),
       h,
       n,
       g .marks,
@@ -50,18 +50,18 @@ good-passes k book g =
       inside leastMarks mostMarks (k .marks) (g .a-mark) (g .few-marks),
       inside leastTolerance mostTolerance (k .tolerance) (g .a-tolerance) (g .small-tolerance),
       le-ltb (k .held) leastHeld (omega arith),
-      le-ltb mostHeld (k .held) (g .few-held),
+      le-ltb mostHeld (k .held) (g .held-good .few),
       le-ltb (k .lines) leastLines (omega arith),
-      le-ltb mostLines (k .lines) (g .few-lines),
-      none-first (heldBad (pos (k .marks)) (book .held)) (k .held) (λ i l. held-passes (k .marks) (book .held) i (g .each-held i l)),
-      none-first (lineBad (pos (k .marks)) (book .lines)) (k .lines) (λ i l. line-passes (k .marks) (book .lines) i (g .each-line i l)),
+      le-ltb mostLines (k .lines) (g .lines-good .few),
+      none-first (heldBad (pos (k .marks)) (book .held)) (k .held) (λ i l. held-passes (k .marks) (book .held) i (g .held-good .each i l)),
+      none-first (lineBad (pos (k .marks)) (book .lines)) (k .lines) (λ i l. line-passes (k .marks) (book .lines) i (g .lines-good .each i l)),
     )
   where
     h : heldCount (book .held) ≡ k .held
-    h = omega (arith, g .whole-held)
+    h = omega (arith, g .held-good .whole)
 
     n : lineCount (book .lines) ≡ k .lines
-    n = count-of (book .lines) (k .lines) (g .whole-lines)
+    n = count-of (book .lines) (k .lines) (g .lines-good .whole)
 
 -- the line at place i is made of its entry
 pub line-is-made : (b : ℕ) (lines : List ℤ) (i : ℕ) → GoodLine b lines i → entryOf (pos b) (entryAt lines i) ≡ made.Good (lineAt lines i)

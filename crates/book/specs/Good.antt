@@ -29,6 +29,18 @@ pub record GoodHeld (b : ℕ) (held : List ℤ) (i : ℕ) : Type 0 where
   pub height : natAbs (heightAt held i) ≤ mostHeldHeight
   pub once : (j : ℕ) → j < i → markAt held j ≡ markAt held i → ⊥
 
+-- n lines, each good, and nothing beside them
+pub record Lines (lines : List ℤ) (b n : ℕ) : Type 0 where
+  pub few : n ≤ mostLines
+  pub whole : length lines ≡ n * lineWords
+  pub each : (i : ℕ) → i < n → GoodLine b lines i
+
+-- h held entries, each good, and nothing beside them
+pub record HeldEntries (held : List ℤ) (b h : ℕ) : Type 0 where
+  pub few : h ≤ mostHeld
+  pub whole : length held ≡ h * heldWords
+  pub each : (i : ℕ) → i < h → GoodHeld b held i
+
 -- the lent book, with the counts k
 pub record GoodBook (k : Book) (book : Lent) : Type 0 where
   pub marks : book .b ≡ pos (k .marks)
@@ -37,18 +49,12 @@ pub record GoodBook (k : Book) (book : Lent) : Type 0 where
   pub tolerance : book .t ≡ pos (k .tolerance)
   pub a-tolerance : leastTolerance ≤ k .tolerance
   pub small-tolerance : k .tolerance ≤ mostTolerance
-  pub whole-held : length (book .held) ≡ k .held * heldWords
-  pub few-held : k .held ≤ mostHeld
-  pub whole-lines : length (book .lines) ≡ k .lines * lineWords
-  pub few-lines : k .lines ≤ mostLines
-  pub each-held : (i : ℕ) → i < k .held → GoodHeld (k .marks) (book .held) i
-  pub each-line : (i : ℕ) → i < k .lines → GoodLine (k .marks) (book .lines) i
+  pub held-good : HeldEntries (book .held) (k .marks) (k .held)
+  pub lines-good : Lines (book .lines) (k .marks) (k .lines)
 
 -- what the work on the lines uses of it: its counts, its tolerance, and that every line is good
 pub record GoodLines (k : Book) (lines : List ℤ) : Type 0 where
   pub a-mark : leastMarks ≤ k .marks
   pub few-marks : k .marks ≤ mostMarks
   pub small-tolerance : k .tolerance ≤ mostTolerance
-  pub whole : length lines ≡ k .lines * lineWords
-  pub few : k .lines ≤ mostLines
-  pub each : (i : ℕ) → i < k .lines → GoodLine (k .marks) lines i
+  pub good : Lines lines (k .marks) (k .lines)

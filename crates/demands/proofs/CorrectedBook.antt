@@ -8,6 +8,7 @@ use lib.ListN.{length, length-map, set, length-set}
 use lib.Seq.{getD-set-same, getD-set-other}
 use Rattle.book.specs.Lent.{Lent, withLines}
 use Rattle.book.specs.Good.{GoodBook, GoodLine}
+use Rattle.book.specs.Line.{differenceField, standingField, place}
 use Rattle.book.specs.Limits.{mostDifference}
 use Rattle.book.specs.declared.Book.{Book}
 use Rattle.network.proofs.Corrected.{rerun-sets-difference, withdrawal-sets-standing}
@@ -40,12 +41,12 @@ module _ (lines : List ℤ) (number : ℤ) (i : ℕ) (stands : Stands lines numb
   -- a re-run sets one difference
   pub rerun-is-redone : (difference : ℤ) → standing (rerunLines lines number difference) ≡ redone (suc i) difference (standing lines)
   unfolding rerunLines
-  rerun-is-redone difference = rw (place-is stands 2) (rerun-sets-difference lines i difference (has-line stands))
+  rerun-is-redone difference = rw (place-is stands differenceField) (rerun-sets-difference lines i difference (has-line stands))
 
   -- a withdrawal takes one line from those that stand
   pub withdrawal-is-without : standing (withdrawLines lines number) ≡ without (suc i) (standing lines)
   unfolding withdrawLines
-  withdrawal-is-without = rw (place-is stands 4) (withdrawal-sets-standing lines i (has-line stands))
+  withdrawal-is-without = rw (place-is stands standingField) (withdrawal-sets-standing lines i (has-line stands))
 
 -- ---- the book stays good
 
@@ -60,27 +61,27 @@ module _ (book : Lent) (number : ℤ) (i : ℕ) (stands : Stands (book .lines) n
     tolerance = good .tolerance;
     a-tolerance = good .a-tolerance;
     small-tolerance = good .small-tolerance;
-    whole-held = good .whole-held;
-    few-held = good .few-held;
-    whole-lines = length-set (book .lines) p v ∙ good .whole-lines;
-    few-lines = good .few-lines;
-    each-held = good .each-held;
-    each-line = λ j l. h j (good .each-line j l);
+    held-good = good .held-good;
+    lines-good = record {
+      few = good .lines-good .few;
+      whole = length-set (book .lines) p v ∙ good .lines-good .whole;
+      each = λ j l. h j (good .lines-good .each j l);
+    };
   }
 
   -- a book with a line re-run inside the limit is good
   pub rerun-stays-good : (difference : ℤ) → natAbs difference ≤ mostDifference → GoodBook k (withLines book (rerunLines (book .lines) number difference))
   unfolding rerunLines
   rerun-stays-good d small =
-      rw (place-is stands 2)
-      (with-lines (i * 5 + 2) d (λ j g. rerun-good (k .marks) (book .lines) i 2 d (omega (arith, has-line stands)) j g refl small))
+      rw (place-is stands differenceField)
+      (with-lines (place i differenceField) d (λ j g. rerun-good (k .marks) (book .lines) i differenceField d (omega (arith, has-line stands)) j g refl small))
 
   -- a book with a line withdrawn is good
   pub withdrawal-stays-good : GoodBook k (withLines book (withdrawLines (book .lines) number))
   unfolding withdrawLines
   withdrawal-stays-good =
-      rw (place-is stands 4)
-      (with-lines (i * 5 + 4) (pos 0) (λ j g. withdrawal-good (k .marks) (book .lines) i 4 (pos 0) (omega (arith, has-line stands)) j g refl refl))
+      rw (place-is stands standingField)
+      (with-lines (place i standingField) (pos 0) (λ j g. withdrawal-good (k .marks) (book .lines) i standingField (pos 0) (omega (arith, has-line stands)) j g refl refl))
 
 -- ---- the loops of the corrected book
 

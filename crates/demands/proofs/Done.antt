@@ -192,6 +192,6 @@ module _ (file : List ℕ) (held lines : List ℤ) where
       let good = read-exactly-if-readable .0 z .good in
       rw (
         reader-keeps-to-table file held lines .finished z,
-        take-at (heldOf file h) (drop (h * heldWords) held) (h * heldWords) (good .whole-held),
-        take-at (linesOf file h n) (drop (n * lineWords) lines) (n * lineWords) (good .whole-lines),
+        take-at (heldOf file h) (drop (h * heldWords) held) (h * heldWords) (good .held-good .whole),
+        take-at (linesOf file h n) (drop (n * lineWords) lines) (n * lineWords) (good .lines-good .whole),
       ) (good-passes (statedCounts file) book good)

@@ -13,6 +13,7 @@ use lib.Seq.{take-at, drop-at}
 use lib.IntN.{ℤ, pos, negsuc, natAbs, _-ℤ_}
 use lib.Ieee.{fin, binary64, ofInt, div}
 use borrow.Author.Tests.{ltb-false, lt-ltb, le-ltb, not-false}
+use Rattle.book.specs.Good.{Lines}
 use Rattle.laws.specs.Tests.{eqZ}
 use Rattle.laws.proofs.Tests.{or-left, or-right}
 use Rattle.laws.specs.Range.{Between}
@@ -24,7 +25,6 @@ use Rattle.book.specs.declared.Book.{Book}
 use Rattle.book.specs.declared.Tested.the-variants.{Good}
 use Rattle.network.specs.Standing.{standing}
 use Rattle.fields.specs.Heights.{height, Working}
-use Rattle.fields.specs.Places.{Lines}
 use Rattle.fields.proofs.Stands.{lines-of}
 use Rattle.fields.proofs.Fair.{fair-lines}
 use Rattle.sights.specs.Sights.{sightsOf}

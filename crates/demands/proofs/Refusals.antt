@@ -160,7 +160,7 @@ module _ (file : List ℕ) (held lines : List ℤ) where
   no-other-fault e =
       let h = entries-length kind.Held file 13 (statedH file) in
       let n = entries-length kind.Line file (13 + statedH file * 10) (statedN file) in
-      rw (h, n, eq-eqb (statedH file * 2 % 2) 0 (omega arith), eq-eqb (statedN file * 5 % 5) 0 (omega arith)) (ap₂ (bookOut (pos (statedB file)) (pos (statedT file))) (omega arith) (omega arith) ∙ e)
+      rw (h, n, eq-eqb (statedH file * heldWords % heldWords) 0 (omega arith), eq-eqb (statedN file * lineWords % lineWords) 0 (omega arith)) (ap₂ (bookOut (pos (statedB file)) (pos (statedT file))) (omega arith) (omega arith) ∙ e)
 
   refuse : Refusal → Outcome
   refuse r = answered held lines (read.refusedWith r)

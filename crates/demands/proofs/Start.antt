@@ -55,7 +55,7 @@ module _ (book : Lent) (k : Book) (passes : testOf book ≡ Good k) where
   start-is-never-outside =
       let g = tested-good book k passes in
       start-working (k .marks) (k .lines) (k .held) (book .held) (book .lines) (g .few-marks) (lines-of book k passes)
-      (record { few = g .few-held; whole = g .whole-held; each = g .each-held })
+      (g .held-good)
 
   -- 11 is not given exactly if each mark's piece has a held mark
   pub each-piece-held-exactly-if : (unheldMark (k .marks) (book .held) (book .lines) ≡ 0) ↔ ((m : ℕ) → 0 < m → m ≤ k .marks → PieceHeld (k .marks) (book .held) (book .lines) m)

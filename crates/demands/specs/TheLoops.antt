@@ -13,14 +13,14 @@ use Rattle.network.specs.Closing.{closing}
 use Rattle.network.specs.Subgraph.{only, numbers}
 use Rattle.network.specs.Walk.{Pass, pass, Walk, wayLength, IsShortest, marksOn, AllDifferent, OnlyOnce}
 use Rattle.loops.specs.Loops.{Loop, loopAt}
-use Rattle.loops.specs.Row.{misclosure, closingNumber}
+use Rattle.loops.specs.Row.{misclosure, closingNumber, rowWords}
 use Rattle.loops.specs.Checked.{runs}
 use Rattle.loops.specs.Report.{loopsOf}
 use Rattle.lists.specs.Listing.{Listing}
 
 -- "A report row is five numbers: closing line, count of lines, length, misclosure, verdict": number j of row i, rows counted from 0
 abbrev pub inRow : ℕ → List ℤ → ℕ → ℤ
-inRow j report i = getD report (5 * i + j) (pos 0)
+inRow j report i = getD report (rowWords * i + j) (pos 0)
 
 -- the counts of lines of the rows before row i, in all
 unfoldable pub countsBefore : List ℤ → ℕ → ℕ

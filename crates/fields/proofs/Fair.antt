@@ -10,12 +10,11 @@ use Rattle.laws.specs.Tests.{eqZ}
 use Rattle.laws.specs.Range.{Between}
 use Rattle.book.specs.Limits.{mostDifference, leastLength, mostLength}
 use Rattle.book.specs.Line.{fromAt, toAt, standingAt}
-use Rattle.book.specs.Good.{GoodLine}
+use Rattle.book.specs.Good.{GoodLine, Lines}
 use Rattle.network.specs.Standing.{Line, standing}
 use Rattle.network.specs.Field.{HasLine, standsFrom}
 use Rattle.network.specs.Sound.{Placed}
 use Rattle.network.proofs.Standing.{stands-none}
-use Rattle.fields.specs.Places.{Lines}
 use Rattle.fields.proofs.Stands.{lineHere, stands-not, stands-here}
 
 -- A line within its limits, of b marks

@@ -15,8 +15,8 @@ use Rattle.network.specs.Standing.{Line}
 use Rattle.network.specs.Field.{HasLine, lineAt, standsFrom}
 use Rattle.network.proofs.Standing as standing
 use Rattle.book.specs.Test.{testOf}
-use Rattle.book.specs.Good.{GoodLines}
-use Rattle.fields.specs.Places.{Place, Lines}
+use Rattle.book.specs.Good.{Lines}
+use Rattle.fields.specs.Places.{Place}
 use Rattle.book.specs.declared.Book.{Book}
 use Rattle.book.specs.declared.Tested.the-variants.{Good}
 use Rattle.book.proofs.Goods.{tested-good}
@@ -40,9 +40,4 @@ module _ (lines : List ℤ) where
 
 -- the lines of a good book
 pub lines-of : (book : Lent) (k : Book) → testOf book ≡ Good k → Lines (book .lines) (k .marks) (k .lines)
-lines-of book k e =
-    let g = tested-good book k e in
-    record { few = g .few-lines; whole = g .whole-lines; each = g .each-line }
-
-pub lines-in : {k : Book} {lines : List ℤ} → GoodLines k lines → Lines lines (k .marks) (k .lines)
-lines-in g = record { few = g .few; whole = g .whole; each = g .each }
+lines-of book k e = tested-good book k e .lines-good

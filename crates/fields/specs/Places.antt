@@ -1,12 +1,9 @@
--- The lines of a book that has passed its test, by their places.
+-- A line of a book that has passed its test, by its place.
 -- Assumes nothing.
-use Prim.Native.Nat.{ℕ, _*_, _≤_, _<_}
-use mathlib.Core.Path.{_≡_}
+use Prim.Native.Nat.{ℕ, _≤_, _<_}
 use mathlib.Core.List.{List}
-use lib.ListN.{length}
 use lib.IntN.{ℤ}
 use Rattle.book.specs.Limits.{mostLines}
-use Rattle.book.specs.Line.{lineWords}
 use Rattle.book.specs.Good.{GoodLine}
 use Rattle.network.specs.Field.{HasLine}
 
@@ -16,9 +13,3 @@ pub record Place (lines : List ℤ) (b n i : ℕ) : Type 0 where
   pub few : n ≤ mostLines
   pub whole : HasLine lines i
   pub good : GoodLine b lines i
-
--- n good lines of a book of b marks
-pub record Lines (lines : List ℤ) (b n : ℕ) : Type 0 where
-  pub few : n ≤ mostLines
-  pub whole : length lines ≡ n * lineWords
-  pub each : (i : ℕ) → i < n → GoodLine b lines i

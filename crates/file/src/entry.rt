@@ -3,6 +3,8 @@ ghost use mathlib.Core.Path.{_≡_};
 ghost use mathlib.Core.List.{_++_};
 ghost use Prim.Native.Nat.{_+_, _*_, _≤_};
 ghost use lib.ListN.{length, drop};
+ghost use Rattle.book.specs.Held.{heldWords};
+ghost use Rattle.book.specs.Line.{lineWords};
 ghost use Rattle.file.specs.Entry.{entryBytes, entryWords, heldNumbers, lineNumbers, numbers, entries};
 use crate::wire;
 use book::held::Held;
@@ -42,7 +44,7 @@ impl Kind {
 
 // A held entry: mark 2 bytes, height 8 signed.
 fn read_held(e: &[u8], out: &mut [i64])
-    requires { ⌜ (length (now e) ≡ 10) × (length (now out) ≡ 2) ⌝ }
+    requires { ⌜ (length (now e) ≡ 10) × (length (now out) ≡ heldWords) ⌝ }
     ensures { λ _. ⌜ now (out .exit) ≡ heldNumbers (now (e .entry)) ⌝ }
 {
     let mark = wire::plain(wire::be2(e, 0));
@@ -53,7 +55,7 @@ fn read_held(e: &[u8], out: &mut [i64])
 
 // A line: from 2 bytes, to 2, difference 4 signed, length 4; it stands.
 fn read_line(e: &[u8], out: &mut [i64])
-    requires { ⌜ (length (now e) ≡ 12) × (length (now out) ≡ 5) ⌝ }
+    requires { ⌜ (length (now e) ≡ 12) × (length (now out) ≡ lineWords) ⌝ }
     ensures { λ _. ⌜ now (out .exit) ≡ lineNumbers (now (e .entry)) ⌝ }
 {
     let from = wire::plain(wire::be2(e, 0));

@@ -59,8 +59,8 @@ read-small file held lines = go (read-or-refused file held lines)
           refusal = record { number = omega arith; place = omega arith };
           b = omega (arith, g .few-marks);
           t = omega (arith, g .small-tolerance);
-          h = omega (arith, g .few-held);
-          n = omega (arith, g .few-lines);
+          h = omega (arith, g .held-good .few);
+          n = omega (arith, g .lines-good .few);
         })
     go (inr f) =
         subst SmallRead (sym (f .answer)) (record {
@@ -80,7 +80,7 @@ unfolding counted piecesOf
 counted-small k lines g =
     record {
       refusal = record { number = omega arith; place = omega arith };
-      rows = omega (arith, few-loops k lines g, g .few);
+      rows = omega (arith, few-loops k lines g, g .good .few);
       pieces = omega (arith, tree-lines-count (k .marks) (standing lines) (lines-sound k lines g), g .few-marks);
     }
 
@@ -189,5 +189,5 @@ module _ (book : Lent) where
         (λ same.
         either-way book _ _ SmallRate
         (λ r e. let n = tested-numbered book r e in rate-refusal-small (r .number) (r .place) (omega (arith, n .high)) (n .near))
-        (λ k e. let g = tested-good book k e in good-small k (g .few-lines) (omega (arith, marks-of book k e (length heights) same, g .few-marks))))
+        (λ k e. let g = tested-good book k e in good-small k (g .lines-good .few) (omega (arith, marks-of book k e (length heights) same, g .few-marks))))
         (λ _. rate-refusal-small 4 0 (omega arith) (omega arith))

@@ -52,7 +52,7 @@ module _ (k : Book) (ls : List ℤ) (g : GoodLines k ls) where
   unfolding uncheckedOf
   few-listed =
       let open-lines = notChecked (loopsOf (k .marks) ls) (standing ls) in
-      omega (arith, length-map open-lines pos, few-unchecked (loopsOf (k .marks) ls) (standing ls), few-standing ls, g .whole, g .few)
+      omega (arith, length-map open-lines pos, few-unchecked (loopsOf (k .marks) ls) (standing ls), few-standing ls, g .good .whole, g .good .few)
 
   -- each entry is the number of a line
   pub listed-numbers : (i : ℕ) → i < length (uncheckedOf (k .marks) ls) → natAbs (getD (uncheckedOf (k .marks) ls) i (pos 0)) ≤ mostLines
@@ -67,7 +67,7 @@ module _ (k : Book) (ls : List ℤ) (g : GoodLines k ls) where
     open-lines = notChecked (loops (k .marks) (standing ls)) (standing ls)
 
     few-open : length (notChecked (loops (k .marks) (standing ls)) (standing ls)) ≤ mostLines
-    few-open = omega (arith, few-unchecked (loops (k .marks) (standing ls)) (standing ls), few-standing ls, g .whole, g .few)
+    few-open = omega (arith, few-unchecked (loops (k .marks) (standing ls)) (standing ls), few-standing ls, g .good .whole, g .good .few)
 
     pub list-fits : a ≤ length list′
     list-fits = omega (arith, put .count, few-open, ap length (put .places), length-sets list 0 open-lines)

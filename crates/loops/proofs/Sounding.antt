@@ -35,7 +35,7 @@ pub record LineLimits (l : Line) : Type 0 where
 
 module _ (k : Book) (lines : List ℤ) (good : GoodLines k lines) where
   there : (i : ℕ) → HasLine lines i → GoodLine (k .marks) lines i
-  there i h = good .each i (omega (arith, h, good .whole))
+  there i h = good .good .each i (omega (arith, h, good .good .whole))
 
   pub lines-sound : Sound (k .marks) (standing lines)
   lines-sound = standing-sound (k .marks) lines (λ i h. let g = there i h in (
@@ -48,13 +48,13 @@ module _ (k : Book) (lines : List ℤ) (good : GoodLines k lines) where
   line-limits l m =
       let w = of-standing lines l m in
       let g = there (w .0) (w .1 .isThere) in
-      subst LineLimits (sym (w .1 .its)) (record { number = omega (arith, w .1 .isThere, good .whole, good .few); difference = g .difference; length = g .long .high })
+      subst LineLimits (sym (w .1 .its)) (record { number = omega (arith, w .1 .isThere, good .good .whole, good .good .few); difference = g .difference; length = g .long .high })
 
   -- no more loops than lines
   pub few-loops : length (loopsOf (k .marks) lines) ≤ k .lines
   unfolding loopsOf
   few-loops =
-      omega (arith, loops-are-counted (k .marks) (standing lines) lines-sound, tree-lines-count (k .marks) (standing lines) lines-sound, few-standing lines, good .whole)
+      omega (arith, loops-are-counted (k .marks) (standing lines) lines-sound, tree-lines-count (k .marks) (standing lines) lines-sound, few-standing lines, good .good .whole)
 
   pub report-length : length (reportOf (k .marks) (k .tolerance) lines) ≡ length (loopsOf (k .marks) lines) * rowWords
   unfolding reportOf

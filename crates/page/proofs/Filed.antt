@@ -35,9 +35,9 @@ use Rattle.page.specs.Page.{bookPage, statedPage, pageOf}
 unfoldable pub readPage : Outcome → List ℕ
 readPage o =
     let a = o .answer in
-    cond (eqb (a .refusal .number) 0) (bookPage (a .b) (a .t) (a .n) (take (a .n * 5) (o .lines))) (refusedText (a .refusal .number) (a .refusal .place))
+    cond (eqb (a .refusal .number) 0) (bookPage (a .b) (a .t) (a .n) (take (a .n * lineWords) (o .lines))) (refusedText (a .refusal .number) (a .refusal .place))
 
-lines-length : (file : List ℕ) (h n : ℕ) → length (linesOf file h n) ≡ n * 5
+lines-length : (file : List ℕ) (h n : ℕ) → length (linesOf file h n) ≡ n * lineWords
 unfolding linesOf
 lines-length file h n = entries-length Line file (13 + h * 10) n
 
@@ -46,8 +46,8 @@ module _ (file : List ℕ) (held lines : List ℤ) (held-room : mostHeld * heldW
   unfolding readPage roomOf
   room-page k h n = rw (
     le-ltb (length held) (k .held * 2) (omega arith),
-    le-ltb (length lines) (k .lines * 5) (omega arith),
-    take-at (linesOf file (k .held) (k .lines)) (drop (k .lines * 5) lines) (k .lines * 5) (lines-length file (k .held) (k .lines)),
+    le-ltb (length lines) (k .lines * lineWords) (omega arith),
+    take-at (linesOf file (k .held) (k .lines)) (drop (k .lines * lineWords) lines) (k .lines * lineWords) (lines-length file (k .held) (k .lines)),
   )
 
   body-page : (k : Book) → k .held ≤ mostHeld → k .lines ≤ mostLines
@@ -88,18 +88,18 @@ module _ (file : List ℕ) (held lines : List ℤ) (held-room : mostHeld * heldW
       r : BookRead file held lines o
       r = subst (λ (x : Outcome). BookRead file held lines x) (sym e) (zero-is-read file held lines (sym (ap (λ (x : Outcome). x .answer .refusal .number) e) ∙ zero))
 
-      lines-are : take (r .book .lines * 5) (o .lines) ≡ linesOf file (r .book .held) (r .book .lines)
+      lines-are : take (r .book .lines * lineWords) (o .lines) ≡ linesOf file (r .book .held) (r .book .lines)
       lines-are =
-          ap (take (r .book .lines * 5)) (r .lines-now)
-          ∙ take-at (linesOf file (r .book .held) (r .book .lines)) (drop (r .book .lines * 5) lines) (r .book .lines * 5) (lines-length file (r .book .held) (r .book .lines))
+          ap (take (r .book .lines * lineWords)) (r .lines-now)
+          ∙ take-at (linesOf file (r .book .held) (r .book .lines)) (drop (r .book .lines * lineWords) lines) (r .book .lines * lineWords) (lines-length file (r .book .held) (r .book .lines))
 
       pub few-read : o .answer .n ≤ mostLines
-      few-read = omega (arith, ap (λ (x : ReadAnswer). x .n) (r .answer), r .good .few-lines)
+      few-read = omega (arith, ap (λ (x : ReadAnswer). x .n) (r .answer), r .good .lines-good .few)
 
-      pub good-read : GoodLines (record { marks = o .answer .b; tolerance = o .answer .t; held = o .answer .h; lines = o .answer .n }) (take (o .answer .n * 5) (o .lines))
-      good-read = subst (λ (x : ReadAnswer). GoodLines (record { marks = x .b; tolerance = x .t; held = x .h; lines = x .n }) (take (x .n * 5) (o .lines))) (sym (r .answer))
+      pub good-read : GoodLines (record { marks = o .answer .b; tolerance = o .answer .t; held = o .answer .h; lines = o .answer .n }) (take (o .answer .n * lineWords) (o .lines))
+      good-read = subst (λ (x : ReadAnswer). GoodLines (record { marks = x .b; tolerance = x .t; held = x .h; lines = x .n }) (take (x .n * lineWords) (o .lines))) (sym (r .answer))
           (subst (λ (l : List ℤ). GoodLines (r .book) l) (sym lines-are) (good-lines (r .book) (bookIn file (r .book)) (r .good)))
 
-      pub book-page : bookPage (o .answer .b) (o .answer .t) (o .answer .n) (take (o .answer .n * 5) (o .lines)) ≡ pageOf file
+      pub book-page : bookPage (o .answer .b) (o .answer .t) (o .answer .n) (take (o .answer .n * lineWords) (o .lines)) ≡ pageOf file
       unfolding readPage
       book-page = rw zero at is-page

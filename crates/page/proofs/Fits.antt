@@ -89,10 +89,10 @@ module _ (k : Book) (ls : List ℤ) (g : GoodLines k ls) where
       let p = tree-lines-count b (standing ls) sound in
       le-trans
       (together (headText b (k .lines) (piecesOf b ls) (length lps)) (loopLines (k .tolerance) 1 lps) (notCheckedText list)
-      (head-room b (k .lines) (piecesOf b ls) (length lps) (omega (arith, g .few-marks)) (omega (arith, g .few)) (omega (arith, g .few-marks)) (omega (arith, g .few)))
-      (loops-room 1 lps (λ lp i. i) (omega (arith, g .few)))
+      (head-room b (k .lines) (piecesOf b ls) (length lps) (omega (arith, g .few-marks)) (omega (arith, g .good .few)) (omega (arith, g .few-marks)) (omega (arith, g .good .few)))
+      (loops-room 1 lps (λ lp i. i) (omega (arith, g .good .few)))
       (not-checked-room list (few-listed k ls g) (listed-numbers k ls g)))
-      (omega (arith, g .few))
+      (omega (arith, g .good .few))
 
 -- ---- of every file, as it is read into buffers that have room for every book
 

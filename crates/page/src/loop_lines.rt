@@ -23,7 +23,15 @@ fn put_loop(lines: &[i64], run: &[u16], t: usize, number: usize, out: &mut [u8],
     let mut list = [0i64; RUN];
     lists::run::list_run(run, &mut list[..]);
     let count = run.len();
-    text::loop_text(out, at, number, row[2], row[3], row[4], &list[..count])
+    text::loop_text(
+        out,
+        at,
+        number,
+        row[rows::ROW_LENGTH],
+        row[rows::ROW_MISCLOSURE],
+        row[rows::ROW_VERDICT],
+        &list[..count],
+    )
 }
 
 // The lines of all loops, from place at on. The answer is the place after them.

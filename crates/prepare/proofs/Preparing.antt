@@ -16,13 +16,13 @@ use Rattle.prepare.specs.Prepared.{RoomBook}
 module _ (k : Book) (ls : List ℤ) (g : GoodLines k ls) {ends head next best seg order : List ℕ} (room : RoomBook ends head next best seg order) where
   pub sheet-of : Sheet (k .marks + 1) ls ends head next
   sheet-of =
-      let lines-are : lineCount ls ≡ k .lines = count-of ls (k .lines) (g .whole) in
+      let lines-are : lineCount ls ≡ k .lines = count-of ls (k .lines) (g .good .whole) in
       let marks-are : k .marks + 1 - 1 ≡ k .marks = omega arith in
       record {
         some-mark = omega arith;
         few-marks = omega (arith, g .few-marks);
-        few = omega (arith, g .few);
-        good = λ i h. subst (λ (b : ℕ). GoodLine b ls i) (sym marks-are) (g .each i (omega arith));
+        few = omega (arith, g .good .few);
+        good = λ i h. subst (λ (b : ℕ). GoodLine b ls i) (sym marks-are) (g .good .each i (omega arith));
         ends-at = room .by-half .0;
         chains = record { heads = omega (arith, room .by-mark .0, g .few-marks); nexts = room .by-half .1 };
       }

@@ -116,9 +116,9 @@ module _ (ls : List ℤ) where
 module _ (k : Book) (ls : List ℤ) (good : GoodLines k ls) where
   pub measured : Measured ls
   measured = record {
-    few-lines = omega (arith, good .whole, good .few);
-    differences = λ i h. good .each i (omega (arith, good .whole)) .difference;
-    lengths = λ i h. good .each i (omega (arith, good .whole)) .long;
+    few-lines = omega (arith, good .good .whole, good .good .few);
+    differences = λ i h. good .good .each i (omega (arith, good .good .whole)) .difference;
+    lengths = λ i h. good .good .each i (omega (arith, good .good .whole)) .long;
   }
 
   module _ (lp : Loop) (m : List·Memᴰ lp (loopsOf (k .marks) ls)) where

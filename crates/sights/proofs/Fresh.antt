@@ -5,8 +5,8 @@ use mathlib.Core.Path.{_≡_, refl}
 use mathlib.Core.List.{List}
 use lib.ListN.{getD, replicate, length-replicate}
 use lib.IntN.{ℤ, pos}
+use Rattle.book.specs.Good.{Lines}
 use Rattle.network.specs.Standing.{standing}
-use Rattle.fields.specs.Places.{Lines}
 use Rattle.sights.specs.Sights.{sightsOf}
 use Rattle.sights.specs.Table.{InRange, Broad}
 use Rattle.fields.proofs.Fair.{fair-lines}

@@ -9,13 +9,12 @@ use lib.ListN.{getD}
 use lib.IntN.{ℤ, pos, natAbs, negℤ}
 use Rattle.laws.specs.Tests.{eqZ}
 use Rattle.book.specs.Line.{fromAt, toAt, differenceAt, lengthAt, standingAt}
-use Rattle.book.specs.Good.{GoodLine}
+use Rattle.book.specs.Good.{GoodLine, Lines}
 use Rattle.network.specs.Standing.{Line, standing}
 use Rattle.network.specs.Field.{HasLine, lineAt, standsFrom}
 use Rattle.network.proofs.Standing.{stands-all, stands-none, stands-not, stands-here}
 use Rattle.chains.specs.Chains.{Chain, no-half, first, leftBy, leaving, InOrder}
 use Rattle.divisions.specs.Weight.{weightOf}
-use Rattle.fields.specs.Places.{Lines}
 use Rattle.fields.proofs.Stands.{place-of}
 use Rattle.sights.specs.Sights.{Sight, sight, sightIf, sightsOf}
 use Rattle.sights.specs.Halves.{placeOf, sightAt, HalfHere, Leads, no-more, one-more}

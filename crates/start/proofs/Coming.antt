@@ -11,10 +11,10 @@ use lib.ListN.{length, getD, set, length-set}
 use lib.Seq.{getD-set-same, getD-set-other}
 use lib.IntN.{ℤ, pos, natAbs, _+ℤ_, _-ℤ_}
 use borrow.Author.Tests.{eqb-true, eqb-false, eq-eqb, ne-eqb}
+use Rattle.book.specs.Good.{Lines}
 use Rattle.laws.proofs.Size.{size-add, size-sub}
 use Rattle.book.specs.Limits.{mostDifference}
 use Rattle.book.specs.Line.{fromAt, toAt, differenceAt}
-use Rattle.fields.specs.Places.{Lines}
 use Rattle.chains.specs.Chains.{lineIn}
 use Rattle.start.specs.Start.{Rooted, rooted, up, down}
 use Rattle.start.specs.Along.{Growth, sideOf, cameIn, rooting, spots, Spotted, Spot, Placing}

@@ -13,8 +13,9 @@ use lib.IntN.{ℤ, pos, natAbs}
 use borrow.Author.Tests.{eqb-true, eqb-false}
 use Rattle.book.specs.Limits.{mostHeldHeight}
 use Rattle.book.specs.Held.{markAt, heightAt}
+use Rattle.book.specs.Good.{HeldEntries}
 use Rattle.start.specs.Start.{heldHeight}
-use Rattle.start.specs.Along.{optional, Given, heldFrom, HeldPlace, HeldEntries}
+use Rattle.start.specs.Along.{optional, Given, heldFrom, HeldPlace}
 use Rattle.fields.proofs.Setting.{set-all}
 
 module _ (held : List ℤ) where

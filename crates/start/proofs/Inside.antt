@@ -10,6 +10,7 @@ use lib.Dec.{eqb, ltb}
 use lib.ListN.{length, getD, drop, drop-of-length-le}
 use lib.IntN.{ℤ, pos, natAbs, _+ℤ_, _-ℤ_}
 use borrow.Author.Tests.{ltb-true, ltb-false, not-false}
+use Rattle.book.specs.Good.{Lines, HeldEntries}
 use Rattle.laws.proofs.Ring.{ring}
 use Rattle.laws.proofs.Size.{size-add}
 use Rattle.laws.proofs.Scans.{none-bad}
@@ -20,12 +21,11 @@ use Rattle.network.specs.Tree.{Tree, tree}
 use Rattle.network.proofs.Grown.{treeLine}
 use Rattle.network.specs.Sound.{Placed}
 use Rattle.network.proofs.Marks.{size, grows}
-use Rattle.fields.specs.Places.{Lines}
 use Rattle.fields.specs.Heights.{height, Working}
 use Rattle.fields.proofs.Fair.{Fair, fair-lines, fairs-each}
 use Rattle.fields.proofs.Setting.{place, past-end}
 use Rattle.start.specs.Start.{heldHeight, isSome, Rooted, rootedBy, rootHeight, rootOf, unheldPiece, along, own, startOf, startHeights}
-use Rattle.start.specs.Along.{heldFrom, HeldEntries}
+use Rattle.start.specs.Along.{heldFrom}
 use Rattle.start.proofs.Lifting.{free-mark, held-here, held-elsewhere}
 use Rattle.start.proofs.Holding.{held-step}
 use Rattle.start.proofs.Beginning.{start-length, start-height}

@@ -9,6 +9,7 @@ use mathlib.Core.Option.{Option, none, some}
 use lib.Dec.{eqb}
 use lib.ListN.{length, getD}
 use lib.IntN.{ℤ, pos, natAbs, _-ℤ_}
+use Rattle.book.specs.Good.{Lines}
 use Rattle.laws.specs.Tests.{eqZ}
 use Rattle.laws.specs.Scan.{firstFrom, firstBad}
 use Rattle.book.specs.Line.{fromAt, toAt, differenceAt, standingAt}
@@ -16,7 +17,6 @@ use Rattle.network.specs.Standing.{Line, standing}
 use Rattle.network.specs.Field.{HasLine, standsFrom}
 use Rattle.network.specs.Tree.{Entry, Tree}
 use Rattle.network.proofs.Standing.{stands-none}
-use Rattle.fields.specs.Places.{Lines}
 use Rattle.chains.specs.Chains.{lineIn}
 use Rattle.start.specs.Start.{Rooted, up, down, enters, rootedBy, rootHeight}
 use Rattle.start.specs.Along.{Entered, none-yet, by-root, by-line, sideOf, cameIn, rooting}

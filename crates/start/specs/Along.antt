@@ -90,12 +90,6 @@ pub record HeldPlace (held : List ℤ) (b i : ℕ) : Type 0 where
   pub whole : i * 2 + 2 ≤ length held
   pub good : GoodHeld b held i
 
--- h good held entries of a book of b marks
-pub record HeldEntries (held : List ℤ) (b h : ℕ) : Type 0 where
-  pub few : h ≤ mostHeld
-  pub whole : length held ≡ h * 2
-  pub each : (i : ℕ) → i < h → GoodHeld b held i
-
 -- the heights of the roots by the held marks from place v on
 abbrev pub rootsFrom : (ℕ → Rooted) → (ℕ → Option ℤ) → ℕ → ℕ → ℕ → Option ℤ
 rootsFrom at held b v r = rootHeight at held r (suc v) (b - v)

@@ -3,7 +3,7 @@
 use mathlib.Core.Path.{_≡_, refl, _∙_, ap}
 use mathlib.Core.Bool.{false}
 use mathlib.Core.List.{List, List·Memᴰ}
-use Prim.Native.Nat.{ℕ, suc, _+_, _*_, _-_, _≤_, _<_}
+use Prim.Native.Nat.{ℕ, suc, _-_, _≤_, _<_}
 use native.Mathlib.Decide.{ℕ-discrete}
 use native.Mathlib.Omega.{arith}
 use lib.ListN.{length, set, length-set}
@@ -14,15 +14,14 @@ use Rattle.laws.proofs.Tests.{or-left, or-right, eqZ-apart}
 use Rattle.laws.specs.Range.{Between}
 use Rattle.laws.proofs.Size.{between}
 use Rattle.book.specs.Limits.{mostDifference}
-use Rattle.book.specs.Line.{field, differenceAt, standingAt, lineCount}
-use Rattle.book.specs.Good.{GoodLine}
+use Rattle.book.specs.Line.{fromField, toField, differenceField, lengthField, standingField, place, field, differenceAt, standingAt, lineCount}
+use Rattle.book.specs.Good.{GoodLine, GoodLines}
 use Rattle.book.specs.declared.Book.{Book}
 use Rattle.network.specs.Standing.{standing}
 use Rattle.network.specs.Field.{HasLine, lineAt}
 use Rattle.network.proofs.Standing.{in-standing}
 use Rattle.network.proofs.Corrected.{withdrawal-sets-standing}
 use Rattle.loops.proofs.Withdrawal.{loops-never-grow}
-use Rattle.book.specs.Good.{GoodLines}
 use Rattle.survey.specs.Stands.{Stands}
 use Rattle.loops.specs.Report.{loopsOf}
 use Rattle.survey.specs.Correction.{noLine, placeOf, rerunLines, withdrawLines}
@@ -42,7 +41,7 @@ stands-of lines number e =
     }
 
 -- where the number of a standing line's field is
-pub place-is : {lines : List ℤ} {number : ℤ} {i : ℕ} → Stands lines number i → (j : ℕ) → placeOf number j ≡ i * 5 + j
+pub place-is : {lines : List ℤ} {number : ℤ} {i : ℕ} → Stands lines number i → (j : ℕ) → placeOf number j ≡ place i j
 place-is {number = number} {i = i} w j =
     let z : natAbs number ≡ suc i = ap natAbs (w .its-number) in
     omega arith
@@ -52,39 +51,39 @@ pub has-line : {lines : List ℤ} {number : ℤ} {i : ℕ} → Stands lines numb
 has-line w = omega (arith, w .there)
 
 -- one number set leaves the other fields as they were
-module _ (b : ℕ) (lines : List ℤ) (i p : ℕ) (v : ℤ) (inside : i * 5 + p < length lines) (j : ℕ) (g : GoodLine b lines j) where
-  same : (n : ℕ) → (j * 5 + n ≡ i * 5 + p → ⊥) → field n (set lines (i * 5 + p) v) j ≡ field n lines j
-  same n h = getD-set-other lines (i * 5 + p) (j * 5 + n) v (pos 0) h
+module _ (b : ℕ) (lines : List ℤ) (i p : ℕ) (v : ℤ) (inside : place i p < length lines) (j : ℕ) (g : GoodLine b lines j) where
+  same : (n : ℕ) → (place j n ≡ place i p → ⊥) → field n (set lines (place i p) v) j ≡ field n lines j
+  same n h = getD-set-other lines (place i p) (place j n) v (pos 0) h
 
   -- a difference inside its limit
-  pub rerun-good : p ≡ 2 → natAbs v ≤ mostDifference → GoodLine b (set lines (i * 5 + p) v) j
+  pub rerun-good : p ≡ differenceField → natAbs v ≤ mostDifference → GoodLine b (set lines (place i p) v) j
   rerun-good e small = record {
-    from = rw (same 0 (λ z. omega arith)) (g .from);
-    to = rw (same 1 (λ z. omega arith)) (g .to);
-    apart = rw (same 0 (λ z. omega arith), same 1 (λ z. omega arith)) (g .apart);
+    from = rw (same fromField (λ z. omega arith)) (g .from);
+    to = rw (same toField (λ z. omega arith)) (g .to);
+    apart = rw (same fromField (λ z. omega arith), same toField (λ z. omega arith)) (g .apart);
     difference = new (ℕ-discrete j i);
-    long = rw (same 3 (λ z. omega arith)) (g .long);
-    standing = rw (same 4 (λ z. omega arith)) (g .standing);
+    long = rw (same lengthField (λ z. omega arith)) (g .long);
+    standing = rw (same standingField (λ z. omega arith)) (g .standing);
   }
     where
-      new : Dec (j ≡ i) → natAbs (differenceAt (set lines (i * 5 + p) v) j) ≤ mostDifference
-      new (yes q) = rw (q, ← e, getD-set-same lines (i * 5 + p) v (pos 0) inside) small
-      new (no h) = rw (same 2 (λ z. h (omega arith))) (g .difference)
+      new : Dec (j ≡ i) → natAbs (differenceAt (set lines (place i p) v) j) ≤ mostDifference
+      new (yes q) = rw (q, ← e, getD-set-same lines (place i p) v (pos 0) inside) small
+      new (no h) = rw (same differenceField (λ z. h (omega arith))) (g .difference)
 
   -- a standing of 0
-  pub withdrawal-good : p ≡ 4 → v ≡ pos 0 → GoodLine b (set lines (i * 5 + p) v) j
+  pub withdrawal-good : p ≡ standingField → v ≡ pos 0 → GoodLine b (set lines (place i p) v) j
   withdrawal-good e zero-v = record {
-    from = rw (same 0 (λ z. omega arith)) (g .from);
-    to = rw (same 1 (λ z. omega arith)) (g .to);
-    apart = rw (same 0 (λ z. omega arith), same 1 (λ z. omega arith)) (g .apart);
-    difference = rw (same 2 (λ z. omega arith)) (g .difference);
-    long = rw (same 3 (λ z. omega arith)) (g .long);
+    from = rw (same fromField (λ z. omega arith)) (g .from);
+    to = rw (same toField (λ z. omega arith)) (g .to);
+    apart = rw (same fromField (λ z. omega arith), same toField (λ z. omega arith)) (g .apart);
+    difference = rw (same differenceField (λ z. omega arith)) (g .difference);
+    long = rw (same lengthField (λ z. omega arith)) (g .long);
     standing = new (ℕ-discrete j i);
   }
     where
-      new : Dec (j ≡ i) → Between 0 1 (standingAt (set lines (i * 5 + p) v) j)
-      new (yes q) = rw (q, ← e, getD-set-same lines (i * 5 + p) v (pos 0) inside, zero-v) (record { is = refl; low = omega arith; high = omega arith })
-      new (no h) = rw (same 4 (λ z. h (omega arith))) (g .standing)
+      new : Dec (j ≡ i) → Between 0 1 (standingAt (set lines (place i p) v) j)
+      new (yes q) = rw (q, ← e, getD-set-same lines (place i p) v (pos 0) inside, zero-v) (record { is = refl; low = omega arith; high = omega arith })
+      new (no h) = rw (same standingField (λ z. h (omega arith))) (g .standing)
 
 module _ (k : Book) (lines : List ℤ) (good : GoodLines k lines) (number : ℤ) (i : ℕ) (stands : Stands lines number i) where
   with-lines : (p : ℕ) (v : ℤ) → ((j : ℕ) → GoodLine (k .marks) lines j → GoodLine (k .marks) (set lines p v) j) → GoodLines k (set lines p v)
@@ -92,24 +91,22 @@ module _ (k : Book) (lines : List ℤ) (good : GoodLines k lines) (number : ℤ)
     a-mark = good .a-mark;
     few-marks = good .few-marks;
     small-tolerance = good .small-tolerance;
-    whole = length-set lines p v ∙ good .whole;
-    few = good .few;
-    each = λ j l. h j (good .each j l);
+    good = record { few = good .good .few; whole = length-set lines p v ∙ good .good .whole; each = λ j l. h j (good .good .each j l) };
   }
 
   -- with a difference inside its limit, or withdrawn, the line leaves the book good
   pub rerun-lines-good : (difference : ℤ) → natAbs difference ≤ mostDifference → GoodLines k (rerunLines lines number difference)
   unfolding rerunLines
-  rerun-lines-good d small = rw (place-is stands 2) (with-lines (i * 5 + 2) d (λ j g. rerun-good (k .marks) lines i 2 d (omega (arith, has-line stands)) j g refl small))
+  rerun-lines-good d small = rw (place-is stands differenceField) (with-lines (place i differenceField) d (λ j g. rerun-good (k .marks) lines i differenceField d (omega (arith, has-line stands)) j g refl small))
 
   pub withdrawn-lines-good : GoodLines k (withdrawLines lines number)
   unfolding withdrawLines
-  withdrawn-lines-good = rw (place-is stands 4) (with-lines (i * 5 + 4) (pos 0) (λ j g. withdrawal-good (k .marks) lines i 4 (pos 0) (omega (arith, has-line stands)) j g refl refl))
+  withdrawn-lines-good = rw (place-is stands standingField) (with-lines (place i standingField) (pos 0) (λ j g. withdrawal-good (k .marks) lines i standingField (pos 0) (omega (arith, has-line stands)) j g refl refl))
 
   -- the line itself, as a standing line
   pub its-line : List·Memᴰ (lineAt (suc i) lines i) (standing lines)
   its-line =
-      let g = good .each i (omega (arith, good .whole, stands .there)) in
+      let g = good .good .each i (omega (arith, good .good .whole, stands .there)) in
       in-standing lines i (lineAt (suc i) lines i) (record {
         isThere = has-line stands;
         beyond = 0;
@@ -124,4 +121,4 @@ module _ (k : Book) (lines : List ℤ) (good : GoodLines k lines) (number : ℤ)
   pub withdrawal-fewer : length (loopsOf (k .marks) (withdrawLines lines number)) ≤ length (loopsOf (k .marks) lines)
   unfolding loopsOf withdrawLines
   withdrawal-fewer =
-      rw (place-is stands 4, withdrawal-sets-standing lines i (has-line stands)) (loops-never-grow (k .marks) (standing lines) (lines-sound k lines good) (lineAt (suc i) lines i) its-line)
+      rw (place-is stands standingField, withdrawal-sets-standing lines i (has-line stands)) (loops-never-grow (k .marks) (standing lines) (lines-sound k lines good) (lineAt (suc i) lines i) its-line)

@@ -44,7 +44,7 @@ module _ (k : Book) (ls : List ℤ) (g : GoodLines k ls) where
   words-are e = ap (λ (x : Found). x .count * rowWords) e ∙ sym (report-length k ls g)
 
   pub few-words : {f : Found} → f ≡ foundIn (k .marks) ls → f .count * rowWords ≤ mostLines * rowWords
-  few-words e = omega (arith, ap (λ (x : Found). x .count) e, few-loops k ls g, g .few)
+  few-words e = omega (arith, ap (λ (x : Found). x .count) e, few-loops k ls g, g .good .few)
 
   pub counts-are : {f : Found} → f ≡ foundIn (k .marks) ls → countOf f ≡ counted (k .marks) ls
   unfolding counted

@@ -35,7 +35,7 @@ runs-length (lp ∷ ls) = length-append (codes lp) (runsOf ls) ∙ ap₂ (λ (a 
 module _ (k : Book) (ls : List ℤ) (g : GoodLines k ls) where
   -- the count of lines, by the slice and by the book
   lines-are : lineCount ls ≡ k .lines
-  lines-are = count-of ls (k .lines) (g .whole)
+  lines-are = count-of ls (k .lines) (g .good .whole)
 
   marks-are : k .marks + 1 - 1 ≡ k .marks
   marks-are = omega arith
@@ -53,13 +53,13 @@ module _ (k : Book) (ls : List ℤ) (g : GoodLines k ls) where
       some-mark = omega arith;
       few-marks = omega (arith, g .few-marks);
       some-line = omega arith;
-      few-lines = omega (arith, g .few);
+      few-lines = omega (arith, g .good .few);
       bounded = p .bounded;
       below = p .below;
       chains = record { heads = omega (arith, w .book .by-mark .0, g .few-marks); nexts = omega (arith, w .book .by-half .1) };
       bests = omega (arith, w .book .by-mark, g .few-marks);
       orders = omega (arith, w .book .by-mark, g .few-marks);
-      closes = omega (arith, w .by-loop, g .few);
+      closes = omega (arith, w .by-loop, g .good .few);
       lines = standing ls;
       listed = listed-of p;
       holding = p .holding;
@@ -81,7 +81,7 @@ module _ (k : Book) (ls : List ℤ) (g : GoodLines k ls) where
 
       runs-few : length (runsOf (loops (k .marks + 1 - 1) (standing ls))) ≤ mostLinesInAll
       runs-few =
-          let few = lines-in-all-at-most (k .marks) (standing ls) (lines-sound k ls g) (omega (arith, few-standing ls, g .whole, g .few)) in
+          let few = lines-in-all-at-most (k .marks) (standing ls) (lines-sound k ls g) (omega (arith, few-standing ls, g .good .whole, g .good .few)) in
           omega (arith, runs-length (loops (k .marks + 1 - 1) (standing ls)), ap (λ (b : ℕ). linesInAll (loops b (standing ls))) marks-are, few)
 
       pub fills-of : {seg′ starts runs : List ℕ} → RoomTable starts runs → length close′ ≡ length close → length best′ ≡ length best → length seg′ ≡ length seg
@@ -93,8 +93,8 @@ module _ (k : Book) (ls : List ℤ) (g : GoodLines k ls) where
           bests = omega (arith, w .book .by-mark, g .few-marks);
           segs = omega (arith, w .book .tournament, g .few-marks);
         };
-        closes = omega (arith, count-is, few-loops k ls g, g .few, w .by-loop);
-        starts-fit = omega (arith, count-is, few-loops k ls g, g .few, r .starts-fit);
+        closes = omega (arith, count-is, few-loops k ls g, g .good .few, w .by-loop);
+        starts-fit = omega (arith, count-is, few-loops k ls g, g .good .few, r .starts-fit);
         lines = standing ls;
         ready = ready;
         runs-fit = omega (arith, runs-few, r .runs-fit, g .few-marks);

@@ -15,14 +15,14 @@ use Rattle.unchecked.specs.Book.{RoomList}
 
 module _ (k : Book) (ls : List ℤ) (g : GoodLines k ls) {ends head next best order : List ℕ} (p : BookPlanted (k .marks + 1) ls ends head next best order) where
   pub listed-by : Listed (standing ls) (k .marks + 1) (k .lines + 1) ends
-  listed-by = subst (λ (q : ℕ). Listed (standing ls) (k .marks + 1) (q + 1) ends) (count-of ls (k .lines) (g .whole)) (p .listed)
+  listed-by = subst (λ (q : ℕ). Listed (standing ls) (k .marks + 1) (q + 1) ends) (count-of ls (k .lines) (g .good .whole)) (p .listed)
 
   -- the list can be made
   pub list-ready : {marked out : List ℕ} → RoomList marked out → Ready ends best marked out (k .lines + 1)
   list-ready room = record {
     closes = record {
       marks = room .marks;
-      few = omega (arith, g .few);
+      few = omega (arith, g .good .few);
       n = k .marks + 1;
       bounded = p .bounded;
       bests = omega (arith, g .few-marks);
@@ -31,5 +31,5 @@ module _ (k : Book) (ls : List ℤ) (g : GoodLines k ls) {ends head next best or
       listed = listed-by;
       holding = p .holding;
     };
-    outs = omega (arith, room .outs, g .few);
+    outs = omega (arith, room .outs, g .good .few);
   }

@@ -7,18 +7,6 @@ use borrow.Author.Needs.{needs}
 use Rattle.adjust.proofs.adjust.Statement.{statement}
 use Rattle.adjust.proofs.adjust.Tie as tie
 
-test-requires : tie.Need-test-requires
-test-requires c κs = search needs
-
-enum-known-r : tie.Need-enum-known-r
-enum-known-r c = search needs
-
-refused-requires : tie.Need-refused-requires
-refused-requires c κs = search needs
-
-enum-known-book : tie.Need-enum-known-book
-enum-known-book c = search needs
-
 -- what the test answered, at the numbers that were lent
 tested : (c : tie.After-test) → (let a = c .before .args in c .test .result ≡ testOf (lent (a .b) (a .t) (a .held .now) (a .lines .now)))
 tested c = c .test .ensures ∙ search needs
@@ -37,9 +25,6 @@ returns c =
     let r = c .before .before .r .given in
     rw (c .refused .ensures) (sym (by-refusal _ _ (r .0 .0) (sym (tested after-test) ∙ r .1)))
 
-same-length : tie.Need-same-length
-same-length c = search needs
-
 returns-2 : tie.Need-returns-2
 returns-2 c =
     let after-book : tie.After-book = search in
@@ -51,11 +36,11 @@ pub adjust-spec : {M : Type 1} → statement M
 adjust-spec =
     tie.close
     (tie.spec
-    test-requires
-    enum-known-r
-    refused-requires
-    enum-known-book
+    (λ c κs. search needs)  -- test-requires
+    (λ c. search needs)  -- enum-known-r
+    (λ c κs. search needs)  -- refused-requires
+    (λ c. search needs)  -- enum-known-book
     adjust-good-requires
     returns
-    same-length
+    (λ c. search needs)  -- same-length
     returns-2)

@@ -23,24 +23,6 @@ test-read c =
     let s : tie.Start = search in
     sym (c .test .ensures ∙ rw (toZ-ofZ (s .fits .b), toZ-ofZ (s .fits .t)))
 
-signed-count-requires : tie.Need-signed-count-requires
-signed-count-requires c κs = search needs
-
-same-requires : tie.Need-same-requires
-same-requires c κs = search needs
-
-test-requires : tie.Need-test-requires
-test-requires c κs = search needs
-
-enum-known-tested : tie.Need-enum-known-tested
-enum-known-tested c = search needs
-
-refused-requires : tie.Need-refused-requires
-refused-requires c κs = search needs
-
-enum-known-tested-2 : tie.Need-enum-known-tested-2
-enum-known-tested-2 c = search needs
-
 good-rate-requires : tie.Need-good-rate-requires
 good-rate-requires c κs =
     let then1 : tie.Then1 = search in
@@ -68,9 +50,6 @@ returns-2 c =
     let k = c .before .before .tested2 .given in
     rate-good (lent (s .args .b) (s .args .t) (s .args .held .now) (s .args .lines .now)) (s .args .heights .now) (s .args .line) (c .good-rate .result) (count-read after-same ∙ then1 .if1 .taken) (k .0 .0) (test-read after-test ∙ k .1) (c .good-rate .ensures ∙ rw (toZ-ofZ (s .fits .line)))
 
-refuse-requires : tie.Need-refuse-requires
-refuse-requires c κs = search needs
-
 returns-3 : tie.Need-returns-3
 returns-3 c =
     let s : tie.Start = search in
@@ -80,14 +59,14 @@ pub rate-spec : {M : Type 1} → statement M
 rate-spec =
     tie.close
     (tie.spec
-    signed-count-requires
-    same-requires
-    test-requires
-    enum-known-tested
-    refused-requires
-    enum-known-tested-2
+    (λ c κs. search needs)  -- signed-count-requires
+    (λ c κs. search needs)  -- same-requires
+    (λ c κs. search needs)  -- test-requires
+    (λ c. search needs)  -- enum-known-tested
+    (λ c κs. search needs)  -- refused-requires
+    (λ c. search needs)  -- enum-known-tested-2
     good-rate-requires
     returns
     returns-2
-    refuse-requires
+    (λ c κs. search needs)  -- refuse-requires
     returns-3)

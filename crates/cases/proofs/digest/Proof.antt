@@ -22,21 +22,6 @@ abbrev μ-loop : tie.MeasureT-loop
 loop-holds : tie.Need-loop-holds Inv-loop μ-loop
 loop-holds c = (omega arith, refl)
 
-mul-mixed : tie.Need-mul-mixed Inv-loop μ-loop
-mul-mixed c = search needs
-
-shared-slice-copy-out-mixed : tie.Need-shared-slice-copy-out-mixed Inv-loop μ-loop
-shared-slice-copy-out-mixed c = search needs
-
-mixed-requires : tie.Need-mixed-requires Inv-loop μ-loop
-mixed-requires c κs = tt
-
-add-i : tie.Need-add-i Inv-loop μ-loop
-add-i c = search needs
-
-loop-less : tie.Need-loop-less Inv-loop μ-loop
-loop-less c = search needs
-
 loop-again : tie.Need-loop-again Inv-loop μ-loop
 unfolding digestFrom
 loop-again c =
@@ -63,10 +48,10 @@ digest-spec =
     Inv-loop
     μ-loop
     loop-holds
-    mul-mixed
-    shared-slice-copy-out-mixed
-    mixed-requires
-    add-i
-    loop-less
+    (λ c. search needs)  -- mul-mixed
+    (λ c. search needs)  -- shared-slice-copy-out-mixed
+    (λ c κs. tt)  -- mixed-requires
+    (λ c. search needs)  -- add-i
+    (λ c. search needs)  -- loop-less
     loop-again
     returns)

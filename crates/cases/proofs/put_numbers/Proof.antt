@@ -9,29 +9,8 @@ use Rattle.cases.proofs.Most.{take-most}
 use Rattle.cases.proofs.put_numbers.Statement.{statement}
 use Rattle.cases.proofs.put_numbers.Tie as tie
 
-at-most-requires : tie.Need-at-most-requires
-at-most-requires c κs = search needs
-
 slice-aggregate-put-listed : tie.Need-slice-aggregate-put-listed
 slice-aggregate-put-listed c = omega (arith, length-take (c .before .before .at-most .result) (c .before .before .before .before .args .s .now), c .before .before .at-most .ensures)
-
-put-listed-requires : tie.Need-put-listed-requires
-put-listed-requires c κs = search needs
-
-slice-aggregate-put : tie.Need-slice-aggregate-put
-slice-aggregate-put c = search needs
-
-put-requires : tie.Need-put-requires
-put-requires c κs = search needs
-
-digest-requires : tie.Need-digest-requires
-digest-requires c κs = search needs
-
-put-number-requires : tie.Need-put-number-requires
-put-number-requires c κs = search needs
-
-same-length : tie.Need-same-length
-same-length c = search needs
 
 returns : tie.Need-returns
 unfolding numbersText bytes
@@ -47,12 +26,12 @@ pub put-numbers-spec : {M : Type 1} → statement M
 put-numbers-spec =
     tie.close
     (tie.spec
-    at-most-requires
+    (λ c κs. search needs)  -- at-most-requires
     slice-aggregate-put-listed
-    put-listed-requires
-    slice-aggregate-put
-    put-requires
-    digest-requires
-    put-number-requires
-    same-length
+    (λ c κs. search needs)  -- put-listed-requires
+    (λ c. search needs)  -- slice-aggregate-put
+    (λ c κs. search needs)  -- put-requires
+    (λ c κs. search needs)  -- digest-requires
+    (λ c κs. search needs)  -- put-number-requires
+    (λ c. search needs)  -- same-length
     returns)

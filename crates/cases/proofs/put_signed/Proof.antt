@@ -6,20 +6,8 @@ use Rattle.cases.proofs.Printed.{put-all, line-room}
 use Rattle.cases.proofs.put_signed.Statement.{statement}
 use Rattle.cases.proofs.put_signed.Tie as tie
 
-slice-aggregate-put-line : tie.Need-slice-aggregate-put-line
-slice-aggregate-put-line c = search needs
-
-put-line-requires : tie.Need-put-line-requires
-put-line-requires c κs = search needs
-
-array-share-prefix-out : tie.Need-array-share-prefix-out
-array-share-prefix-out c = search needs
-
 slice-aggregate-write-all : tie.Need-slice-aggregate-write-all
 slice-aggregate-write-all c = put-part (c .before .before .put-line .ensures) (omega arith)
-
-write-all-requires : tie.Need-write-all-requires
-write-all-requires c κs = search needs
 
 returns : tie.Need-returns
 returns c =
@@ -30,9 +18,9 @@ pub put-signed-spec : {M : Type 1} → statement M
 put-signed-spec =
     tie.close
     (tie.spec
-    slice-aggregate-put-line
-    put-line-requires
-    array-share-prefix-out
+    (λ c. search needs)  -- slice-aggregate-put-line
+    (λ c κs. search needs)  -- put-line-requires
+    (λ c. search needs)  -- array-share-prefix-out
     slice-aggregate-write-all
-    write-all-requires
+    (λ c κs. search needs)  -- write-all-requires
     returns)

@@ -5,18 +5,6 @@ use Rattle.cases.specs.Cases.{spaced}
 use Rattle.cases.proofs.put_spaced.Statement.{statement}
 use Rattle.cases.proofs.put_spaced.Tie as tie
 
-slice-aggregate-put : tie.Need-slice-aggregate-put
-slice-aggregate-put c = search needs
-
-put-requires : tie.Need-put-requires
-put-requires c κs = search needs
-
-put-number-requires : tie.Need-put-number-requires
-put-number-requires c κs = search needs
-
-same-length : tie.Need-same-length
-same-length c = search needs
-
 returns : tie.Need-returns
 unfolding spaced bytes
 returns c =
@@ -25,4 +13,4 @@ returns c =
 
 pub put-spaced-spec : {M : Type 1} → statement M
 put-spaced-spec =
-    tie.close (tie.spec slice-aggregate-put put-requires put-number-requires same-length returns)
+    tie.close (tie.spec (λ c. search needs) (λ c κs. search needs) (λ c κs. search needs) (λ c. search needs) returns)

@@ -12,21 +12,6 @@ Inv-loop a₀ n i₀ a i = (i ≤ n) × (length a ≡ length a₀) × ((j : ℕ)
 abbrev μ-loop : tie.MeasureT-loop
 μ-loop a₀ n i₀ a i = n - i
 
-loop-holds : tie.Need-loop-holds Inv-loop μ-loop
-loop-holds c = omega arith
-
-mul-a : tie.Need-mul-a Inv-loop μ-loop
-mul-a c = omega arith
-
-slice-write-a : tie.Need-slice-write-a Inv-loop μ-loop
-slice-write-a c = omega arith
-
-add-i : tie.Need-add-i Inv-loop μ-loop
-add-i c = omega arith
-
-loop-less : tie.Need-loop-less Inv-loop μ-loop
-loop-less c = omega arith
-
 loop-again : tie.Need-loop-again Inv-loop μ-loop
 loop-again c = (
   omega arith,
@@ -34,9 +19,6 @@ loop-again c = (
   zero-next (c .before .loop .a) (c .before .loop .i) (omega arith)
       (c .before .loop .inv .2),
 )
-
-same-length : tie.Need-same-length Inv-loop μ-loop
-same-length c = omega arith
 
 returns : tie.Need-returns Inv-loop μ-loop
 returns c = λ j h. c .before .loop .inv .2 j (omega arith)
@@ -47,11 +29,11 @@ zero-spec =
     (tie.spec
     Inv-loop
     μ-loop
-    loop-holds
-    mul-a
-    slice-write-a
-    add-i
-    loop-less
+    (λ c. omega arith)  -- loop-holds
+    (λ c. omega arith)  -- mul-a
+    (λ c. omega arith)  -- slice-write-a
+    (λ c. omega arith)  -- add-i
+    (λ c. omega arith)  -- loop-less
     loop-again
-    same-length
+    (λ c. omega arith)  -- same-length
     returns)

@@ -26,9 +26,6 @@ small c =
 count : (c : tie.After-signed-count) → toZ w64 (ofZ w64 (c .signed-count .result)) ≡ pos (c .before .nearest-size .result)
 count c = stored (c .signed-count .result) (c .signed-count .ok) (c .signed-count .ensures)
 
-magnitude-requires : tie.Need-magnitude-requires
-magnitude-requires c κs = search needs
-
 returns : tie.Need-returns
 returns c = let s = c .before .before in sym (half-stays (s .args .g) (s .args .d) (s .pre .0) (rw (size (c .before)) at (c .if1 .taken)))
 
@@ -59,7 +56,7 @@ pub move-by-spec : {M : Type 1} → statement M
 move-by-spec =
     tie.close
     (tie.spec
-    magnitude-requires
+    (λ c κs. search needs)  -- magnitude-requires
     returns
     nearest-size-requires
     signed-count-requires

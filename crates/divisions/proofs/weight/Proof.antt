@@ -4,12 +4,9 @@ use borrow.Author.Needs.{needs}
 use Rattle.divisions.proofs.weight.Statement.{statement}
 use Rattle.divisions.proofs.weight.Tie as tie
 
-div-result : tie.Need-div-result
-div-result c = search needs
-
 returns : tie.Need-returns
 unfolding weightOf
 returns c = refl
 
 pub weight-spec : {M : Type 1} → statement M
-weight-spec = tie.close (tie.spec div-result returns)
+weight-spec = tie.close (tie.spec (λ c. search needs) returns)

@@ -8,18 +8,6 @@ use borrow.Author.Needs.{needs}
 use Rattle.fields.proofs.to_mark.Statement.{statement}
 use Rattle.fields.proofs.to_mark.Tie as tie
 
-mul-index : tie.Need-mul-index
-mul-index c = search needs
-
-add-index : tie.Need-add-index
-add-index c = search needs
-
-mul-index-2 : tie.Need-mul-index-2
-mul-index-2 c = search needs
-
-shared-slice-copy-out-index : tie.Need-shared-slice-copy-out-index
-shared-slice-copy-out-index c = search needs
-
 index-requires : tie.Need-index-requires
 index-requires c κs = let s = c .before in rw (back (toAt (s .args .lines .now) (s .args .i)) (c .index-arg .given)) (not-negative (s .pre .good .to))
 
@@ -32,4 +20,4 @@ returns c =
 pub to-mark-spec : {M : Type 1} → statement M
 to-mark-spec =
     tie.close
-    (tie.spec mul-index add-index mul-index-2 shared-slice-copy-out-index index-requires returns)
+    (tie.spec (λ c. search needs) (λ c. search needs) (λ c. search needs) (λ c. search needs) index-requires returns)

@@ -25,17 +25,11 @@ returns : tie.Need-returns
 unfolding headOf
 returns c = rw (lt-ltb _ _ (c .if1 .taken))
 
-be4-requires : tie.Need-be4-requires
-be4-requires c κs = search needs
-
 returns-2 : tie.Need-returns-2
 unfolding headOf
 returns-2 c =
     let c₂ = c .before in
     rw (le-ltb _ _ (c₂ .before .if1 .left), ← (c₂ .be4 .ensures .0), ne-eqb _ _ (c .if2 .taken))
-
-shared-slice-read-if3 : tie.Need-shared-slice-read-if3
-shared-slice-read-if3 c = search needs
 
 returns-3 : tie.Need-returns-3
 unfolding headOf
@@ -43,33 +37,6 @@ returns-3 c =
     let c₃ = c .before .before in
     let c₂ = c₃ .before in
     rw (le-ltb _ _ (c₂ .before .if1 .left), ← (c₂ .be4 .ensures .0), eq-eqb _ _ (c₃ .if2 .left), ne-eqb _ _ (c .if3 .taken))
-
-be2-requires : tie.Need-be2-requires
-be2-requires c κs = search needs
-
-plain-requires : tie.Need-plain-requires
-plain-requires c κs = search needs
-
-be2-requires-2 : tie.Need-be2-requires-2
-be2-requires-2 c κs = search needs
-
-plain-requires-2 : tie.Need-plain-requires-2
-plain-requires-2 c κs = search needs
-
-be2-requires-3 : tie.Need-be2-requires-3
-be2-requires-3 c κs = search needs
-
-be2-requires-4 : tie.Need-be2-requires-4
-be2-requires-4 c κs = search needs
-
-new-requires : tie.Need-new-requires
-new-requires c κs = search needs
-
-enum-known-made : tie.Need-enum-known-made
-enum-known-made c = search needs
-
-enum-told : tie.Need-enum-told
-enum-told c = search needs
 
 returns-4 : tie.Need-returns-4
 unfolding headOf
@@ -85,18 +52,6 @@ returns-4 c =
       eq-eqb _ _ (c₄ .if3 .left),
       no-book _ _ _ _ _ (made n) _ (c .enum-told .given .1) .0,
     )
-
-mul-if4 : tie.Need-mul-if4
-mul-if4 c = search needs
-
-add-if4 : tie.Need-add-if4
-add-if4 c = search needs
-
-mul-if4-2 : tie.Need-mul-if4-2
-mul-if4-2 c = search needs
-
-add-if4-2 : tie.Need-add-if4-2
-add-if4-2 c = search needs
 
 returns-5 : tie.Need-returns-5
 unfolding headOf
@@ -143,23 +98,23 @@ head-of-spec =
     tie.close
     (tie.spec
     returns
-    be4-requires
+    (λ c κs. search needs)  -- be4-requires
     returns-2
-    shared-slice-read-if3
+    (λ c. search needs)  -- shared-slice-read-if3
     returns-3
-    be2-requires
-    plain-requires
-    be2-requires-2
-    plain-requires-2
-    be2-requires-3
-    be2-requires-4
-    new-requires
-    enum-known-made
-    enum-told
+    (λ c κs. search needs)  -- be2-requires
+    (λ c κs. search needs)  -- plain-requires
+    (λ c κs. search needs)  -- be2-requires-2
+    (λ c κs. search needs)  -- plain-requires-2
+    (λ c κs. search needs)  -- be2-requires-3
+    (λ c κs. search needs)  -- be2-requires-4
+    (λ c κs. search needs)  -- new-requires
+    (λ c. search needs)  -- enum-known-made
+    (λ c. search needs)  -- enum-told
     returns-4
-    mul-if4
-    add-if4
-    mul-if4-2
-    add-if4-2
+    (λ c. search needs)  -- mul-if4
+    (λ c. search needs)  -- add-if4
+    (λ c. search needs)  -- mul-if4-2
+    (λ c. search needs)  -- add-if4-2
     returns-5
     returns-6)

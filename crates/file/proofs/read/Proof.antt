@@ -5,18 +5,6 @@ use borrow.Author.Needs.{needs}
 use Rattle.file.proofs.read.Statement.{statement}
 use Rattle.file.proofs.read.Tie as tie
 
-head-of-requires : tie.Need-head-of-requires
-head-of-requires c κs = search needs
-
-enum-known-number : tie.Need-enum-known-number
-enum-known-number c = search needs
-
-refuse-requires : tie.Need-refuse-requires
-refuse-requires c κs = search needs
-
-enum-known-book : tie.Need-enum-known-book
-enum-known-book c = search needs
-
 read-body-requires : tie.Need-read-body-requires
 read-body-requires c κs =
     let g = c .before .before .before in
@@ -29,12 +17,6 @@ returns c =
     let r = c .before .before in
     rw (← (r .before .before .head-of .ensures), r .number .given .1, c .refuse .ensures)
 
-same-length : tie.Need-same-length
-same-length c = search needs
-
-same-length-2 : tie.Need-same-length-2
-same-length-2 c = search needs
-
 returns-2 : tie.Need-returns-2
 unfolding readOf afterHead
 returns-2 c =
@@ -46,12 +28,12 @@ pub read-spec : {M : Type 1} → statement M
 read-spec =
     tie.close
     (tie.spec
-    head-of-requires
-    enum-known-number
-    refuse-requires
-    enum-known-book
+    (λ c κs. search needs)  -- head-of-requires
+    (λ c. search needs)  -- enum-known-number
+    (λ c κs. search needs)  -- refuse-requires
+    (λ c. search needs)  -- enum-known-book
     read-body-requires
     returns
-    same-length
-    same-length-2
+    (λ c. search needs)  -- same-length
+    (λ c. search needs)  -- same-length-2
     returns-2)

@@ -3,32 +3,11 @@ use borrow.Author.Needs.{needs}
 use Rattle.file.proofs.read_body.Statement.{statement}
 use Rattle.file.proofs.read_body.Tie as tie
 
-tested-requires : tie.Need-tested-requires
-tested-requires c κs = search needs
-
-enum-known-r : tie.Need-enum-known-r
-enum-known-r c = search needs
-
-refused-requires : tie.Need-refused-requires
-refused-requires c κs = search needs
-
-enum-told : tie.Need-enum-told
-enum-told c = search needs
-
-fill-requires : tie.Need-fill-requires
-fill-requires c κs = search needs
-
 returns : tie.Need-returns
 unfolding bodyOf
 returns c =
     let r = c .before .before in
     rw (← (r .before .before .tested .ensures), r .r .given .1, c .refused .ensures)
-
-same-length : tie.Need-same-length
-same-length c = search needs
-
-same-length-2 : tie.Need-same-length-2
-same-length-2 c = search needs
 
 returns-2 : tie.Need-returns-2
 unfolding bodyOf
@@ -41,12 +20,12 @@ pub read-body-spec : {M : Type 1} → statement M
 read-body-spec =
     tie.close
     (tie.spec
-    tested-requires
-    enum-known-r
-    refused-requires
-    enum-told
-    fill-requires
+    (λ c κs. search needs)  -- tested-requires
+    (λ c. search needs)  -- enum-known-r
+    (λ c κs. search needs)  -- refused-requires
+    (λ c. search needs)  -- enum-told
+    (λ c κs. search needs)  -- fill-requires
     returns
-    same-length
-    same-length-2
+    (λ c. search needs)  -- same-length
+    (λ c. search needs)  -- same-length-2
     returns-2)

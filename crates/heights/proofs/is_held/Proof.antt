@@ -10,49 +10,19 @@ Inv-loop held mark h i₀ i = Unit {0}
 abbrev μ-loop : tie.MeasureT-loop
 μ-loop held mark h i₀ i = h - i
 
-loop-holds : tie.Need-loop-holds Inv-loop μ-loop
-loop-holds c = search needs
-
-mul-same : tie.Need-mul-same Inv-loop μ-loop
-mul-same c = omega arith
-
-mul-same-2 : tie.Need-mul-same-2 Inv-loop μ-loop
-mul-same-2 c = omega arith
-
-shared-slice-copy-out-same : tie.Need-shared-slice-copy-out-same Inv-loop μ-loop
-shared-slice-copy-out-same c = omega arith
-
-same-requires : tie.Need-same-requires Inv-loop μ-loop
-same-requires c κs = search needs
-
-returns : tie.Need-returns Inv-loop μ-loop
-returns c = search needs
-
-add-i : tie.Need-add-i Inv-loop μ-loop
-add-i c = omega arith
-
-loop-less : tie.Need-loop-less Inv-loop μ-loop
-loop-less c = omega arith
-
-loop-again : tie.Need-loop-again Inv-loop μ-loop
-loop-again c = search needs
-
-returns-2 : tie.Need-returns-2 Inv-loop μ-loop
-returns-2 c = search needs
-
 pub is-held-spec : {M : Type 1} → statement M
 is-held-spec =
     tie.close
     (tie.spec
     Inv-loop
     μ-loop
-    loop-holds
-    mul-same
-    mul-same-2
-    shared-slice-copy-out-same
-    same-requires
-    returns
-    add-i
-    loop-less
-    loop-again
-    returns-2)
+    (λ c. search needs)  -- loop-holds
+    (λ c. omega arith)  -- mul-same
+    (λ c. omega arith)  -- mul-same-2
+    (λ c. omega arith)  -- shared-slice-copy-out-same
+    (λ c κs. search needs)  -- same-requires
+    (λ c. search needs)  -- returns
+    (λ c. omega arith)  -- add-i
+    (λ c. omega arith)  -- loop-less
+    (λ c. search needs)  -- loop-again
+    (λ c. search needs))  -- returns-2

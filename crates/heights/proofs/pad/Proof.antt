@@ -8,21 +8,6 @@ Inv-loop x top with t₀ t = Unit {0}
 abbrev μ-loop : tie.MeasureT-loop
 μ-loop x top with t₀ t = t
 
-loop-holds : tie.Need-loop-holds Inv-loop μ-loop
-loop-holds c = tt
-
-put-requires : tie.Need-put-requires Inv-loop μ-loop
-put-requires c κs = tt
-
-loop-less : tie.Need-loop-less Inv-loop μ-loop
-loop-less c = omega arith
-
-loop-again : tie.Need-loop-again Inv-loop μ-loop
-loop-again c = tt
-
-returns : tie.Need-returns Inv-loop μ-loop
-returns c = tt
-
 pub pad-spec : {M : Type 1} → statement M
 pad-spec =
-    tie.close (tie.spec Inv-loop μ-loop loop-holds put-requires loop-less loop-again returns)
+    tie.close (tie.spec Inv-loop μ-loop (λ c. tt) (λ c κs. tt) (λ c. omega arith) (λ c. tt) (λ c. tt))

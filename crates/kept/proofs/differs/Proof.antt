@@ -21,31 +21,10 @@ returns c = too-short _ _ (c .if1 .taken)
 loop-holds : tie.Need-loop-holds Inv-loop μ-loop
 loop-holds c = compare-start _ _
 
-mul-same : tie.Need-mul-same Inv-loop μ-loop
-mul-same c = omega arith
-
-shared-slice-copy-out-same : tie.Need-shared-slice-copy-out-same Inv-loop μ-loop
-shared-slice-copy-out-same c = omega arith
-
-mul-same-2 : tie.Need-mul-same-2 Inv-loop μ-loop
-mul-same-2 c = omega arith
-
-shared-slice-copy-out-same-2 : tie.Need-shared-slice-copy-out-same-2 Inv-loop μ-loop
-shared-slice-copy-out-same-2 c = omega arith
-
 -- the flag that the code has is the definition's test
 flag : (c : tie.After-same Inv-loop μ-loop) → (let l : tie.At-loop Inv-loop μ-loop = search in let g = l .before .before .args in
     c .same .result ≡ eqZ (getD (g .report .now) (l .loop .place) (pos 0)) (getD (g .rows .now) (l .loop .place) (pos 0)))
 flag c = c .same .ensures ∙ search needs
-
-same-requires : tie.Need-same-requires Inv-loop μ-loop
-same-requires c κs = tt
-
-add-place : tie.Need-add-place Inv-loop μ-loop
-add-place c = omega arith
-
-loop-less : tie.Need-loop-less Inv-loop μ-loop
-loop-less c = omega arith
 
 loop-again : tie.Need-loop-again Inv-loop μ-loop
 loop-again c =
@@ -70,13 +49,13 @@ differs-spec =
     μ-loop
     returns
     loop-holds
-    mul-same
-    shared-slice-copy-out-same
-    mul-same-2
-    shared-slice-copy-out-same-2
-    same-requires
-    add-place
-    loop-less
+    (λ c. omega arith)  -- mul-same
+    (λ c. omega arith)  -- shared-slice-copy-out-same
+    (λ c. omega arith)  -- mul-same-2
+    (λ c. omega arith)  -- shared-slice-copy-out-same-2
+    (λ c κs. tt)  -- same-requires
+    (λ c. omega arith)  -- add-place
+    (λ c. omega arith)  -- loop-less
     loop-again
     returns-2
     returns-3)

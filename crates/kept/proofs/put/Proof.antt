@@ -16,24 +16,6 @@ abbrev μ-loop : tie.MeasureT-loop
 loop-holds : tie.Need-loop-holds Inv-loop μ-loop
 loop-holds c = laid-start _ _
 
-mul-out : tie.Need-mul-out Inv-loop μ-loop
-mul-out c = omega arith
-
-shared-slice-copy-out-out : tie.Need-shared-slice-copy-out-out Inv-loop μ-loop
-shared-slice-copy-out-out c = omega arith
-
-mul-t8 : tie.Need-mul-t8 Inv-loop μ-loop
-mul-t8 c = omega arith
-
-slice-set-from-out : tie.Need-slice-set-from-out Inv-loop μ-loop
-slice-set-from-out c = omega arith
-
-add-i : tie.Need-add-i Inv-loop μ-loop
-add-i c = omega arith
-
-loop-less : tie.Need-loop-less Inv-loop μ-loop
-loop-less c = omega arith
-
 loop-again : tie.Need-loop-again Inv-loop μ-loop
 loop-again c =
     let l = c .before .before in
@@ -52,12 +34,12 @@ put-spec =
     Inv-loop
     μ-loop
     loop-holds
-    mul-out
-    shared-slice-copy-out-out
-    mul-t8
-    slice-set-from-out
-    add-i
-    loop-less
+    (λ c. omega arith)  -- mul-out
+    (λ c. omega arith)  -- shared-slice-copy-out-out
+    (λ c. omega arith)  -- mul-t8
+    (λ c. omega arith)  -- slice-set-from-out
+    (λ c. omega arith)  -- add-i
+    (λ c. omega arith)  -- loop-less
     loop-again
     same-length
     returns)

@@ -16,17 +16,8 @@ abbrev μ-loop : tie.MeasureT-loop
 loop-holds : tie.Need-loop-holds Inv-loop μ-loop
 loop-holds c = (omega arith, zeroed-start (pos 0) (c .args .out .now) (c .args .a) (c .args .e) (c .pre .0) (c .pre .1))
 
-mul-out : tie.Need-mul-out Inv-loop μ-loop
-mul-out c = omega arith
-
 slice-set-of-out : tie.Need-slice-set-of-out Inv-loop μ-loop
 slice-set-of-out c = let s = c .before .loop .inv .1 in omega arith
-
-add-i : tie.Need-add-i Inv-loop μ-loop
-add-i c = omega arith
-
-loop-less : tie.Need-loop-less Inv-loop μ-loop
-loop-less c = omega arith
 
 loop-again : tie.Need-loop-again Inv-loop μ-loop
 loop-again c =
@@ -54,10 +45,10 @@ vacate-spec =
     Inv-loop
     μ-loop
     loop-holds
-    mul-out
+    (λ c. omega arith)  -- mul-out
     slice-set-of-out
-    add-i
-    loop-less
+    (λ c. omega arith)  -- add-i
+    (λ c. omega arith)  -- loop-less
     loop-again
     same-length
     returns)

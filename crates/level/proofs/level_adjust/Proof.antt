@@ -7,9 +7,6 @@ use borrow.Author.Needs.{needs}
 use Rattle.level.proofs.level_adjust.Statement.{statement}
 use Rattle.level.proofs.level_adjust.Tie as tie
 
-adjust-requires : tie.Need-adjust-requires
-adjust-requires c κs = search needs
-
 -- what the call below answered, at the numbers that were lent
 called : (c : tie.After-adjust) → (let a = c .before .before .args in c .adjust .result ≡ adjustOf (lent (a .b) (a .t) (a .held .now) (a .lines .now)) (a .heights .now) .answer)
 called c = ap (λ (o : Given). o .answer) (c .adjust .ensures) ∙ search needs
@@ -21,11 +18,8 @@ adjust-answer-requires c κs =
     let a = s .args in
     subst SmallAdjusted (sym (called r)) (adjust-small (lent (a .b) (a .t) (a .held .now) (a .lines .now)) (a .heights .now))
 
-same-length : tie.Need-same-length
-same-length c = search needs
-
 returns : tie.Need-returns
 returns c = rw (c .adjust-answer .ensures) (ap ofAdjust (c .before .before .adjust .ensures) ∙ search needs)
 
 pub level-adjust-spec : {M : Type 1} → statement M
-level-adjust-spec = tie.close (tie.spec adjust-requires adjust-answer-requires same-length returns)
+level-adjust-spec = tie.close (tie.spec (λ c κs. search needs) adjust-answer-requires (λ c. search needs) returns)

@@ -8,9 +8,6 @@ use borrow.Author.Needs.{needs}
 use Rattle.level.proofs.level_listings.Statement.{statement}
 use Rattle.level.proofs.level_listings.Tie as tie
 
-listings-requires : tie.Need-listings-requires
-listings-requires c κs = search needs
-
 -- what the call below answered, at the numbers that were lent
 called : (c : tie.After-listings) → (let a = c .before .before .args in c .listings .result ≡ listingsOf (lent (a .b) (a .t) (a .held .now) (a .lines .now)) (a .out .now) .answer)
 called c = ap (λ (o : Listing). o .answer) (c .listings .ensures) ∙ search needs
@@ -22,11 +19,8 @@ listing-answer-requires c κs =
     let a = s .args in
     subst SmallListed (sym (called r)) (listings-small (lent (a .b) (a .t) (a .held .now) (a .lines .now)) (a .out .now) (omega (arith, s .good)))
 
-same-length : tie.Need-same-length
-same-length c = search needs
-
 returns : tie.Need-returns
 returns c = rw (c .listing-answer .ensures) (ap ofListing (c .before .before .listings .ensures) ∙ search needs)
 
 pub level-listings-spec : {M : Type 1} → statement M
-level-listings-spec = tie.close (tie.spec listings-requires listing-answer-requires same-length returns)
+level-listings-spec = tie.close (tie.spec (λ c κs. search needs) listing-answer-requires (λ c. search needs) returns)

@@ -9,9 +9,6 @@ use borrow.Author.Needs.{needs}
 use Rattle.level.proofs.level_not_checked.Statement.{statement}
 use Rattle.level.proofs.level_not_checked.Tie as tie
 
-not-checked-requires : tie.Need-not-checked-requires
-not-checked-requires c κs = search needs
-
 -- what the call below answered, at the numbers that were lent
 called : (c : tie.After-not-checked) → (let a = c .before .before .args in c .not-checked .result ≡ notCheckedOf (lent (a .b) (a .t) (a .held .now) (a .lines .now)) (a .out .now) .answer)
 called c = ap (λ (o : Listing). o .answer) (c .not-checked .ensures) ∙ search needs
@@ -23,11 +20,8 @@ listing-answer-requires c κs =
     let a = s .args in
     subst SmallListed (sym (called r)) (not-checked-small (lent (a .b) (a .t) (a .held .now) (a .lines .now)) (a .out .now) (omega (arith, s .good)))
 
-same-length : tie.Need-same-length
-same-length c = search needs
-
 returns : tie.Need-returns
 returns c = rw (c .listing-answer .ensures) (ap ofListing (c .before .before .not-checked .ensures) ∙ search needs)
 
 pub level-not-checked-spec : {M : Type 1} → statement M
-level-not-checked-spec = tie.close (tie.spec not-checked-requires listing-answer-requires same-length returns)
+level-not-checked-spec = tie.close (tie.spec (λ c κs. search needs) listing-answer-requires (λ c. search needs) returns)

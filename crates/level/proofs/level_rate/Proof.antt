@@ -7,9 +7,6 @@ use borrow.Author.Needs.{needs}
 use Rattle.level.proofs.level_rate.Statement.{statement}
 use Rattle.level.proofs.level_rate.Tie as tie
 
-rate-requires : tie.Need-rate-requires
-rate-requires c κs = search needs
-
 -- what the call below answered, at the numbers that were lent
 called : (c : tie.After-rate) → (let a = c .before .args in c .rate .result ≡ rateAnswer (lent (a .b) (a .t) (a .held .now) (a .lines .now)) (a .heights .now) (a .line))
 called c = c .rate .ensures ∙ search needs
@@ -23,4 +20,4 @@ returns : tie.Need-returns
 returns c = c .rate-answer .ensures ∙ ap signedRate (called (c .before))
 
 pub level-rate-spec : {M : Type 1} → statement M
-level-rate-spec = tie.close (tie.spec rate-requires rate-answer-requires returns)
+level-rate-spec = tie.close (tie.spec (λ c κs. search needs) rate-answer-requires returns)

@@ -7,9 +7,6 @@ use borrow.Author.Needs.{needs}
 use Rattle.level.proofs.level_survey.Statement.{statement}
 use Rattle.level.proofs.level_survey.Tie as tie
 
-survey-requires : tie.Need-survey-requires
-survey-requires c κs = search needs
-
 -- what the call below answered, at the numbers that were lent
 called : (c : tie.After-survey) → (let a = c .before .before .args in c .survey .result ≡ surveyOf (lent (a .b) (a .t) (a .held .now) (a .lines .now)) (a .rows .now) .answer)
 called c = ap (λ (o : Surveyed). o .answer) (c .survey .ensures) ∙ search needs
@@ -20,11 +17,8 @@ survey-answer-requires c κs =
     let a = r .before .before .args in
     subst SmallAnswer (sym (called r)) (survey-small (lent (a .b) (a .t) (a .held .now) (a .lines .now)) (a .rows .now))
 
-same-length : tie.Need-same-length
-same-length c = search needs
-
 returns : tie.Need-returns
 returns c = rw (c .survey-answer .ensures) (ap ofSurvey (c .before .before .survey .ensures) ∙ search needs)
 
 pub level-survey-spec : {M : Type 1} → statement M
-level-survey-spec = tie.close (tie.spec survey-requires survey-answer-requires same-length returns)
+level-survey-spec = tie.close (tie.spec (λ c κs. search needs) survey-answer-requires (λ c. search needs) returns)

@@ -7,9 +7,6 @@ use borrow.Author.Needs.{needs}
 use Rattle.level.proofs.level_withdraw.Statement.{statement}
 use Rattle.level.proofs.level_withdraw.Tie as tie
 
-withdraw-requires : tie.Need-withdraw-requires
-withdraw-requires c κs = search needs
-
 -- what the call below answered, at the numbers that were lent
 called : (c : tie.After-withdraw) → (let a = c .before .before .before .args in c .withdraw .result ≡ withdrawOf (lent (a .b) (a .t) (a .held .now) (a .lines .now)) (a .report .now) (a .line) .answer)
 called c = ap (λ (o : Corrected). o .answer) (c .withdraw .ensures) ∙ search needs
@@ -20,15 +17,9 @@ survey-answer-requires c κs =
     let a = r .before .before .before .args in
     subst SmallAnswer (sym (called r)) (withdraw-small (lent (a .b) (a .t) (a .held .now) (a .lines .now)) (a .report .now) (a .line))
 
-same-length : tie.Need-same-length
-same-length c = search needs
-
-same-length-2 : tie.Need-same-length-2
-same-length-2 c = search needs
-
 returns : tie.Need-returns
 returns c = rw (c .survey-answer .ensures) (ap ofCorrection (c .before .before .before .withdraw .ensures) ∙ search needs)
 
 pub level-withdraw-spec : {M : Type 1} → statement M
 level-withdraw-spec =
-    tie.close (tie.spec withdraw-requires survey-answer-requires same-length same-length-2 returns)
+    tie.close (tie.spec (λ c κs. search needs) survey-answer-requires (λ c. search needs) (λ c. search needs) returns)

@@ -8,18 +8,6 @@ use borrow.Author.Needs.{needs}
 use Rattle.level.proofs.rate_answer.Statement.{statement}
 use Rattle.level.proofs.rate_answer.Tie as tie
 
-signed-refusal-requires : tie.Need-signed-refusal-requires
-signed-refusal-requires c κs = search needs
-
-signed-count-requires : tie.Need-signed-count-requires
-signed-count-requires c κs = search needs
-
-enum-known-rate : tie.Need-enum-known-rate
-enum-known-rate c = search needs
-
-enum-told : tie.Need-enum-told
-enum-told c = search needs
-
 returns : tie.Need-returns
 unfolding signedRate withdrawnOf rateOf
 returns c =
@@ -62,9 +50,9 @@ pub rate-answer-spec : {M : Type 1} → statement M
 rate-answer-spec =
     tie.close
     (tie.spec
-    signed-refusal-requires
-    signed-count-requires
-    enum-known-rate
-    enum-told
+    (λ c κs. search needs)  -- signed-refusal-requires
+    (λ c κs. search needs)  -- signed-count-requires
+    (λ c. search needs)  -- enum-known-rate
+    (λ c. search needs)  -- enum-told
     returns
     returns-2)

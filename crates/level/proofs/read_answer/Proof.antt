@@ -7,21 +7,6 @@ use borrow.Author.Needs.{needs}
 use Rattle.level.proofs.read_answer.Statement.{statement}
 use Rattle.level.proofs.read_answer.Tie as tie
 
-signed-refusal-requires : tie.Need-signed-refusal-requires
-signed-refusal-requires c κs = search needs
-
-signed-count-requires : tie.Need-signed-count-requires
-signed-count-requires c κs = search needs
-
-signed-count-requires-2 : tie.Need-signed-count-requires-2
-signed-count-requires-2 c κs = search needs
-
-signed-count-requires-3 : tie.Need-signed-count-requires-3
-signed-count-requires-3 c κs = search needs
-
-signed-count-requires-4 : tie.Need-signed-count-requires-4
-signed-count-requires-4 c κs = search needs
-
 returns : tie.Need-returns
 unfolding signedRead
 returns c =
@@ -47,9 +32,9 @@ pub read-answer-spec : {M : Type 1} → statement M
 read-answer-spec =
     tie.close
     (tie.spec
-    signed-refusal-requires
-    signed-count-requires
-    signed-count-requires-2
-    signed-count-requires-3
-    signed-count-requires-4
+    (λ c κs. search needs)  -- signed-refusal-requires
+    (λ c κs. search needs)  -- signed-count-requires
+    (λ c κs. search needs)  -- signed-count-requires-2
+    (λ c κs. search needs)  -- signed-count-requires-3
+    (λ c κs. search needs)  -- signed-count-requires-4
     returns)

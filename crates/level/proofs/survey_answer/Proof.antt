@@ -7,15 +7,6 @@ use borrow.Author.Needs.{needs}
 use Rattle.level.proofs.survey_answer.Statement.{statement}
 use Rattle.level.proofs.survey_answer.Tie as tie
 
-signed-refusal-requires : tie.Need-signed-refusal-requires
-signed-refusal-requires c κs = search needs
-
-signed-count-requires : tie.Need-signed-count-requires
-signed-count-requires c κs = search needs
-
-signed-count-requires-2 : tie.Need-signed-count-requires-2
-signed-count-requires-2 c κs = search needs
-
 returns : tie.Need-returns
 unfolding signedAnswer
 returns c =
@@ -37,7 +28,7 @@ pub survey-answer-spec : {M : Type 1} → statement M
 survey-answer-spec =
     tie.close
     (tie.spec
-    signed-refusal-requires
-    signed-count-requires
-    signed-count-requires-2
+    (λ c κs. search needs)  -- signed-refusal-requires
+    (λ c κs. search needs)  -- signed-count-requires
+    (λ c κs. search needs)  -- signed-count-requires-2
     returns)

@@ -2,11 +2,8 @@ use borrow.Author.Needs.{needs}
 use Rattle.lists.proofs.entered.Statement.{statement}
 use Rattle.lists.proofs.entered.Tie as tie
 
-none-requires : tie.Need-none-requires
-none-requires c κs = search needs
-
 returns : tie.Need-returns
 returns c = rw (c .none .ensures)
 
 pub entered-spec : {M : Type 1} → statement M
-entered-spec = tie.close (tie.spec none-requires returns)
+entered-spec = tie.close (tie.spec (λ c κs. search needs) returns)

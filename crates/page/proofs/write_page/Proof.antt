@@ -5,21 +5,6 @@ use borrow.Author.Needs.{needs}
 use Rattle.page.proofs.write_page.Statement.{statement}
 use Rattle.page.proofs.write_page.Tie as tie
 
-slice-aggregate-read : tie.Need-slice-aggregate-read
-slice-aggregate-read c = search needs
-
-slice-aggregate-read-2 : tie.Need-slice-aggregate-read-2
-slice-aggregate-read-2 c = search needs
-
-read-requires : tie.Need-read-requires
-read-requires c κs = search needs
-
-refused-text-requires : tie.Need-refused-text-requires
-refused-text-requires c κs = search needs
-
-same-length : tie.Need-same-length
-same-length c = search needs
-
 returns : tie.Need-returns
 returns c =
     let then1 : tie.Then1 = search in
@@ -52,9 +37,6 @@ put-book-requires c κs =
     let w = after-read .read in
     good-read _ _ _ (search needs) (search needs) _ (w .ensures) (c .before .before .before .if1 .left)
 
-same-length-2 : tie.Need-same-length-2
-same-length-2 c = search needs
-
 returns-2 : tie.Need-returns-2
 returns-2 c =
     let else1 : tie.Else1 = search in
@@ -66,15 +48,15 @@ pub write-page-spec : {M : Type 1} → statement M
 write-page-spec =
     tie.close
     (tie.spec
-    slice-aggregate-read
-    slice-aggregate-read-2
-    read-requires
-    refused-text-requires
-    same-length
+    (λ c. search needs)  -- slice-aggregate-read
+    (λ c. search needs)  -- slice-aggregate-read-2
+    (λ c κs. search needs)  -- read-requires
+    (λ c κs. search needs)  -- refused-text-requires
+    (λ c. search needs)  -- same-length
     returns
     mul-words
     array-share-prefix-lines
     slice-aggregate-put-book
     put-book-requires
-    same-length-2
+    (λ c. search needs)  -- same-length-2
     returns-2)

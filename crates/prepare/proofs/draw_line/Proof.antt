@@ -9,33 +9,18 @@ use borrow.Author.Needs.{needs}
 use Rattle.prepare.proofs.draw_line.Statement.{statement}
 use Rattle.prepare.proofs.draw_line.Tie as tie
 
-shared-slice-copy-out-same : tie.Need-shared-slice-copy-out-same
-shared-slice-copy-out-same c = search needs
-
-same-requires : tie.Need-same-requires
-same-requires c κs = search needs
-
 returns : tie.Need-returns
 returns c = withdrawn (sym (c .before .same .ensures ∙ search needs) ∙ c .if1 .taken) refl refl refl
-
-shared-slice-copy-out-index : tie.Need-shared-slice-copy-out-index
-shared-slice-copy-out-index c = search needs
 
 index-requires : tie.Need-index-requires
 index-requires c κs =
     let entry : tie.Start = search in
     rw (back _ (c .index-arg .given)) (not-negative (entry .pre .good .from))
 
-shared-slice-copy-out-index-2 : tie.Need-shared-slice-copy-out-index-2
-shared-slice-copy-out-index-2 c = search needs
-
 index-requires-2 : tie.Need-index-requires-2
 index-requires-2 c κs =
     let entry : tie.Start = search in
     rw (back _ (c .index-arg2 .given)) (not-negative (entry .pre .good .to))
-
-shared-slice-copy-out-index-3 : tie.Need-shared-slice-copy-out-index-3
-shared-slice-copy-out-index-3 c = search needs
 
 index-requires-3 : tie.Need-index-requires-3
 index-requires-3 c κs =
@@ -70,15 +55,6 @@ add-ends c =
       entry .pre .few-marks,
     )
 
-mul-ends-2 : tie.Need-mul-ends-2
-mul-ends-2 c = search needs
-
-mul-ends-3 : tie.Need-mul-ends-3
-mul-ends-3 c = search needs
-
-slice-write-ends : tie.Need-slice-write-ends
-slice-write-ends c = search needs
-
 mul-ends-4 : tie.Need-mul-ends-4
 mul-ends-4 c =
     let after-index3 : tie.After-index3 = search in
@@ -107,15 +83,6 @@ add-ends-2 c =
       entry .pre .few-marks,
     )
 
-mul-ends-5 : tie.Need-mul-ends-5
-mul-ends-5 c = search needs
-
-add-ends-3 : tie.Need-add-ends-3
-add-ends-3 c = search needs
-
-mul-ends-6 : tie.Need-mul-ends-6
-mul-ends-6 c = search needs
-
 slice-write-ends-2 : tie.Need-slice-write-ends-2
 slice-write-ends-2 c =
     let entry : tie.Start = search in
@@ -132,15 +99,6 @@ join-requires c κs =
           (after-index3 .index3 .ensures ∙ search needs),
       entry .pre .chains,
     )
-
-same-length : tie.Need-same-length
-same-length c = search needs
-
-same-length-2 : tie.Need-same-length-2
-same-length-2 c = search needs
-
-same-length-3 : tie.Need-same-length-3
-same-length-3 c = search needs
 
 returns-2 : tie.Need-returns-2
 returns-2 c =
@@ -160,28 +118,28 @@ pub draw-line-spec : {M : Type 1} → statement M
 draw-line-spec =
     tie.close
     (tie.spec
-    shared-slice-copy-out-same
-    same-requires
+    (λ c. search needs)  -- shared-slice-copy-out-same
+    (λ c κs. search needs)  -- same-requires
     returns
-    shared-slice-copy-out-index
+    (λ c. search needs)  -- shared-slice-copy-out-index
     index-requires
-    shared-slice-copy-out-index-2
+    (λ c. search needs)  -- shared-slice-copy-out-index-2
     index-requires-2
-    shared-slice-copy-out-index-3
+    (λ c. search needs)  -- shared-slice-copy-out-index-3
     index-requires-3
     mul-ends
     add-ends
-    mul-ends-2
-    mul-ends-3
-    slice-write-ends
+    (λ c. search needs)  -- mul-ends-2
+    (λ c. search needs)  -- mul-ends-3
+    (λ c. search needs)  -- slice-write-ends
     mul-ends-4
     add-ends-2
-    mul-ends-5
-    add-ends-3
-    mul-ends-6
+    (λ c. search needs)  -- mul-ends-5
+    (λ c. search needs)  -- add-ends-3
+    (λ c. search needs)  -- mul-ends-6
     slice-write-ends-2
     join-requires
-    same-length
-    same-length-2
-    same-length-3
+    (λ c. search needs)  -- same-length
+    (λ c. search needs)  -- same-length-2
+    (λ c. search needs)  -- same-length-3
     returns-2)

@@ -3,9 +3,6 @@ use Rattle.prepare.proofs.Preparing.{sheet-of, tree-of}
 use Rattle.prepare.proofs.plant_book.Statement.{statement}
 use Rattle.prepare.proofs.plant_book.Tie as tie
 
-add-n : tie.Need-add-n
-add-n c = search needs
-
 draw-book-requires : tie.Need-draw-book-requires
 draw-book-requires c κs =
     let entry : tie.Start = search in
@@ -17,24 +14,6 @@ plant-requires c κs =
     let entry : tie.Start = search in
     let d = after-draw-book .draw-book .ensures in
     (d .bounded, (d .heads, tree-of _ _ (entry .pre .0) (entry .pre .1)))
-
-same-length : tie.Need-same-length
-same-length c = search needs
-
-same-length-2 : tie.Need-same-length-2
-same-length-2 c = search needs
-
-same-length-3 : tie.Need-same-length-3
-same-length-3 c = search needs
-
-same-length-4 : tie.Need-same-length-4
-same-length-4 c = search needs
-
-same-length-5 : tie.Need-same-length-5
-same-length-5 c = search needs
-
-same-length-6 : tie.Need-same-length-6
-same-length-6 c = search needs
 
 returns : tie.Need-returns
 returns c =
@@ -48,13 +27,13 @@ pub plant-book-spec : {M : Type 1} → statement M
 plant-book-spec =
     tie.close
     (tie.spec
-    add-n
+    (λ c. search needs)  -- add-n
     draw-book-requires
     plant-requires
-    same-length
-    same-length-2
-    same-length-3
-    same-length-4
-    same-length-5
-    same-length-6
+    (λ c. search needs)  -- same-length
+    (λ c. search needs)  -- same-length-2
+    (λ c. search needs)  -- same-length-3
+    (λ c. search needs)  -- same-length-4
+    (λ c. search needs)  -- same-length-5
+    (λ c. search needs)  -- same-length-6
     returns)

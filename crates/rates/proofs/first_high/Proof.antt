@@ -33,21 +33,6 @@ made c =
 loop-holds : tie.Need-loop-holds Inv-loop μ-loop
 loop-holds c = (search needs, scan-start (highAt (c .args .heights .now)) (length (c .args .heights .now)))
 
-mul-in-work : tie.Need-mul-in-work Inv-loop μ-loop
-mul-in-work c = search needs
-
-shared-slice-copy-out-in-work : tie.Need-shared-slice-copy-out-in-work Inv-loop μ-loop
-shared-slice-copy-out-in-work c = search needs
-
-in-work-requires : tie.Need-in-work-requires Inv-loop μ-loop
-in-work-requires c κs = tt
-
-enum-told : tie.Need-enum-told Inv-loop μ-loop
-enum-told c = search needs
-
-add-result : tie.Need-add-result Inv-loop μ-loop
-add-result c = search needs
-
 returns : tie.Need-returns Inv-loop μ-loop
 unfolding firstHigh
 returns c =
@@ -56,15 +41,6 @@ returns c =
     let in-loop : tie.In-loop Inv-loop μ-loop = search in
     scan-stop (highAt (s .args .heights .now)) (length (s .args .heights .now)) (at .loop .i) (in-loop .loop-test .taken)
     (no-work-height _ _ (made (c .before .before)) _ (c .enum-told .given .1)) (at .loop .inv .1)
-
-enum-told-2 : tie.Need-enum-told-2 Inv-loop μ-loop
-enum-told-2 c = search needs
-
-add-i : tie.Need-add-i Inv-loop μ-loop
-add-i c = search needs
-
-loop-less : tie.Need-loop-less Inv-loop μ-loop
-loop-less c = search needs
 
 loop-again : tie.Need-loop-again Inv-loop μ-loop
 loop-again c =
@@ -87,14 +63,14 @@ first-high-spec =
     Inv-loop
     μ-loop
     loop-holds
-    mul-in-work
-    shared-slice-copy-out-in-work
-    in-work-requires
-    enum-told
-    add-result
+    (λ c. search needs)  -- mul-in-work
+    (λ c. search needs)  -- shared-slice-copy-out-in-work
+    (λ c κs. tt)  -- in-work-requires
+    (λ c. search needs)  -- enum-told
+    (λ c. search needs)  -- add-result
     returns
-    enum-told-2
-    add-i
-    loop-less
+    (λ c. search needs)  -- enum-told-2
+    (λ c. search needs)  -- add-i
+    (λ c. search needs)  -- loop-less
     loop-again
     returns-2)

@@ -23,24 +23,9 @@ out-read c =
 line-in : (c : tie.Else1) → (let s = c .before .before .before in Between 1 (s .args .book .lines) (s .args .line))
 line-in c = let s = c .before .before .before in between 1 (s .args .book .lines) (s .args .line) (out-read (c .before) ∙ c .if1 .left)
 
-signed-count-requires : tie.Need-signed-count-requires
-signed-count-requires c κs = search needs
-
-outside-requires : tie.Need-outside-requires
-outside-requires c κs = search needs
-
-refuse-requires : tie.Need-refuse-requires
-refuse-requires c κs = search needs
-
 returns : tie.Need-returns
 unfolding goodRate
 returns c = rw (out-read (c .before .before) ∙ c .before .if1 .taken) (c .refuse .ensures)
-
-first-high-requires : tie.Need-first-high-requires
-first-high-requires c κs = search needs
-
-refuse-requires-2 : tie.Need-refuse-requires-2
-refuse-requires-2 c κs = search needs
 
 returns-2 : tie.Need-returns-2
 unfolding goodRate
@@ -78,12 +63,12 @@ pub good-rate-spec : {M : Type 1} → statement M
 good-rate-spec =
     tie.close
     (tie.spec
-    signed-count-requires
-    outside-requires
-    refuse-requires
+    (λ c κs. search needs)  -- signed-count-requires
+    (λ c κs. search needs)  -- outside-requires
+    (λ c κs. search needs)  -- refuse-requires
     returns
-    first-high-requires
-    refuse-requires-2
+    (λ c κs. search needs)  -- first-high-requires
+    (λ c κs. search needs)  -- refuse-requires-2
     returns-2
     index-requires
     line-rate-requires

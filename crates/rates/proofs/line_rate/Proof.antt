@@ -44,41 +44,8 @@ length-read c =
     let known : tie.After-made = search in
     back (known .made .given .0 .0 .length) (c .struct-told2 .given .1 .1 .1 .0 .1) ∙ ap (λ (l : Line). l .length) (its-is known)
 
-sub-at : tie.Need-sub-at
-sub-at c = search needs
-
-mul-at : tie.Need-mul-at
-mul-at c = search needs
-
-add-line-of : tie.Need-add-line-of
-add-line-of c = search needs
-
-mul-line-of : tie.Need-mul-line-of
-mul-line-of c = search needs
-
-sub-line-of : tie.Need-sub-line-of
-sub-line-of c = search needs
-
-part-line-of-start : tie.Need-part-line-of-start
-part-line-of-start c = search needs
-
-part-line-of-end : tie.Need-part-line-of-end
-part-line-of-end c = search needs
-
-signed-count-requires : tie.Need-signed-count-requires
-signed-count-requires c κs = search needs
-
 line-of-requires : tie.Need-line-of-requires
 line-of-requires c κs = simp (length-take, length-drop) (omega arith)
-
-enum-known-made : tie.Need-enum-known-made
-enum-known-made c = search needs
-
-enum-told : tie.Need-enum-told
-enum-told c = search needs
-
-refuse-requires : tie.Need-refuse-requires
-refuse-requires c κs = search needs
 
 returns : tie.Need-returns
 returns c =
@@ -86,12 +53,6 @@ returns c =
     let g = c .before .enum-told .given .1 in
     let z : _≡_ {A = ℕ} 0 1 = cc in
     absurd (omega arith)
-
-none-requires : tie.Need-none-requires
-none-requires c κs = search needs
-
-same-requires : tie.Need-same-requires
-same-requires c κs = search needs
 
 returns-2 : tie.Need-returns-2
 unfolding lineRate
@@ -129,21 +90,21 @@ pub line-rate-spec : {M : Type 1} → statement M
 line-rate-spec =
     tie.close
     (tie.spec
-    sub-at
-    mul-at
-    add-line-of
-    mul-line-of
-    sub-line-of
-    part-line-of-start
-    part-line-of-end
-    signed-count-requires
+    (λ c. search needs)  -- sub-at
+    (λ c. search needs)  -- mul-at
+    (λ c. search needs)  -- add-line-of
+    (λ c. search needs)  -- mul-line-of
+    (λ c. search needs)  -- sub-line-of
+    (λ c. search needs)  -- part-line-of-start
+    (λ c. search needs)  -- part-line-of-end
+    (λ c κs. search needs)  -- signed-count-requires
     line-of-requires
-    enum-known-made
-    enum-told
-    refuse-requires
+    (λ c. search needs)  -- enum-known-made
+    (λ c. search needs)  -- enum-told
+    (λ c κs. search needs)  -- refuse-requires
     returns
-    none-requires
-    same-requires
+    (λ c κs. search needs)  -- none-requires
+    (λ c κs. search needs)  -- same-requires
     returns-2
     correction-of-requires
     per-km-requires

@@ -5,12 +5,6 @@ use borrow.Author.Needs.{needs}
 use Rattle.rates.proofs.row_of.Statement.{statement}
 use Rattle.rates.proofs.row_of.Tie as tie
 
-enum-known-rate : tie.Need-enum-known-rate
-enum-known-rate c = search needs
-
-enum-told : tie.Need-enum-told
-enum-told c = search needs
-
 returns : tie.Need-returns
 unfolding rowOf
 returns c =
@@ -22,4 +16,4 @@ unfolding rowOf ofBits
 returns-2 c = rw (c .enum-told .given .1)
 
 pub row-of-spec : {M : Type 1} → statement M
-row-of-spec = tie.close (tie.spec enum-known-rate enum-told returns returns-2)
+row-of-spec = tie.close (tie.spec (λ c. search needs) (λ c. search needs) returns returns-2)

@@ -6,21 +6,6 @@ use borrow.Author.Needs.{needs}
 use Rattle.rows.proofs.length_by.Statement.{statement}
 use Rattle.rows.proofs.length_by.Tie as tie
 
-sub-index : tie.Need-sub-index
-sub-index c = search needs
-
-mul-index : tie.Need-mul-index
-mul-index c = search needs
-
-add-index : tie.Need-add-index
-add-index c = search needs
-
-mul-index-2 : tie.Need-mul-index-2
-mul-index-2 c = search needs
-
-shared-slice-copy-out-index : tie.Need-shared-slice-copy-out-index
-shared-slice-copy-out-index c = search needs
-
 index-requires : tie.Need-index-requires
 index-requires c κs =
     let p = c .before .pre in
@@ -34,10 +19,10 @@ pub length-by-spec : {M : Type 1} → statement M
 length-by-spec =
     tie.close
     (tie.spec
-    sub-index
-    mul-index
-    add-index
-    mul-index-2
-    shared-slice-copy-out-index
+    (λ c. search needs)  -- sub-index
+    (λ c. search needs)  -- mul-index
+    (λ c. search needs)  -- add-index
+    (λ c. search needs)  -- mul-index-2
+    (λ c. search needs)  -- shared-slice-copy-out-index
     index-requires
     returns)

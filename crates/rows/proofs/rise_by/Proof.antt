@@ -6,21 +6,6 @@ use borrow.Author.Needs.{needs}
 use Rattle.rows.proofs.rise_by.Statement.{statement}
 use Rattle.rows.proofs.rise_by.Tie as tie
 
-sub-d : tie.Need-sub-d
-sub-d c = search needs
-
-mul-d : tie.Need-mul-d
-mul-d c = search needs
-
-add-d : tie.Need-add-d
-add-d c = search needs
-
-mul-d-2 : tie.Need-mul-d-2
-mul-d-2 c = search needs
-
-shared-slice-copy-out-d : tie.Need-shared-slice-copy-out-d
-shared-slice-copy-out-d c = search needs
-
 returns : tie.Need-returns
 returns c = sym (rise-fore _ _ (c .if1 .taken) ∙ search needs)
 
@@ -33,4 +18,4 @@ returns-2 c = stored _ (c .sub .ok) (rw (back _ (c .before .before .d .given)) a
 pub rise-by-spec : {M : Type 1} → statement M
 rise-by-spec =
     tie.close
-    (tie.spec sub-d mul-d add-d mul-d-2 shared-slice-copy-out-d returns sub-requires returns-2)
+    (tie.spec (λ c. search needs) (λ c. search needs) (λ c. search needs) (λ c. search needs) (λ c. search needs) returns sub-requires returns-2)

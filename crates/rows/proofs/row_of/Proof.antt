@@ -6,18 +6,6 @@ use borrow.Author.Needs.{needs}
 use Rattle.rows.proofs.row_of.Statement.{statement}
 use Rattle.rows.proofs.row_of.Tie as tie
 
-run-length-requires : tie.Need-run-length-requires
-run-length-requires c κs = search needs
-
-run-rise-requires : tie.Need-run-rise-requires
-run-rise-requires c κs = search needs
-
-verdict-requires : tie.Need-verdict-requires
-verdict-requires c κs = search needs
-
-shared-slice-read-write-row : tie.Need-shared-slice-read-write-row
-shared-slice-read-write-row c = search needs
-
 cast-write-row : tie.Need-cast-write-row
 cast-write-row c =
     let entry : tie.Start = search in
@@ -31,9 +19,6 @@ write-row-requires c κs =
     let p = entry .pre in
     let run = p .1 .0 in
     (p .1 .1 .1, (omega (arith, p .0 .few-lines, run .each 0 (run .some-line) .high), omega (arith, run .few), omega (arith, after-run-length .run-length .ensures .1)))
-
-same-length : tie.Need-same-length
-same-length c = search needs
 
 returns : tie.Need-returns
 returns c =
@@ -49,11 +34,11 @@ pub row-of-spec : {M : Type 1} → statement M
 row-of-spec =
     tie.close
     (tie.spec
-    run-length-requires
-    run-rise-requires
-    verdict-requires
-    shared-slice-read-write-row
+    (λ c κs. search needs)  -- run-length-requires
+    (λ c κs. search needs)  -- run-rise-requires
+    (λ c κs. search needs)  -- verdict-requires
+    (λ c. search needs)  -- shared-slice-read-write-row
     cast-write-row
     write-row-requires
-    same-length
+    (λ c. search needs)  -- same-length
     returns)

@@ -22,9 +22,6 @@ mul-length-by c =
     let entry : tie.Start Inv-loop μ-loop = search in
     omega (arith, entry .pre .1 .few)
 
-shared-slice-read-length-by : tie.Need-shared-slice-read-length-by Inv-loop μ-loop
-shared-slice-read-length-by c = omega arith
-
 cast-length-by : tie.Need-cast-length-by Inv-loop μ-loop
 cast-length-by c =
     let at-loop : tie.At-loop Inv-loop μ-loop = search in
@@ -49,9 +46,6 @@ add-j c =
     let entry : tie.Start Inv-loop μ-loop = search in
     omega (arith, entry .pre .1 .few)
 
-loop-less : tie.Need-loop-less Inv-loop μ-loop
-loop-less c = omega arith
-
 loop-again : tie.Need-loop-again Inv-loop μ-loop
 loop-again c =
     let at-loop : tie.At-loop Inv-loop μ-loop = search in
@@ -74,11 +68,11 @@ run-length-spec =
     μ-loop
     loop-holds
     mul-length-by
-    shared-slice-read-length-by
+    (λ c. omega arith)  -- shared-slice-read-length-by
     cast-length-by
     length-by-requires
     add-sum
     add-j
-    loop-less
+    (λ c. omega arith)  -- loop-less
     loop-again
     returns)

@@ -28,9 +28,6 @@ mul-rise-by c =
     let entry : tie.Start Inv-loop μ-loop = search in
     omega (arith, entry .pre .1 .few)
 
-shared-slice-read-rise-by : tie.Need-shared-slice-read-rise-by Inv-loop μ-loop
-shared-slice-read-rise-by c = omega arith
-
 cast-rise-by : tie.Need-cast-rise-by Inv-loop μ-loop
 cast-rise-by c =
     let at-loop : tie.At-loop Inv-loop μ-loop = search in
@@ -55,9 +52,6 @@ add-j : tie.Need-add-j Inv-loop μ-loop
 add-j c =
     let entry : tie.Start Inv-loop μ-loop = search in
     omega (arith, entry .pre .1 .few)
-
-loop-less : tie.Need-loop-less Inv-loop μ-loop
-loop-less c = omega arith
 
 loop-again : tie.Need-loop-again Inv-loop μ-loop
 loop-again c =
@@ -86,11 +80,11 @@ run-rise-spec =
     μ-loop
     loop-holds
     mul-rise-by
-    shared-slice-read-rise-by
+    (λ c. omega arith)  -- shared-slice-read-rise-by
     cast-rise-by
     rise-by-requires
     add-requires
     add-j
-    loop-less
+    (λ c. omega arith)  -- loop-less
     loop-again
     returns)

@@ -9,9 +9,6 @@ use borrow.Author.Needs.{needs}
 use Rattle.rows.proofs.verdict.Statement.{statement}
 use Rattle.rows.proofs.verdict.Tie as tie
 
-magnitude-requires : tie.Need-magnitude-requires
-magnitude-requires c κs = search needs
-
 returns : tie.Need-returns
 returns c = let s = c .before .before in sym (verdict-big _ _ _ (c .before .magnitude .result) (s .pre .0) (s .pre .1) (c .before .magnitude .ensures ∙ search needs) (omega arith))
 
@@ -36,4 +33,4 @@ returns-3 c = sym (verdict-over _ _ _ (c .before .before .magnitude .result) (c 
 pub verdict-spec : {M : Type 1} → statement M
 verdict-spec =
     tie.close
-    (tie.spec magnitude-requires returns mul-if2 mul-if2-2 mul-if2-3 mul-if2-4 returns-2 returns-3)
+    (tie.spec (λ c κs. search needs) returns mul-if2 mul-if2-2 mul-if2-3 mul-if2-4 returns-2 returns-3)

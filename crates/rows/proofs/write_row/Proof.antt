@@ -7,32 +7,8 @@ use borrow.Author.Needs.{needs}
 use Rattle.rows.proofs.write_row.Statement.{statement}
 use Rattle.rows.proofs.write_row.Tie as tie
 
-signed-count-requires : tie.Need-signed-count-requires
-signed-count-requires c κs = search needs
-
-slice-set-from-out : tie.Need-slice-set-from-out
-slice-set-from-out c = search needs
-
-signed-count-requires-2 : tie.Need-signed-count-requires-2
-signed-count-requires-2 c κs = search needs
-
-slice-set-from-out-2 : tie.Need-slice-set-from-out-2
-slice-set-from-out-2 c = search needs
-
-signed-count-requires-3 : tie.Need-signed-count-requires-3
-signed-count-requires-3 c κs = search needs
-
-slice-set-from-out-3 : tie.Need-slice-set-from-out-3
-slice-set-from-out-3 c = search needs
-
-slice-set-from-misclosure : tie.Need-slice-set-from-misclosure
-slice-set-from-misclosure c = search needs
-
 slice-set-from-verdict : tie.Need-slice-set-from-verdict
 slice-set-from-verdict c = simp length-set (omega arith)
-
-same-length : tie.Need-same-length
-same-length c = search needs
 
 returns : tie.Need-returns
 returns c =
@@ -46,13 +22,13 @@ pub write-row-spec : {M : Type 1} → statement M
 write-row-spec =
     tie.close
     (tie.spec
-    signed-count-requires
-    slice-set-from-out
-    signed-count-requires-2
-    slice-set-from-out-2
-    signed-count-requires-3
-    slice-set-from-out-3
-    slice-set-from-misclosure
+    (λ c κs. search needs)  -- signed-count-requires
+    (λ c. search needs)  -- slice-set-from-out
+    (λ c κs. search needs)  -- signed-count-requires-2
+    (λ c. search needs)  -- slice-set-from-out-2
+    (λ c κs. search needs)  -- signed-count-requires-3
+    (λ c. search needs)  -- slice-set-from-out-3
+    (λ c. search needs)  -- slice-set-from-misclosure
     slice-set-from-verdict
-    same-length
+    (λ c. search needs)  -- same-length
     returns)

@@ -95,12 +95,6 @@ mul-row-of-2 c =
     let p = entry .pre in
     omega (arith, p .1 .1, entry .good)
 
-sub-row-of-2 : tie.Need-sub-row-of-2 Inv-loop μ-loop
-sub-row-of-2 c = omega arith
-
-part-row-of-start-2 : tie.Need-part-row-of-start-2 Inv-loop μ-loop
-part-row-of-start-2 c = omega arith
-
 part-row-of-end-2 : tie.Need-part-row-of-end-2 Inv-loop μ-loop
 part-row-of-end-2 c =
     let at-loop : tie.At-loop Inv-loop μ-loop = search in
@@ -121,18 +115,12 @@ add-i c =
     let p = entry .pre in
     omega (arith, p .1 .1, entry .good)
 
-loop-less : tie.Need-loop-less Inv-loop μ-loop
-loop-less c = omega arith
-
 loop-again : tie.Need-loop-again Inv-loop μ-loop
 loop-again c =
     let at-loop : tie.At-loop Inv-loop μ-loop = search in
     let after-row-of : tie.After-row-of Inv-loop μ-loop = search in
     let v = at-loop .loop .inv in
     (omega arith, omega (arith, v .1, c .out .given .1), all-written-next (omega arith) (v .2) _ (after-row-of .row-of .ensures))
-
-same-length : tie.Need-same-length Inv-loop μ-loop
-same-length c = omega arith
 
 returns : tie.Need-returns Inv-loop μ-loop
 unfolding reportOf
@@ -161,12 +149,12 @@ write-rows-spec =
     part-row-of-end
     add-row-of
     mul-row-of-2
-    sub-row-of-2
-    part-row-of-start-2
+    (λ c. omega arith)  -- sub-row-of-2
+    (λ c. omega arith)  -- part-row-of-start-2
     part-row-of-end-2
     row-of-requires
     add-i
-    loop-less
+    (λ c. omega arith)  -- loop-less
     loop-again
-    same-length
+    (λ c. omega arith)  -- same-length
     returns)

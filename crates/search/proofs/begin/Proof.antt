@@ -5,27 +5,6 @@ use Rattle.search.proofs.Laws.{stage-start}
 use Rattle.search.proofs.begin.Statement.{statement}
 use Rattle.search.proofs.begin.Tie as tie
 
-clear-requires : tie.Need-clear-requires
-clear-requires c κs = search needs
-
-mul-clear : tie.Need-mul-clear
-mul-clear c = search needs
-
-clear-requires-2 : tie.Need-clear-requires-2
-clear-requires-2 c κs = search needs
-
-mul-best : tie.Need-mul-best
-mul-best c = search needs
-
-slice-write-best : tie.Need-slice-write-best
-slice-write-best c = search needs
-
-mul-relax : tie.Need-mul-relax
-mul-relax c = search needs
-
-shared-slice-read-relax : tie.Need-shared-slice-read-relax
-shared-slice-read-relax c = search needs
-
 relax-requires : tie.Need-relax-requires
 relax-requires c κs =
     let after-clear2 : tie.After-clear2 = search in
@@ -51,9 +30,6 @@ same-length c =
     let after-clear : tie.After-clear = search in
     let entry : tie.Start = search in
     omega (arith, length-set (after-clear .clear .last .0) (entry .args .r) 0)
-
-same-length-2 : tie.Need-same-length-2
-same-length-2 c = search needs
 
 returns : tie.Need-returns
 returns c =
@@ -82,14 +58,14 @@ pub begin-spec : {M : Type 1} → statement M
 begin-spec =
     tie.close
     (tie.spec
-    clear-requires
-    mul-clear
-    clear-requires-2
-    mul-best
-    slice-write-best
-    mul-relax
-    shared-slice-read-relax
+    (λ c κs. search needs)  -- clear-requires
+    (λ c. search needs)  -- mul-clear
+    (λ c κs. search needs)  -- clear-requires-2
+    (λ c. search needs)  -- mul-best
+    (λ c. search needs)  -- slice-write-best
+    (λ c. search needs)  -- mul-relax
+    (λ c. search needs)  -- shared-slice-read-relax
     relax-requires
     same-length
-    same-length-2
+    (λ c. search needs)  -- same-length-2
     returns)

@@ -4,12 +4,6 @@ use borrow.Author.Needs.{needs}
 use Rattle.search.proofs.direct_half.Statement.{statement}
 use Rattle.search.proofs.direct_half.Tie as tie
 
-mul-least-sum : tie.Need-mul-least-sum
-mul-least-sum c = search needs
-
-shared-slice-read-least-sum : tie.Need-shared-slice-read-least-sum
-shared-slice-read-least-sum c = search needs
-
 least-sum-requires : tie.Need-least-sum-requires
 least-sum-requires c κs =
     let s : tie.Start = search in
@@ -17,12 +11,6 @@ least-sum-requires c κs =
 
 returns : tie.Need-returns
 returns c = direct-none _ _ _ _ _ _
-
-mul-if2 : tie.Need-mul-if2
-mul-if2 c = search needs
-
-shared-slice-read-if2 : tie.Need-shared-slice-read-if2
-shared-slice-read-if2 c = search needs
 
 returns-2 : tie.Need-returns-2
 returns-2 c =
@@ -37,11 +25,11 @@ pub direct-half-spec : {M : Type 1} → statement M
 direct-half-spec =
     tie.close
     (tie.spec
-    mul-least-sum
-    shared-slice-read-least-sum
+    (λ c. search needs)  -- mul-least-sum
+    (λ c. search needs)  -- shared-slice-read-least-sum
     least-sum-requires
     returns
-    mul-if2
-    shared-slice-read-if2
+    (λ c. search needs)  -- mul-if2
+    (λ c. search needs)  -- shared-slice-read-if2
     returns-2
     returns-3)

@@ -30,18 +30,12 @@ shared-slice-read-e c =
     let entry : tie.Start Inv-loop μ-loop = search in
     omega (arith, chain-low (at-loop .loop .inv .0 .1), entry .pre .0 .ends-at)
 
-sub-lesser : tie.Need-sub-lesser Inv-loop μ-loop
-sub-lesser c = search needs
-
 add-lesser : tie.Need-add-lesser Inv-loop μ-loop
 add-lesser c =
     let at-loop : tie.At-loop Inv-loop μ-loop = search in
     let entry : tie.Start Inv-loop μ-loop = search in
     let lt = chain-low (at-loop .loop .inv .0 .1) in
     omega (arith, lt, entry .pre .0 .short (at-loop .loop .h) lt)
-
-lesser-requires : tie.Need-lesser-requires Inv-loop μ-loop
-lesser-requires c κs = search needs
 
 mul-h : tie.Need-mul-h Inv-loop μ-loop
 mul-h c =
@@ -79,9 +73,9 @@ least-sum-spec =
     loop-holds
     mul-e
     shared-slice-read-e
-    sub-lesser
+    (λ c. search needs)  -- sub-lesser
     add-lesser
-    lesser-requires
+    (λ c κs. search needs)  -- lesser-requires
     mul-h
     shared-slice-read-h
     loop-less

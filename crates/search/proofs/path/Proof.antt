@@ -5,27 +5,6 @@ use borrow.Author.Needs.{needs}
 use Rattle.search.proofs.path.Statement.{statement}
 use Rattle.search.proofs.path.Tie as tie
 
-direct-half-requires : tie.Need-direct-half-requires
-direct-half-requires c κs = search needs
-
-mul-out : tie.Need-mul-out
-mul-out c = search needs
-
-add-out : tie.Need-add-out
-add-out c = search needs
-
-sub-out : tie.Need-sub-out
-sub-out c = search needs
-
-cast-out : tie.Need-cast-out
-cast-out c = search needs
-
-slice-write-out : tie.Need-slice-write-out
-slice-write-out c = search needs
-
-same-length : tie.Need-same-length
-same-length c = search needs
-
 returns : tie.Need-returns
 returns c =
     let entry : tie.Start = search in
@@ -45,15 +24,6 @@ way-requires c κs =
     path-leads _ _ _ _ _ g _ _ _ (p .1 .1 .r-ok) (omega (arith, p .1 .0 .room .bests)) (after-search .search .ensures (p .0 .sub) g)
     (c .before .before .if2 .taken) _ (p .0 .bounded .ends-at) (p .1 .0 .outs)
 
-same-length-2 : tie.Need-same-length-2
-same-length-2 c = search needs
-
-same-length-3 : tie.Need-same-length-3
-same-length-3 c = search needs
-
-same-length-4 : tie.Need-same-length-4
-same-length-4 c = search needs
-
 returns-2 : tie.Need-returns-2
 returns-2 c =
     let then2 : tie.Then2 = search in
@@ -63,12 +33,6 @@ returns-2 c =
     let p = entry .pre in
     λ sub g. path-walked sub _ _ _ _ g _ _ _ (p .1 .1 .r-ok) (omega (arith, c, p .1 .0 .room .bests))
     (after-search .search .ensures sub g) (then2 .if2 .taken) _ _ _ (c .before .before .way .ensures)
-
-same-length-5 : tie.Need-same-length-5
-same-length-5 c = search needs
-
-same-length-6 : tie.Need-same-length-6
-same-length-6 c = search needs
 
 returns-3 : tie.Need-returns-3
 returns-3 c =
@@ -82,20 +46,20 @@ pub path-spec : {M : Type 1} → statement M
 path-spec =
     tie.close
     (tie.spec
-    direct-half-requires
-    mul-out
-    add-out
-    sub-out
-    cast-out
-    slice-write-out
-    same-length
+    (λ c κs. search needs)  -- direct-half-requires
+    (λ c. search needs)  -- mul-out
+    (λ c. search needs)  -- add-out
+    (λ c. search needs)  -- sub-out
+    (λ c. search needs)  -- cast-out
+    (λ c. search needs)  -- slice-write-out
+    (λ c. search needs)  -- same-length
     returns
     search-requires
     way-requires
-    same-length-2
-    same-length-3
-    same-length-4
+    (λ c. search needs)  -- same-length-2
+    (λ c. search needs)  -- same-length-3
+    (λ c. search needs)  -- same-length-4
     returns-2
-    same-length-5
-    same-length-6
+    (λ c. search needs)  -- same-length-5
+    (λ c. search needs)  -- same-length-6
     returns-3)

@@ -34,9 +34,6 @@ shared-slice-read-e c =
     let entry : tie.Start Inv-loop μ-loop = search in
     omega (arith, chain-low (at-loop .loop .inv .0 .1), entry .pre .0 .ends-at)
 
-sub-sum : tie.Need-sub-sum Inv-loop μ-loop
-sub-sum c = search needs
-
 add-sum : tie.Need-add-sum Inv-loop μ-loop
 add-sum c =
     let at-loop : tie.At-loop Inv-loop μ-loop = search in
@@ -86,12 +83,6 @@ loop-again c =
       omega arith,
     )
 
-same-length : tie.Need-same-length Inv-loop μ-loop
-same-length c = omega arith
-
-same-length-2 : tie.Need-same-length-2 Inv-loop μ-loop
-same-length-2 c = omega arith
-
 returns : tie.Need-returns Inv-loop μ-loop
 returns c = relax-end _ _ _ _ _ _ _ _ _ _ (c .before .loop .inv .1) (omega arith)
 
@@ -104,7 +95,7 @@ relax-spec =
     loop-holds
     mul-e
     shared-slice-read-e
-    sub-sum
+    (λ c. search needs)  -- sub-sum
     add-sum
     add-offer
     offer-requires
@@ -112,6 +103,6 @@ relax-spec =
     shared-slice-read-h
     loop-less
     loop-again
-    same-length
-    same-length-2
+    (λ c. omega arith)  -- same-length
+    (λ c. omega arith)  -- same-length-2
     returns)

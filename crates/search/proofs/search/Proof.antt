@@ -37,19 +37,10 @@ loop-holds c =
       λ sub g. begun-searching sub _ _ _ _ g _ _ _ _ (p .1 .1 .1) b,
     )
 
-add-loop : tie.Need-add-loop Inv-loop μ-loop
-add-loop c = omega arith
-
 turn-requires : tie.Need-turn-requires Inv-loop μ-loop
 turn-requires c κs =
     let entry : tie.Start Inv-loop μ-loop = search in
     let p = entry .pre in (p .0, (p .1 .0, c .before .before .before .loop .inv .2))
-
-same-length : tie.Need-same-length Inv-loop μ-loop
-same-length c = omega arith
-
-same-length-2 : tie.Need-same-length-2 Inv-loop μ-loop
-same-length-2 c = omega arith
 
 returns : tie.Need-returns Inv-loop μ-loop
 returns c =
@@ -60,12 +51,6 @@ returns c =
     λ sub g. turned-none sub _ _ _ _ g _ _ _ _ _ _ _ _ (at-loop .loop .inv .2) (omega (arith, entry .pre .1 .1 .0 .few))
     (at-loop .loop .inv .5 sub g) (after-turn .turn .ensures) (omega arith) (omega arith)
 
-same-length-3 : tie.Need-same-length-3 Inv-loop μ-loop
-same-length-3 c = omega arith
-
-same-length-4 : tie.Need-same-length-4 Inv-loop μ-loop
-same-length-4 c = omega arith
-
 returns-2 : tie.Need-returns-2 Inv-loop μ-loop
 returns-2 c =
     let after-turn : tie.After-turn Inv-loop μ-loop = search in
@@ -74,12 +59,6 @@ returns-2 c =
     let entry : tie.Start Inv-loop μ-loop = search in
     λ sub g. turned-found sub _ _ _ _ g _ _ _ _ _ _ _ _ (at-loop .loop .inv .2) (omega (arith, entry .pre .1 .1 .0 .few))
     (at-loop .loop .inv .5 sub g) (after-turn .turn .ensures) (λ e. omega arith) (omega arith) (omega arith)
-
-add-k : tie.Need-add-k Inv-loop μ-loop
-add-k c = omega arith
-
-loop-less : tie.Need-loop-less Inv-loop μ-loop
-loop-less c = omega arith
 
 loop-again : tie.Need-loop-again Inv-loop μ-loop
 loop-again c =
@@ -96,12 +75,6 @@ loop-again c =
           (at-loop .loop .inv .5 sub g) (after-turn .turn .ensures) (λ e. omega arith) (λ e. omega arith),
     )
 
-same-length-5 : tie.Need-same-length-5 Inv-loop μ-loop
-same-length-5 c = omega arith
-
-same-length-6 : tie.Need-same-length-6 Inv-loop μ-loop
-same-length-6 c = omega arith
-
 returns-3 : tie.Need-returns-3 Inv-loop μ-loop
 returns-3 c = λ sub g. search-end sub _ _ _ _ g _ _ _ _ _ (c .before .loop .inv .5 sub g) (omega arith) refl
 
@@ -113,17 +86,17 @@ search-spec =
     μ-loop
     begin-requires
     loop-holds
-    add-loop
+    (λ c. omega arith)  -- add-loop
     turn-requires
-    same-length
-    same-length-2
+    (λ c. omega arith)  -- same-length
+    (λ c. omega arith)  -- same-length-2
     returns
-    same-length-3
-    same-length-4
+    (λ c. omega arith)  -- same-length-3
+    (λ c. omega arith)  -- same-length-4
     returns-2
-    add-k
-    loop-less
+    (λ c. omega arith)  -- add-k
+    (λ c. omega arith)  -- loop-less
     loop-again
-    same-length-5
-    same-length-6
+    (λ c. omega arith)  -- same-length-5
+    (λ c. omega arith)  -- same-length-6
     returns-3)

@@ -9,17 +9,8 @@ use borrow.Author.Needs.{needs}
 use Rattle.search.proofs.turn.Statement.{statement}
 use Rattle.search.proofs.turn.Tie as tie
 
-slice-read-key : tie.Need-slice-read-key
-slice-read-key c = search needs
-
 returns : tie.Need-returns
 returns c = nothing refl (omega arith) refl refl
-
-mul-m : tie.Need-mul-m
-mul-m c = search needs
-
-shared-slice-read-m : tie.Need-shared-slice-read-m
-shared-slice-read-m c = search needs
 
 returns-2 : tie.Need-returns-2
 returns-2 c = found refl (omega arith) (omega arith) refl refl
@@ -30,18 +21,12 @@ close-requires c κs =
     let p = entry .pre in
     (p .1 .1 .heap, p .0 .mark-ok (getD (entry .args .seg .now) 1 0 % halves) (omega arith))
 
-mul-relax : tie.Need-mul-relax
-mul-relax c = search needs
-
 shared-slice-read-relax : tie.Need-shared-slice-read-relax
 shared-slice-read-relax c =
     let entry : tie.Start = search in
     let p = entry .pre in
     let ok = p .0 .mark-ok (getD (entry .args .seg .now) 1 0 % halves) (omega arith) in
     omega (arith, ok, p .1 .0 .heads)
-
-sub-relax : tie.Need-sub-relax
-sub-relax c = search needs
 
 relax-requires : tie.Need-relax-requires
 relax-requires c κs =
@@ -50,12 +35,6 @@ relax-requires c κs =
     let p = entry .pre in
     let ok = p .0 .mark-ok (getD (entry .args .seg .now) 1 0 % halves) (omega arith) in
     (p .0, (p .1 .0 .chained _ ok, (stage-close _ _ _ _ _ (p .1 .1) ok (after-close .close .ensures), omega arith)))
-
-same-length : tie.Need-same-length
-same-length c = search needs
-
-same-length-2 : tie.Need-same-length-2
-same-length-2 c = search needs
 
 returns-3 : tie.Need-returns-3
 returns-3 c =
@@ -67,16 +46,16 @@ pub turn-spec : {M : Type 1} → statement M
 turn-spec =
     tie.close
     (tie.spec
-    slice-read-key
+    (λ c. search needs)  -- slice-read-key
     returns
-    mul-m
-    shared-slice-read-m
+    (λ c. search needs)  -- mul-m
+    (λ c. search needs)  -- shared-slice-read-m
     returns-2
     close-requires
-    mul-relax
+    (λ c. search needs)  -- mul-relax
     shared-slice-read-relax
-    sub-relax
+    (λ c. search needs)  -- sub-relax
     relax-requires
-    same-length
-    same-length-2
+    (λ c. search needs)  -- same-length
+    (λ c. search needs)  -- same-length-2
     returns-3)

@@ -22,21 +22,6 @@ from-read c =
     let s = c .before .before .before in
     c .index2 .ensures ∙ rw (back (fromAt (s .args .lines .now) (placeOf (s .args .h))) (c .before .index-arg2 .given))
 
-sub-at : tie.Need-sub-at
-sub-at c = search needs
-
-mul-at : tie.Need-mul-at
-mul-at c = search needs
-
-add-index : tie.Need-add-index
-add-index c = search needs
-
-mul-index : tie.Need-mul-index
-mul-index c = search needs
-
-shared-slice-copy-out-index : tie.Need-shared-slice-copy-out-index
-shared-slice-copy-out-index c = search needs
-
 index-requires : tie.Need-index-requires
 index-requires c κs =
     let s = c .before .before in
@@ -44,15 +29,6 @@ index-requires c κs =
 
 sub-result : tie.Need-sub-result
 sub-result c = omega (arith, to-read c, c .before .before .before .pre .place .good .to .low)
-
-add-index-2 : tie.Need-add-index-2
-add-index-2 c = search needs
-
-mul-index-2 : tie.Need-mul-index-2
-mul-index-2 c = search needs
-
-shared-slice-copy-out-index-2 : tie.Need-shared-slice-copy-out-index-2
-shared-slice-copy-out-index-2 c = search needs
 
 index-requires-2 : tie.Need-index-requires-2
 index-requires-2 c κs =
@@ -82,16 +58,16 @@ pub other-of-spec : {M : Type 1} → statement M
 other-of-spec =
     tie.close
     (tie.spec
-    sub-at
-    mul-at
-    add-index
-    mul-index
-    shared-slice-copy-out-index
+    (λ c. search needs)  -- sub-at
+    (λ c. search needs)  -- mul-at
+    (λ c. search needs)  -- add-index
+    (λ c. search needs)  -- mul-index
+    (λ c. search needs)  -- shared-slice-copy-out-index
     index-requires
     sub-result
-    add-index-2
-    mul-index-2
-    shared-slice-copy-out-index-2
+    (λ c. search needs)  -- add-index-2
+    (λ c. search needs)  -- mul-index-2
+    (λ c. search needs)  -- shared-slice-copy-out-index-2
     index-requires-2
     sub-result-2
     returns

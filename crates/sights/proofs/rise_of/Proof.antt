@@ -19,21 +19,6 @@ use Rattle.sights.proofs.rise_of.Tie as tie
 difference-read : (s : tie.Start) → toZ w64 (ofZ w64 (differenceAt (s .args .lines .now) (placeOf (s .args .h)))) ≡ differenceAt (s .args .lines .now) (placeOf (s .args .h))
 difference-read s = read (differenceAt (s .args .lines .now) (placeOf (s .args .h))) mostDifference (s .pre .place .good .difference) (omega arith)
 
-sub-d : tie.Need-sub-d
-sub-d c = search needs
-
-mul-d : tie.Need-mul-d
-mul-d c = search needs
-
-add-d : tie.Need-add-d
-add-d c = search needs
-
-mul-d-2 : tie.Need-mul-d-2
-mul-d-2 c = search needs
-
-shared-slice-copy-out-d : tie.Need-shared-slice-copy-out-d
-shared-slice-copy-out-d c = search needs
-
 sub-requires : tie.Need-sub-requires
 sub-requires c κs = let s = c .before .before in rw (difference-read s) (omega (arith, s .pre .place .good .difference))
 
@@ -55,4 +40,4 @@ returns-2 c =
 
 pub rise-of-spec : {M : Type 1} → statement M
 rise-of-spec =
-    tie.close (tie.spec sub-d mul-d add-d mul-d-2 shared-slice-copy-out-d sub-requires returns returns-2)
+    tie.close (tie.spec (λ c. search needs) (λ c. search needs) (λ c. search needs) (λ c. search needs) (λ c. search needs) sub-requires returns returns-2)

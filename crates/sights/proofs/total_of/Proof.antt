@@ -29,9 +29,6 @@ add-sum c = let s = c .before .before .before in omega (arith, s .pre .span .few
 add-j : tie.Need-add-j Inv-loop μ-loop
 add-j c = let s = c .before .before .before in omega (arith, s .pre .long)
 
-loop-less : tie.Need-loop-less Inv-loop μ-loop
-loop-less c = search needs
-
 loop-again : tie.Need-loop-again Inv-loop μ-loop
 loop-again c =
     let s = c .before .before .before in
@@ -57,6 +54,6 @@ total-of-spec =
     shared-slice-read-sum
     add-sum
     add-j
-    loop-less
+    (λ c. search needs)  -- loop-less
     loop-again
     returns)

@@ -15,21 +15,6 @@ use Rattle.sights.proofs.weight_of.Tie as tie
 length-read : (c : tie.After-index) → (let s = c .before .before in c .index .result ≡ natAbs (lengthAt (s .args .lines .now) (placeOf (s .args .h))))
 length-read c = let s = c .before .before in c .index .ensures ∙ rw (back (lengthAt (s .args .lines .now) (placeOf (s .args .h))) (c .before .index-arg .given))
 
-sub-index : tie.Need-sub-index
-sub-index c = search needs
-
-mul-index : tie.Need-mul-index
-mul-index c = search needs
-
-add-index : tie.Need-add-index
-add-index c = search needs
-
-mul-index-2 : tie.Need-mul-index-2
-mul-index-2 c = search needs
-
-shared-slice-copy-out-index : tie.Need-shared-slice-copy-out-index
-shared-slice-copy-out-index c = search needs
-
 index-requires : tie.Need-index-requires
 index-requires c κs = let s = c .before in rw (back (lengthAt (s .args .lines .now) (placeOf (s .args .h))) (c .index-arg .given)) (not-negative (s .pre .place .good .long))
 
@@ -47,11 +32,11 @@ pub weight-of-spec : {M : Type 1} → statement M
 weight-of-spec =
     tie.close
     (tie.spec
-    sub-index
-    mul-index
-    add-index
-    mul-index-2
-    shared-slice-copy-out-index
+    (λ c. search needs)  -- sub-index
+    (λ c. search needs)  -- mul-index
+    (λ c. search needs)  -- add-index
+    (λ c. search needs)  -- mul-index-2
+    (λ c. search needs)  -- shared-slice-copy-out-index
     index-requires
     weight-requires
     returns)

@@ -30,9 +30,6 @@ turn : (c : tie.In-loop Inv-loop μ-loop) →
     (l .loop .weight) (s .args .b) (s .args .a) (l .loop .c) (l .loop .h) (sightsOf (standing (s .args .lines .now)) (s .args .m)))
 turn c = turn-of (c .before .loop .inv .3) (c .loop-test .taken)
 
-mul-h : tie.Need-mul-h Inv-loop μ-loop
-mul-h c = search needs
-
 shared-slice-read-h : tie.Need-shared-slice-read-h Inv-loop μ-loop
 shared-slice-read-h c =
     let s : tie.Start Inv-loop μ-loop = search in
@@ -116,7 +113,7 @@ write-chain-spec =
     (tie.spec
     Inv-loop
     μ-loop
-    mul-h
+    (λ c. search needs)  -- mul-h
     shared-slice-read-h
     loop-holds
     write-half-requires

@@ -10,42 +10,6 @@ use borrow.Author.Needs.{needs}
 use Rattle.sights.proofs.write_half.Statement.{statement}
 use Rattle.sights.proofs.write_half.Tie as tie
 
-other-of-requires : tie.Need-other-of-requires
-other-of-requires c κs = search needs
-
-mul-other : tie.Need-mul-other
-mul-other c = search needs
-
-slice-write-other : tie.Need-slice-write-other
-slice-write-other c = search needs
-
-rise-of-requires : tie.Need-rise-of-requires
-rise-of-requires c κs = search needs
-
-mul-t9 : tie.Need-mul-t9
-mul-t9 c = search needs
-
-slice-set-from-rise : tie.Need-slice-set-from-rise
-slice-set-from-rise c = search needs
-
-weight-of-requires : tie.Need-weight-of-requires
-weight-of-requires c κs = search needs
-
-mul-weight : tie.Need-mul-weight
-mul-weight c = search needs
-
-slice-write-weight : tie.Need-slice-write-weight
-slice-write-weight c = search needs
-
-same-length : tie.Need-same-length
-same-length c = search needs
-
-same-length-2 : tie.Need-same-length-2
-same-length-2 c = search needs
-
-same-length-3 : tie.Need-same-length-3
-same-length-3 c = search needs
-
 returns : tie.Need-returns
 returns c =
     let s : tie.Start = search in
@@ -65,16 +29,16 @@ pub write-half-spec : {M : Type 1} → statement M
 write-half-spec =
     tie.close
     (tie.spec
-    other-of-requires
-    mul-other
-    slice-write-other
-    rise-of-requires
-    mul-t9
-    slice-set-from-rise
-    weight-of-requires
-    mul-weight
-    slice-write-weight
-    same-length
-    same-length-2
-    same-length-3
+    (λ c κs. search needs)  -- other-of-requires
+    (λ c. search needs)  -- mul-other
+    (λ c. search needs)  -- slice-write-other
+    (λ c κs. search needs)  -- rise-of-requires
+    (λ c. search needs)  -- mul-t9
+    (λ c. search needs)  -- slice-set-from-rise
+    (λ c κs. search needs)  -- weight-of-requires
+    (λ c. search needs)  -- mul-weight
+    (λ c. search needs)  -- slice-write-weight
+    (λ c. search needs)  -- same-length
+    (λ c. search needs)  -- same-length-2
+    (λ c. search needs)  -- same-length-3
     returns)

@@ -16,15 +16,6 @@ use Rattle.sights.proofs.write_row.Tie as tie
 here : (s : tie.Start) → sightsOf (standing (s .args .lines .now)) (s .args .v + 1) ≡ sightsOf (standing (s .args .lines .now)) (suc (s .args .v))
 here s = ap (sightsOf (standing (s .args .lines .now))) (add-one (s .args .v))
 
-mul-first : tie.Need-mul-first
-mul-first c = search needs
-
-slice-write-first : tie.Need-slice-write-first
-slice-write-first c = search needs
-
-add-write-chain : tie.Need-add-write-chain
-add-write-chain c = search needs
-
 write-chain-requires : tie.Need-write-chain-requires
 write-chain-requires c κs =
     let s : tie.Start = search in
@@ -38,27 +29,6 @@ total-of-requires c κs =
     let w = after-write-chain .write-chain in
     let p = s .pre .1 .1 in
     row-weights _ _ _ _ _ _ _ _ _ (p .1 .0) (p .0) (p .1 .1) _ (here s) _ _ (w .ensures .0) (w .kept .1 .1 .1 .1 .1 .0) (w .ensures .1 .range .weightIn)
-
-mul-total : tie.Need-mul-total
-mul-total c = search needs
-
-slice-write-total : tie.Need-slice-write-total
-slice-write-total c = search needs
-
-same-length : tie.Need-same-length
-same-length c = search needs
-
-same-length-2 : tie.Need-same-length-2
-same-length-2 c = search needs
-
-same-length-3 : tie.Need-same-length-3
-same-length-3 c = search needs
-
-same-length-4 : tie.Need-same-length-4
-same-length-4 c = search needs
-
-same-length-5 : tie.Need-same-length-5
-same-length-5 c = search needs
 
 returns : tie.Need-returns
 returns c =
@@ -76,16 +46,16 @@ pub write-row-spec : {M : Type 1} → statement M
 write-row-spec =
     tie.close
     (tie.spec
-    mul-first
-    slice-write-first
-    add-write-chain
+    (λ c. search needs)  -- mul-first
+    (λ c. search needs)  -- slice-write-first
+    (λ c. search needs)  -- add-write-chain
     write-chain-requires
     total-of-requires
-    mul-total
-    slice-write-total
-    same-length
-    same-length-2
-    same-length-3
-    same-length-4
-    same-length-5
+    (λ c. search needs)  -- mul-total
+    (λ c. search needs)  -- slice-write-total
+    (λ c. search needs)  -- same-length
+    (λ c. search needs)  -- same-length-2
+    (λ c. search needs)  -- same-length-3
+    (λ c. search needs)  -- same-length-4
+    (λ c. search needs)  -- same-length-5
     returns)

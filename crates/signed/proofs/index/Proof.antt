@@ -7,8 +7,5 @@ use Rattle.signed.proofs.index.Tie as tie
 cast-result : tie.Need-cast-result
 cast-result c = rw (toZ-ofZ (c .fits .x)) (nonneg (c .args .x) (c .pre), fits-natAbs tt (c .fits .x))
 
-returns : tie.Need-returns
-returns c = search needs
-
 pub index-spec : {M : Type 1} → statement M
-index-spec = tie.close (tie.spec cast-result returns)
+index-spec = tie.close (tie.spec cast-result (λ c. search needs))

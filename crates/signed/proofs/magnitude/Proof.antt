@@ -37,9 +37,6 @@ add-result c =
     omega arith
 
 -- src/lib.rt:50:43
-index-requires-2 : tie.Need-index-requires-2
-index-requires-2 c κs = search needs
-
 -- src/lib.rt:47:1
 returns : tie.Need-returns
 returns c =
@@ -53,4 +50,4 @@ returns-2 c = rw (toZ-ofZ (c .before .before .fits .x)) at (c .index2 .ensures)
 
 pub magnitude-spec : {M : Type 1} → statement M
 magnitude-spec =
-    tie.close (tie.spec sub-index index-requires add-result index-requires-2 returns returns-2)
+    tie.close (tie.spec sub-index index-requires add-result (λ c κs. search needs) returns returns-2)

@@ -20,43 +20,16 @@ over-read s i = read (getD (s .args .over .now) i (pos 0)) (s .args .k * mostDif
 returns : tie.Need-returns
 returns c = let s = c .before .before in come-root (s .args .lines .now) (s .args .root .now) (s .args .over .now) (s .args .b) (s .args .k) (s .args .m) (s .pre .1 .0) (s .args .j) (c .if1 .taken) (s .pre .1 .1 .0) (s .pre .1 .1 .1)
 
-sub-difference-of : tie.Need-sub-difference-of
-sub-difference-of c = search needs
-
 difference-of-requires : tie.Need-difference-of-requires
 difference-of-requires c κs = let s = c .before .before in place-of (s .args .lines .now) (s .args .b) (s .args .n) (s .args .j - 1) (s .pre .0) (omega (arith, s .pre .1 .1 .2, c .if1 .left))
 
-sub-to-mark : tie.Need-sub-to-mark
-sub-to-mark c = search needs
-
 to-mark-requires : tie.Need-to-mark-requires
 to-mark-requires c κs = let s = c .before .before .before in place-of (s .args .lines .now) (s .args .b) (s .args .n) (s .args .j - 1) (s .pre .0) (omega (arith, s .pre .1 .1 .2, c .before .if1 .left))
-
-sub-from-mark : tie.Need-sub-from-mark
-sub-from-mark c = search needs
 
 from-mark-requires : tie.Need-from-mark-requires
 from-mark-requires c κs =
     let s : tie.Start = search in
     place-of (s .args .lines .now) (s .args .b) (s .args .n) (s .args .j - 1) (s .pre .0) (omega (arith, s .pre .1 .1 .2, c .before .before .before .if1 .left))
-
-sub-t14 : tie.Need-sub-t14
-sub-t14 c = search needs
-
-mul-t15 : tie.Need-mul-t15
-mul-t15 c = search needs
-
-shared-slice-read-t17 : tie.Need-shared-slice-read-t17
-shared-slice-read-t17 c = search needs
-
-sub-add : tie.Need-sub-add
-sub-add c = search needs
-
-mul-add : tie.Need-mul-add
-mul-add c = search needs
-
-shared-slice-copy-out-add : tie.Need-shared-slice-copy-out-add
-shared-slice-copy-out-add c = search needs
 
 add-requires : tie.Need-add-requires
 add-requires c κs =
@@ -76,24 +49,6 @@ returns-2 c =
     let t = after-to-mark .to-mark in
     come-up (s .args .lines .now) (s .args .root .now) (s .args .over .now) (s .args .b) (s .args .k) (s .args .m) (s .pre .1 .0) (s .args .j) (f .result) (d .result) (toZ w64 (ofZ w64 (c .add .result))) (omega (arith, else1 .if1 .left)) (sym (t .ensures .0) ∙ then2 .if2 .taken) (f .ensures .0) (f .ensures .1) (f .ensures .2) (d .ensures .0) (d .ensures .1)
     (stored (c .add .result) (c .add .ok) (c .add .ensures ∙ rw (over-read s (f .result - 1), back (d .result) (d .ok))))
-
-sub-t13 : tie.Need-sub-t13
-sub-t13 c = search needs
-
-mul-t23 : tie.Need-mul-t23
-mul-t23 c = search needs
-
-shared-slice-read-t25 : tie.Need-shared-slice-read-t25
-shared-slice-read-t25 c = search needs
-
-sub-sub : tie.Need-sub-sub
-sub-sub c = search needs
-
-mul-sub : tie.Need-mul-sub
-mul-sub c = search needs
-
-shared-slice-copy-out-sub : tie.Need-shared-slice-copy-out-sub
-shared-slice-copy-out-sub c = search needs
 
 sub-requires : tie.Need-sub-requires
 sub-requires c κs =
@@ -117,25 +72,25 @@ come-in-spec =
     tie.close
     (tie.spec
     returns
-    sub-difference-of
+    (λ c. search needs)  -- sub-difference-of
     difference-of-requires
-    sub-to-mark
+    (λ c. search needs)  -- sub-to-mark
     to-mark-requires
-    sub-from-mark
+    (λ c. search needs)  -- sub-from-mark
     from-mark-requires
-    sub-t14
-    mul-t15
-    shared-slice-read-t17
-    sub-add
-    mul-add
-    shared-slice-copy-out-add
+    (λ c. search needs)  -- sub-t14
+    (λ c. search needs)  -- mul-t15
+    (λ c. search needs)  -- shared-slice-read-t17
+    (λ c. search needs)  -- sub-add
+    (λ c. search needs)  -- mul-add
+    (λ c. search needs)  -- shared-slice-copy-out-add
     add-requires
     returns-2
-    sub-t13
-    mul-t23
-    shared-slice-read-t25
-    sub-sub
-    mul-sub
-    shared-slice-copy-out-sub
+    (λ c. search needs)  -- sub-t13
+    (λ c. search needs)  -- mul-t23
+    (λ c. search needs)  -- shared-slice-read-t25
+    (λ c. search needs)  -- sub-sub
+    (λ c. search needs)  -- mul-sub
+    (λ c. search needs)  -- shared-slice-copy-out-sub
     sub-requires
     returns-3)

@@ -12,12 +12,6 @@ use borrow.Author.Needs.{needs}
 use Rattle.start.proofs.enter.Statement.{statement}
 use Rattle.start.proofs.enter.Tie as tie
 
-mul-m : tie.Need-mul-m
-mul-m c = search needs
-
-shared-slice-read-m : tie.Need-shared-slice-read-m
-shared-slice-read-m c = search needs
-
 mul-j : tie.Need-mul-j
 mul-j c =
     let s : tie.Start = search in
@@ -63,12 +57,6 @@ slice-set-from-its-over c =
     let s : tie.Start = search in
     let g = s .pre .1 .0 .marks (s .args .k) (s .pre .1 .1 .1 .0) in omega (arith, g .0, g .1, s .pre .1 .1 .0 .spotted .overs)
 
-same-length : tie.Need-same-length
-same-length c = search needs
-
-same-length-2 : tie.Need-same-length-2
-same-length-2 c = search needs
-
 returns : tie.Need-returns
 returns c =
     let s : tie.Start = search in
@@ -82,8 +70,8 @@ pub enter-spec : {M : Type 1} → statement M
 enter-spec =
     tie.close
     (tie.spec
-    mul-m
-    shared-slice-read-m
+    (λ c. search needs)  -- mul-m
+    (λ c. search needs)  -- shared-slice-read-m
     mul-j
     shared-slice-read-j
     come-in-requires
@@ -93,6 +81,6 @@ enter-spec =
     sub-its-over
     mul-its-over
     slice-set-from-its-over
-    same-length
-    same-length-2
+    (λ c. search needs)  -- same-length
+    (λ c. search needs)  -- same-length-2
     returns)

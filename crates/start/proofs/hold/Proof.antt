@@ -17,32 +17,11 @@ use Rattle.start.proofs.hold.Tie as tie
 mark-read : (c : tie.After-index) → (let s = c .before .before .before in c .index .result ≡ natAbs (markAt (s .args .held .now) (s .args .i)))
 mark-read c = let s = c .before .before .before in c .index .ensures ∙ rw (back (markAt (s .args .held .now) (s .args .i)) (c .before .index-arg .given))
 
-mul-at : tie.Need-mul-at
-mul-at c = search needs
-
-add-index : tie.Need-add-index
-add-index c = search needs
-
-mul-index : tie.Need-mul-index
-mul-index c = search needs
-
-shared-slice-copy-out-index : tie.Need-shared-slice-copy-out-index
-shared-slice-copy-out-index c = search needs
-
 index-requires : tie.Need-index-requires
 index-requires c κs = let s = c .before .before in rw (back (markAt (s .args .held .now) (s .args .i)) (c .index-arg .given)) (not-negative (s .pre .0 .good .mark))
 
 sub-v : tie.Need-sub-v
 sub-v c = omega (arith, mark-read c, c .before .before .before .pre .0 .good .mark .low)
-
-add-z : tie.Need-add-z
-add-z c = search needs
-
-mul-z : tie.Need-mul-z
-mul-z c = search needs
-
-shared-slice-copy-out-z : tie.Need-shared-slice-copy-out-z
-shared-slice-copy-out-z c = search needs
 
 slice-write-flags : tie.Need-slice-write-flags
 slice-write-flags c =
@@ -59,12 +38,6 @@ slice-set-from-z c =
     let s : tie.Start = search in
     omega (arith, mark-read (c .before), s .pre .0 .good .mark .low, s .pre .0 .good .mark .high, s .pre .1 .heighted)
 
-same-length : tie.Need-same-length
-same-length c = search needs
-
-same-length-2 : tie.Need-same-length-2
-same-length-2 c = search needs
-
 returns : tie.Need-returns
 returns c =
     let s : tie.Start = search in
@@ -75,18 +48,18 @@ pub hold-spec : {M : Type 1} → statement M
 hold-spec =
     tie.close
     (tie.spec
-    mul-at
-    add-index
-    mul-index
-    shared-slice-copy-out-index
+    (λ c. search needs)  -- mul-at
+    (λ c. search needs)  -- add-index
+    (λ c. search needs)  -- mul-index
+    (λ c. search needs)  -- shared-slice-copy-out-index
     index-requires
     sub-v
-    add-z
-    mul-z
-    shared-slice-copy-out-z
+    (λ c. search needs)  -- add-z
+    (λ c. search needs)  -- mul-z
+    (λ c. search needs)  -- shared-slice-copy-out-z
     slice-write-flags
     mul-z-2
     slice-set-from-z
-    same-length
-    same-length-2
+    (λ c. search needs)  -- same-length
+    (λ c. search needs)  -- same-length-2
     returns)

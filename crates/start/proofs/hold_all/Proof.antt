@@ -18,9 +18,6 @@ abbrev μ-loop : tie.MeasureT-loop
 loop-holds : tie.Need-loop-holds Inv-loop μ-loop
 loop-holds c = let s = c .before in let k = s .pre .1 in (search needs, refl, refl, held-none _ _ _ _ _ (s .pre .0) (k .flagged) (k .heighted) (k .none) (k .zero))
 
-sub-i : tie.Need-sub-i Inv-loop μ-loop
-sub-i c = search needs
-
 hold-requires : tie.Need-hold-requires Inv-loop μ-loop
 hold-requires c κs =
     let s : tie.Start Inv-loop μ-loop = search in
@@ -58,7 +55,7 @@ hold-all-spec =
     Inv-loop
     μ-loop
     loop-holds
-    sub-i
+    (λ c. search needs)  -- sub-i
     hold-requires
     loop-less
     loop-again

@@ -19,31 +19,10 @@ own-read s = read (getD (s .args .own .now) (s .args .v) (pos 0)) mostHeldHeight
 over-read : (s : tie.Start) → toZ w64 (ofZ w64 (getD (s .args .over .now) (s .args .v) (pos 0))) ≡ getD (s .args .over .now) (s .args .v) (pos 0)
 over-read s = read (getD (s .args .over .now) (s .args .v) (pos 0)) (mostMarks * mostDifference) (omega (arith, s .pre .1 .0 .spotted .size (s .args .v), s .pre .1 .0 .held .few)) (omega arith)
 
-shared-slice-read-if1 : tie.Need-shared-slice-read-if1
-shared-slice-read-if1 c = search needs
-
-mul-r : tie.Need-mul-r
-mul-r c = search needs
-
-shared-slice-read-r : tie.Need-shared-slice-read-r
-shared-slice-read-r c = search needs
-
 sub-r : tie.Need-sub-r
 sub-r c =
     let s : tie.Start = search in
     s .pre .1 .0 .spotted .marks (s .args .v) (s .pre .0) .0
-
-mul-sub : tie.Need-mul-sub
-mul-sub c = search needs
-
-shared-slice-copy-out-sub : tie.Need-shared-slice-copy-out-sub
-shared-slice-copy-out-sub c = search needs
-
-mul-sub-2 : tie.Need-mul-sub-2
-mul-sub-2 c = search needs
-
-shared-slice-copy-out-sub-2 : tie.Need-shared-slice-copy-out-sub-2
-shared-slice-copy-out-sub-2 c = search needs
 
 sub-requires : tie.Need-sub-requires
 sub-requires c κs =
@@ -65,12 +44,6 @@ slice-set-from-z c =
     let s : tie.Start = search in
     omega (arith, s .pre .1 .0 .spotted .marks (s .args .v) (s .pre .0) .0, s .pre .1 .0 .spotted .marks (s .args .v) (s .pre .0) .1, s .pre .1 .1 .heighted)
 
-same-length : tie.Need-same-length
-same-length c = search needs
-
-same-length-2 : tie.Need-same-length-2
-same-length-2 c = search needs
-
 returns : tie.Need-returns
 returns c =
     let then1 : tie.Then1 = search in
@@ -86,19 +59,19 @@ pub lift-spec : {M : Type 1} → statement M
 lift-spec =
     tie.close
     (tie.spec
-    shared-slice-read-if1
-    mul-r
-    shared-slice-read-r
+    (λ c. search needs)  -- shared-slice-read-if1
+    (λ c. search needs)  -- mul-r
+    (λ c. search needs)  -- shared-slice-read-r
     sub-r
-    mul-sub
-    shared-slice-copy-out-sub
-    mul-sub-2
-    shared-slice-copy-out-sub-2
+    (λ c. search needs)  -- mul-sub
+    (λ c. search needs)  -- shared-slice-copy-out-sub
+    (λ c. search needs)  -- mul-sub-2
+    (λ c. search needs)  -- shared-slice-copy-out-sub-2
     sub-requires
     slice-write-has
     mul-z
     slice-set-from-z
-    same-length
-    same-length-2
+    (λ c. search needs)  -- same-length
+    (λ c. search needs)  -- same-length-2
     returns
     returns-2)

@@ -16,9 +16,6 @@ abbrev μ-loop : tie.MeasureT-loop
 loop-holds : tie.Need-loop-holds Inv-loop μ-loop
 loop-holds c = let s = c .before .before .before in (search needs, refl, refl, s .pre .1)
 
-sub-v : tie.Need-sub-v Inv-loop μ-loop
-sub-v c = search needs
-
 lift-requires : tie.Need-lift-requires Inv-loop μ-loop
 lift-requires c κs =
     let s : tie.Start Inv-loop μ-loop = search in
@@ -60,7 +57,7 @@ lift-all-spec =
     Inv-loop
     μ-loop
     loop-holds
-    sub-v
+    (λ c. search needs)  -- sub-v
     lift-requires
     loop-less
     loop-again

@@ -4,9 +4,6 @@ use Rattle.start.proofs.Coming.{entered-none}
 use Rattle.start.proofs.place_and_raise.Statement.{statement}
 use Rattle.start.proofs.place_and_raise.Tie as tie
 
-seed-requires : tie.Need-seed-requires
-seed-requires c κs = search needs
-
 place-all-requires : tie.Need-place-all-requires
 place-all-requires c κs =
     let after-seed : tie.After-seed = search in
@@ -14,18 +11,6 @@ place-all-requires c κs =
     let r = after-seed .seed in
     let k = s .pre .1 .1 .1 .0 in
     (s .pre .0, (s .pre .1 .0, (entered-none _ _ _ _ _ _ (r .kept .0 ∙ k .roots) (k .overs) (r .ensures .each) (k .zero), s .pre .1 .1 .0 .few)))
-
-raise-requires : tie.Need-raise-requires
-raise-requires c κs = search needs
-
-same-length : tie.Need-same-length
-same-length c = search needs
-
-same-length-2 : tie.Need-same-length-2
-same-length-2 c = search needs
-
-same-length-3 : tie.Need-same-length-3
-same-length-3 c = search needs
 
 returns : tie.Need-returns
 returns c =
@@ -37,10 +22,10 @@ pub place-and-raise-spec : {M : Type 1} → statement M
 place-and-raise-spec =
     tie.close
     (tie.spec
-    seed-requires
+    (λ c κs. search needs)  -- seed-requires
     place-all-requires
-    raise-requires
-    same-length
-    same-length-2
-    same-length-3
+    (λ c κs. search needs)  -- raise-requires
+    (λ c. search needs)  -- same-length
+    (λ c. search needs)  -- same-length-2
+    (λ c. search needs)  -- same-length-3
     returns)

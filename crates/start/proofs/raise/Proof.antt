@@ -6,16 +6,10 @@ use Rattle.start.proofs.Zeros.{so-many, blank}
 use Rattle.start.proofs.raise.Statement.{statement}
 use Rattle.start.proofs.raise.Tie as tie
 
-array-borrow-prefix-has : tie.Need-array-borrow-prefix-has
-array-borrow-prefix-has c = search needs
-
 slice-aggregate-raise-in : tie.Need-slice-aggregate-raise-in
 slice-aggregate-raise-in c =
     let s : tie.Start = search in
     sym (so-many false (s .args .b) 256 (s .pre .0 .held .few))
-
-array-borrow-prefix-base : tie.Need-array-borrow-prefix-base
-array-borrow-prefix-base c = search needs
 
 slice-aggregate-raise-in-2 : tie.Need-slice-aggregate-raise-in-2
 slice-aggregate-raise-in-2 c =
@@ -27,20 +21,14 @@ raise-in-requires c κs =
     let s : tie.Start = search in
     (s .pre .0, (blank (s .args .b) 256 (s .pre .0 .held .few), s .pre .1))
 
-same-length : tie.Need-same-length
-same-length c = search needs
-
-returns : tie.Need-returns
-returns c = search needs
-
 pub raise-spec : {M : Type 1} → statement M
 raise-spec =
     tie.close
     (tie.spec
-    array-borrow-prefix-has
+    (λ c. search needs)  -- array-borrow-prefix-has
     slice-aggregate-raise-in
-    array-borrow-prefix-base
+    (λ c. search needs)  -- array-borrow-prefix-base
     slice-aggregate-raise-in-2
     raise-in-requires
-    same-length
-    returns)
+    (λ c. search needs)  -- same-length
+    (λ c. search needs))  -- returns

@@ -11,15 +11,6 @@ lift-all-requires c κs =
     let s : tie.Start = search in
     (s .pre .0, lift-none (s .args .flags .now) (s .args .own .now) (s .args .root .now) (s .args .over .now) (s .args .has .now) (s .args .base .now) (s .args .b) (s .pre .1 .0))
 
-first-unheld-requires : tie.Need-first-unheld-requires
-first-unheld-requires c κs = search needs
-
-same-length : tie.Need-same-length
-same-length c = search needs
-
-same-length-2 : tie.Need-same-length-2
-same-length-2 c = search needs
-
 returns : tie.Need-returns
 returns c =
     let after-lift-all : tie.After-lift-all = search in
@@ -28,18 +19,6 @@ returns c =
     let m = c .before .first-unheld in
     λ at p held g.
     (m .ensures ∙ unheld-is (s .args .b) at held (s .args .flags .now) (s .args .own .now) (s .args .root .now) (s .args .over .now) (l .last .1 .1 .1 .1 .0) (l .last .1 .1 .1 .1 .1 .0) p g (l .ensures), λ z. absurd (omega (arith, c .if1 .taken)), s .pre .1 .1)
-
-begin-requires : tie.Need-begin-requires
-begin-requires c κs = search needs
-
-same-length-3 : tie.Need-same-length-3
-same-length-3 c = search needs
-
-same-length-4 : tie.Need-same-length-4
-same-length-4 c = search needs
-
-same-length-5 : tie.Need-same-length-5
-same-length-5 c = search needs
 
 returns-2 : tie.Need-returns-2
 returns-2 c =
@@ -62,12 +41,12 @@ raise-in-spec =
     tie.close
     (tie.spec
     lift-all-requires
-    first-unheld-requires
-    same-length
-    same-length-2
+    (λ c κs. search needs)  -- first-unheld-requires
+    (λ c. search needs)  -- same-length
+    (λ c. search needs)  -- same-length-2
     returns
-    begin-requires
-    same-length-3
-    same-length-4
-    same-length-5
+    (λ c κs. search needs)  -- begin-requires
+    (λ c. search needs)  -- same-length-3
+    (λ c. search needs)  -- same-length-4
+    (λ c. search needs)  -- same-length-5
     returns-2)

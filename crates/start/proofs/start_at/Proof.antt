@@ -22,12 +22,6 @@ over-read s = read (getD (s .args .over .now) (s .args .v) (pos 0)) (mostMarks *
 base-read : (s : tie.Start) (i : ℕ) → toZ w64 (ofZ w64 (getD (s .args .base .now) i (pos 0))) ≡ getD (s .args .base .now) i (pos 0)
 base-read s i = read (getD (s .args .base .now) i (pos 0)) mostRoot (s .pre .1 .1 .size i) (omega arith)
 
-mul-add : tie.Need-mul-add
-mul-add c = search needs
-
-shared-slice-read-add : tie.Need-shared-slice-read-add
-shared-slice-read-add c = search needs
-
 sub-add : tie.Need-sub-add
 sub-add c =
     let s : tie.Start = search in
@@ -43,28 +37,10 @@ shared-slice-copy-out-add c =
     let s : tie.Start = search in
     omega (arith, s .pre .1 .0 .spotted .marks (s .args .v) (s .pre .0) .0, s .pre .1 .0 .spotted .marks (s .args .v) (s .pre .0) .1, s .pre .1 .1 .all)
 
-mul-add-3 : tie.Need-mul-add-3
-mul-add-3 c = search needs
-
-shared-slice-copy-out-add-2 : tie.Need-shared-slice-copy-out-add-2
-shared-slice-copy-out-add-2 c = search needs
-
 add-requires : tie.Need-add-requires
 add-requires c κs =
     let s : tie.Start = search in
     let r = getD (s .args .root .now) (s .args .v) 0 - 1 in rw (base-read s r, over-read s) (omega (arith, s .pre .1 .1 .size r, s .pre .1 .0 .spotted .size (s .args .v), s .pre .1 .0 .held .few))
-
-shared-slice-read-reset : tie.Need-shared-slice-read-reset
-shared-slice-read-reset c = search needs
-
-mul-reset : tie.Need-mul-reset
-mul-reset c = search needs
-
-shared-slice-copy-out-reset : tie.Need-shared-slice-copy-out-reset
-shared-slice-copy-out-reset c = search needs
-
-reset-requires : tie.Need-reset-requires
-reset-requires c κs = search needs
 
 returns : tie.Need-returns
 unfolding startAt
@@ -80,16 +56,16 @@ pub start-at-spec : {M : Type 1} → statement M
 start-at-spec =
     tie.close
     (tie.spec
-    mul-add
-    shared-slice-read-add
+    (λ c. search needs)  -- mul-add
+    (λ c. search needs)  -- shared-slice-read-add
     sub-add
     mul-add-2
     shared-slice-copy-out-add
-    mul-add-3
-    shared-slice-copy-out-add-2
+    (λ c. search needs)  -- mul-add-3
+    (λ c. search needs)  -- shared-slice-copy-out-add-2
     add-requires
-    shared-slice-read-reset
-    mul-reset
-    shared-slice-copy-out-reset
-    reset-requires
+    (λ c. search needs)  -- shared-slice-read-reset
+    (λ c. search needs)  -- mul-reset
+    (λ c. search needs)  -- shared-slice-copy-out-reset
+    (λ c κs. search needs)  -- reset-requires
     returns)

@@ -5,16 +5,10 @@ use Rattle.start.proofs.Zeros.{so-many, bare}
 use Rattle.start.proofs.start_heights.Statement.{statement}
 use Rattle.start.proofs.start_heights.Tie as tie
 
-array-borrow-prefix-root : tie.Need-array-borrow-prefix-root
-array-borrow-prefix-root c = search needs
-
 slice-aggregate-place-and-raise : tie.Need-slice-aggregate-place-and-raise
 slice-aggregate-place-and-raise c =
     let s : tie.Start = search in
     sym (so-many 0 (s .args .b) 256 (s .pre .1 .1 .0 .few))
-
-array-borrow-prefix-over : tie.Need-array-borrow-prefix-over
-array-borrow-prefix-over c = search needs
 
 slice-aggregate-place-and-raise-2 : tie.Need-slice-aggregate-place-and-raise-2
 slice-aggregate-place-and-raise-2 c =
@@ -27,20 +21,14 @@ place-and-raise-requires c κs =
     let p = s .pre .1 .1 in
     (s .pre .0, (s .pre .1 .0, (p .0, (bare (s .args .b) 256 (p .0 .few), p .1))))
 
-same-length : tie.Need-same-length
-same-length c = search needs
-
-returns : tie.Need-returns
-returns c = search needs
-
 pub start-heights-spec : {M : Type 1} → statement M
 start-heights-spec =
     tie.close
     (tie.spec
-    array-borrow-prefix-root
+    (λ c. search needs)  -- array-borrow-prefix-root
     slice-aggregate-place-and-raise
-    array-borrow-prefix-over
+    (λ c. search needs)  -- array-borrow-prefix-over
     slice-aggregate-place-and-raise-2
     place-and-raise-requires
-    same-length
-    returns)
+    (λ c. search needs)  -- same-length
+    (λ c. search needs))  -- returns

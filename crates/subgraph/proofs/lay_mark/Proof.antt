@@ -14,16 +14,10 @@ join-requires c κs =
     let entry : tie.Start = search in
     (bounded-fits (entry .pre .0) _ (omega arith), entry .pre .1)
 
-same-length : tie.Need-same-length
-same-length c = search needs
-
-same-length-2 : tie.Need-same-length-2
-same-length-2 c = search needs
-
 returns-2 : tie.Need-returns-2
 returns-2 c =
     let after-join : tie.After-join = search in
     joined (λ e. omega arith) refl (after-join .join .ensures)
 
 pub lay-mark-spec : {M : Type 1} → statement M
-lay-mark-spec = tie.close (tie.spec returns join-requires same-length same-length-2 returns-2)
+lay-mark-spec = tie.close (tie.spec returns join-requires (λ c. search needs) (λ c. search needs) returns-2)

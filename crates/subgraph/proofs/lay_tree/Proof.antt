@@ -21,9 +21,6 @@ Inv-loop ends best order head₀ next₀ n count₀ k₀ head next count k =
 abbrev μ-loop : tie.MeasureT-loop
 μ-loop ends best order head₀ next₀ n count₀ k₀ head next count k = n - k
 
-zero-requires : tie.Need-zero-requires Inv-loop μ-loop
-zero-requires c κs = search needs
-
 loop-holds : tie.Need-loop-holds Inv-loop μ-loop
 loop-holds c =
     let entry : tie.Start Inv-loop μ-loop = search in
@@ -36,15 +33,6 @@ loop-holds c =
       λ q lines li ho. lay-start _ _ _ lines li _ _ ho _ _
           (record { heads = omega (arith, p .chains .heads); nexts = p .chains .nexts }) z,
     )
-
-add-loop : tie.Need-add-loop Inv-loop μ-loop
-add-loop c = search needs
-
-mul-lay-mark : tie.Need-mul-lay-mark Inv-loop μ-loop
-mul-lay-mark c = search needs
-
-shared-slice-read-lay-mark : tie.Need-shared-slice-read-lay-mark Inv-loop μ-loop
-shared-slice-read-lay-mark c = search needs
 
 mul-lay-mark-2 : tie.Need-mul-lay-mark-2 Inv-loop μ-loop
 mul-lay-mark-2 c =
@@ -79,12 +67,6 @@ add-count c =
     let at-loop : tie.At-loop Inv-loop μ-loop = search in
     omega (arith, laid-high (after-lay-mark .lay-mark .ensures), at-loop .loop .inv)
 
-add-k : tie.Need-add-k Inv-loop μ-loop
-add-k c = search needs
-
-loop-less : tie.Need-loop-less Inv-loop μ-loop
-loop-less c = search needs
-
 loop-again : tie.Need-loop-again Inv-loop μ-loop
 loop-again c =
     let after-lay-mark : tie.After-lay-mark Inv-loop μ-loop = search in
@@ -104,12 +86,6 @@ loop-again c =
           }) (v .4 q lines li ho) e,
     )
 
-same-length : tie.Need-same-length Inv-loop μ-loop
-same-length c = search needs
-
-same-length-2 : tie.Need-same-length-2 Inv-loop μ-loop
-same-length-2 c = search needs
-
 returns : tie.Need-returns Inv-loop μ-loop
 returns c =
     let entry : tie.Start Inv-loop μ-loop = search in
@@ -122,18 +98,18 @@ lay-tree-spec =
     (tie.spec
     Inv-loop
     μ-loop
-    zero-requires
+    (λ c κs. search needs)  -- zero-requires
     loop-holds
-    add-loop
-    mul-lay-mark
-    shared-slice-read-lay-mark
+    (λ c. search needs)  -- add-loop
+    (λ c. search needs)  -- mul-lay-mark
+    (λ c. search needs)  -- shared-slice-read-lay-mark
     mul-lay-mark-2
     shared-slice-read-lay-mark-2
     lay-mark-requires
     add-count
-    add-k
-    loop-less
+    (λ c. search needs)  -- add-k
+    (λ c. search needs)  -- loop-less
     loop-again
-    same-length
-    same-length-2
+    (λ c. search needs)  -- same-length
+    (λ c. search needs)  -- same-length-2
     returns)

@@ -14,12 +14,6 @@ use borrow.Author.Needs.{needs}
 use Rattle.survey.proofs.rerun.Statement.{statement}
 use Rattle.survey.proofs.rerun.Tie as tie
 
-outside-difference-requires : tie.Need-outside-difference-requires
-outside-difference-requires c κs = search needs
-
-refuse-requires : tie.Need-refuse-requires
-refuse-requires c κs = search needs
-
 -- the flag that the code has is the definition's test
 flag : (c : tie.After-outside-difference) → c .outside-difference .result ≡ differenceOut (c .before .args .difference)
 flag c = c .outside-difference .ensures ∙ search needs
@@ -27,18 +21,6 @@ flag c = c .outside-difference .ensures ∙ search needs
 returns : tie.Need-returns
 unfolding rerunOf
 returns c = rw (← (flag (c .before .before)), c .before .if1 .taken, c .refuse .ensures)
-
-test-requires : tie.Need-test-requires
-test-requires c κs = search needs
-
-enum-known-r : tie.Need-enum-known-r
-enum-known-r c = search needs
-
-refused-requires : tie.Need-refused-requires
-refused-requires c κs = search needs
-
-enum-known-book : tie.Need-enum-known-book
-enum-known-book c = search needs
 
 -- what the test answered, at the numbers that were lent
 tested : (c : tie.After-test) → (let entry : tie.Start = search in let a = entry .args in c .test .result ≡ testOf (lent (a .b) (a .t) (a .held .now) (a .lines .now)))
@@ -58,9 +40,6 @@ rerun-good-requires c κs =
     let a = entry .args in
     (good-lines _ _ (tested-good (lent (a .b) (a .t) (a .held .now) (a .lines .now)) (g .book .given .0 .0) (sym (tested after-test) ∙ g .book .given .1)), rw (toZ-ofZ (entry .fits .difference)) (small else1))
 
-same-length : tie.Need-same-length
-same-length c = search needs
-
 returns-2 : tie.Need-returns-2
 unfolding rerunOf correctOf
 returns-2 c =
@@ -68,12 +47,6 @@ returns-2 c =
     let else1 : tie.Else1 = search in
     let after-outside-difference : tie.After-outside-difference = search in
     rw (← (flag after-outside-difference), else1 .if1 .left, ← (tested after-test), c .before .before .r .given .1, c .refused .ensures)
-
-same-length-2 : tie.Need-same-length-2
-same-length-2 c = search needs
-
-same-length-3 : tie.Need-same-length-3
-same-length-3 c = search needs
 
 returns-3 : tie.Need-returns-3
 unfolding rerunOf correctOf
@@ -89,16 +62,16 @@ pub rerun-spec : {M : Type 1} → statement M
 rerun-spec =
     tie.close
     (tie.spec
-    outside-difference-requires
-    refuse-requires
+    (λ c κs. search needs)  -- outside-difference-requires
+    (λ c κs. search needs)  -- refuse-requires
     returns
-    test-requires
-    enum-known-r
-    refused-requires
-    enum-known-book
+    (λ c κs. search needs)  -- test-requires
+    (λ c. search needs)  -- enum-known-r
+    (λ c κs. search needs)  -- refused-requires
+    (λ c. search needs)  -- enum-known-book
     rerun-good-requires
-    same-length
+    (λ c. search needs)  -- same-length
     returns-2
-    same-length-2
-    same-length-3
+    (λ c. search needs)  -- same-length-2
+    (λ c. search needs)  -- same-length-3
     returns-3)

@@ -8,18 +8,6 @@ use borrow.Author.Needs.{needs}
 use Rattle.survey.proofs.withdraw.Statement.{statement}
 use Rattle.survey.proofs.withdraw.Tie as tie
 
-test-requires : tie.Need-test-requires
-test-requires c κs = search needs
-
-enum-known-r : tie.Need-enum-known-r
-enum-known-r c = search needs
-
-refused-requires : tie.Need-refused-requires
-refused-requires c κs = search needs
-
-enum-known-book : tie.Need-enum-known-book
-enum-known-book c = search needs
-
 -- what the test answered, at the numbers that were lent
 tested : (c : tie.After-test) → (let a = c .before .before .args in c .test .result ≡ testOf (lent (a .b) (a .t) (a .held .now) (a .lines .now)))
 tested c = c .test .ensures ∙ search needs
@@ -32,20 +20,11 @@ withdraw-good-requires c κs =
     let a = entry .args in
     good-lines _ _ (tested-good (lent (a .b) (a .t) (a .held .now) (a .lines .now)) (g .book .given .0 .0) (sym (tested after-test) ∙ g .book .given .1))
 
-same-length : tie.Need-same-length
-same-length c = search needs
-
 returns : tie.Need-returns
 unfolding withdrawOf correctOf
 returns c =
     let after-test : tie.After-test = search in
     rw (← (tested after-test), c .before .before .r .given .1, c .refused .ensures)
-
-same-length-2 : tie.Need-same-length-2
-same-length-2 c = search needs
-
-same-length-3 : tie.Need-same-length-3
-same-length-3 c = search needs
 
 returns-2 : tie.Need-returns-2
 unfolding withdrawOf correctOf
@@ -59,13 +38,13 @@ pub withdraw-spec : {M : Type 1} → statement M
 withdraw-spec =
     tie.close
     (tie.spec
-    test-requires
-    enum-known-r
-    refused-requires
-    enum-known-book
+    (λ c κs. search needs)  -- test-requires
+    (λ c. search needs)  -- enum-known-r
+    (λ c κs. search needs)  -- refused-requires
+    (λ c. search needs)  -- enum-known-book
     withdraw-good-requires
-    same-length
+    (λ c. search needs)  -- same-length
     returns
-    same-length-2
-    same-length-3
+    (λ c. search needs)  -- same-length-2
+    (λ c. search needs)  -- same-length-3
     returns-2)

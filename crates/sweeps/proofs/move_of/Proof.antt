@@ -24,37 +24,10 @@ pull-read c =
 move-read : (c : tie.After-move-by) → (let s : tie.Start = search in toZ w64 (ofZ w64 (c .move-by .result)) ≡ nearest (pullHere (s .args .first .now) (s .args .other .now) (s .args .rise .now) (s .args .weight .now) (s .args .total .now) (s .args .h .now) (s .args .b) (s .args .v) (s .pre .0) (s .pre .1 .0) (s .pre .1 .1)) (getD (s .args .total .now) (s .args .v) 0))
 move-read c = stored (c .move-by .result) (c .move-by .ok) (c .move-by .ensures ∙ rw (pull-read (c .before .before)))
 
-mul-pull-of : tie.Need-mul-pull-of
-mul-pull-of c = search needs
-
-shared-slice-copy-out-pull-of : tie.Need-shared-slice-copy-out-pull-of
-shared-slice-copy-out-pull-of c = search needs
-
-mul-pull-of-2 : tie.Need-mul-pull-of-2
-mul-pull-of-2 c = search needs
-
-shared-slice-read-pull-of : tie.Need-shared-slice-read-pull-of
-shared-slice-read-pull-of c = search needs
-
-add-pull-of : tie.Need-add-pull-of
-add-pull-of c = search needs
-
-mul-pull-of-3 : tie.Need-mul-pull-of-3
-mul-pull-of-3 c = search needs
-
-shared-slice-read-pull-of-2 : tie.Need-shared-slice-read-pull-of-2
-shared-slice-read-pull-of-2 c = search needs
-
 pull-of-requires : tie.Need-pull-of-requires
 pull-of-requires c κs =
     let s : tie.Start = search in
     (s .pre .0 .ends (s .args .v) (s .pre .1 .1), (s .pre .1 .0, (rw (height-read s) (s .pre .1 .0 .inside (s .args .v)), s .pre .0 .span (s .args .v) (s .pre .1 .1))))
-
-mul-move-by : tie.Need-mul-move-by
-mul-move-by c = search needs
-
-shared-slice-read-move-by : tie.Need-shared-slice-read-move-by
-shared-slice-read-move-by c = search needs
 
 move-by-requires : tie.Need-move-by-requires
 move-by-requires c κs =
@@ -71,15 +44,15 @@ pub move-of-spec : {M : Type 1} → statement M
 move-of-spec =
     tie.close
     (tie.spec
-    mul-pull-of
-    shared-slice-copy-out-pull-of
-    mul-pull-of-2
-    shared-slice-read-pull-of
-    add-pull-of
-    mul-pull-of-3
-    shared-slice-read-pull-of-2
+    (λ c. search needs)  -- mul-pull-of
+    (λ c. search needs)  -- shared-slice-copy-out-pull-of
+    (λ c. search needs)  -- mul-pull-of-2
+    (λ c. search needs)  -- shared-slice-read-pull-of
+    (λ c. search needs)  -- add-pull-of
+    (λ c. search needs)  -- mul-pull-of-3
+    (λ c. search needs)  -- shared-slice-read-pull-of-2
     pull-of-requires
-    mul-move-by
-    shared-slice-read-move-by
+    (λ c. search needs)  -- mul-move-by
+    (λ c. search needs)  -- shared-slice-read-move-by
     move-by-requires
     returns)

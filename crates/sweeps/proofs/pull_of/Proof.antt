@@ -53,12 +53,6 @@ term-requires c κs = let s = start-of (c .before) in (shorter (s .pre .0) (sear
 add-requires : tie.Need-add-requires Inv-loop μ-loop
 add-requires c κs = let t = size c in let i = c .before .before .loop .inv in let s = start-of (c .before .before) in let f = s .pre .1 .1 .1 .few in rw (term-read c) (omega arith)
 
-add-j : tie.Need-add-j Inv-loop μ-loop
-add-j c = search needs
-
-loop-less : tie.Need-loop-less Inv-loop μ-loop
-loop-less c = search needs
-
 loop-again : tie.Need-loop-again Inv-loop μ-loop
 loop-again c =
     let l = c .before .before .before in
@@ -90,7 +84,7 @@ pull-of-spec =
     loop-holds
     term-requires
     add-requires
-    add-j
-    loop-less
+    (λ c. search needs)  -- add-j
+    (λ c. search needs)  -- loop-less
     loop-again
     returns)

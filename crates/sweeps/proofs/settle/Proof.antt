@@ -26,12 +26,6 @@ sweep-requires c κs =
     let s : tie.Start Inv-loop μ-loop = search in
     (s .pre .0, (c .before .before .loop .inv .0, s .pre .1 .1))
 
-enum-told : tie.Need-enum-told Inv-loop μ-loop
-enum-told c = search needs
-
-add-t15 : tie.Need-add-t15 Inv-loop μ-loop
-add-t15 c = search needs
-
 same-length : tie.Need-same-length Inv-loop μ-loop
 same-length c =
     let s : tie.Start Inv-loop μ-loop = search in
@@ -46,9 +40,6 @@ returns c =
     let w = c .before .before .before .sweep in
     let gs = w .last .1 .1 .1 .1 .1 .1 .0 in
     left-still (rows (s .args .first .now) (s .args .other .now) (s .args .rise .now) (s .args .weight .now)) (flags (s .args .held .now)) (s .args .b) (l .n) (l .h) (settle (rows (s .args .first .now) (s .args .other .now) (s .args .rise .now) (s .args .weight .now)) (flags (s .args .held .now)) (s .args .b) (s .args .h .now)) (in-loop .loop-test .taken) (l .inv .1) gs (ap (λ (t : Turn). swept t gs) (sym (c .enum-told .given .1)) ∙ w .ensures .0)
-
-enum-known-s : tie.Need-enum-known-s Inv-loop μ-loop
-enum-known-s c = search needs
 
 same-length-2 : tie.Need-same-length-2 Inv-loop μ-loop
 same-length-2 c =
@@ -66,15 +57,6 @@ returns-2 c =
     let w = after-sweep .sweep in
     let gs = w .last .1 .1 .1 .1 .1 .1 .0 in
     left-outside (rows (s .args .first .now) (s .args .other .now) (s .args .rise .now) (s .args .weight .now)) (flags (s .args .held .now)) (s .args .b) (l .n) (l .h) (settle (rows (s .args .first .now) (s .args .other .now) (s .args .rise .now) (s .args .weight .now)) (flags (s .args .held .now)) (s .args .b) (s .args .h .now)) (in-loop .loop-test .taken) (l .inv .1) _ (ap (λ (t : Turn). swept t gs) (sym (c .before .s .given .1)) ∙ w .ensures .0)
-
-enum-told-2 : tie.Need-enum-told-2 Inv-loop μ-loop
-enum-told-2 c = search needs
-
-add-n : tie.Need-add-n Inv-loop μ-loop
-add-n c = search needs
-
-loop-less : tie.Need-loop-less Inv-loop μ-loop
-loop-less c = search needs
 
 loop-again : tie.Need-loop-again Inv-loop μ-loop
 loop-again c =
@@ -107,16 +89,16 @@ settle-spec =
     μ-loop
     loop-holds
     sweep-requires
-    enum-told
-    add-t15
+    (λ c. search needs)  -- enum-told
+    (λ c. search needs)  -- add-t15
     same-length
     returns
-    enum-known-s
+    (λ c. search needs)  -- enum-known-s
     same-length-2
     returns-2
-    enum-told-2
-    add-n
-    loop-less
+    (λ c. search needs)  -- enum-told-2
+    (λ c. search needs)  -- add-n
+    (λ c. search needs)  -- loop-less
     loop-again
     same-length-3
     returns-3)

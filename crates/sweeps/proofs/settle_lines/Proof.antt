@@ -10,47 +10,11 @@ use borrow.Author.Needs.{needs}
 use Rattle.sweeps.proofs.settle_lines.Statement.{statement}
 use Rattle.sweeps.proofs.settle_lines.Tie as tie
 
-slice-aggregate-write-rows : tie.Need-slice-aggregate-write-rows
-slice-aggregate-write-rows c = search needs
-
-slice-aggregate-write-rows-2 : tie.Need-slice-aggregate-write-rows-2
-slice-aggregate-write-rows-2 c = search needs
-
-slice-aggregate-write-rows-3 : tie.Need-slice-aggregate-write-rows-3
-slice-aggregate-write-rows-3 c = search needs
-
-slice-aggregate-write-rows-4 : tie.Need-slice-aggregate-write-rows-4
-slice-aggregate-write-rows-4 c = search needs
-
-slice-aggregate-write-rows-5 : tie.Need-slice-aggregate-write-rows-5
-slice-aggregate-write-rows-5 c = search needs
-
 write-rows-requires : tie.Need-write-rows-requires
 write-rows-requires c κs =
     let s : tie.Start = search in
     let q = s .pre .1 .1 .0 in
     (s .pre .0, (s .pre .1 .0, (range-zeros 1024 _ (q .0), broad-zeros _ _ _ 257 1024 256 (s .pre .0) (omega (arith, q .1)) (q .1) (omega (arith, s .pre .0 .few)))))
-
-slice-aggregate-settle : tie.Need-slice-aggregate-settle
-slice-aggregate-settle c = search needs
-
-slice-aggregate-settle-2 : tie.Need-slice-aggregate-settle-2
-slice-aggregate-settle-2 c = search needs
-
-slice-aggregate-settle-3 : tie.Need-slice-aggregate-settle-3
-slice-aggregate-settle-3 c = search needs
-
-slice-aggregate-settle-4 : tie.Need-slice-aggregate-settle-4
-slice-aggregate-settle-4 c = search needs
-
-slice-aggregate-settle-5 : tie.Need-slice-aggregate-settle-5
-slice-aggregate-settle-5 c = search needs
-
-settle-requires : tie.Need-settle-requires
-settle-requires c κs = search needs
-
-same-length : tie.Need-same-length
-same-length c = search needs
 
 returns : tie.Need-returns
 returns c =
@@ -64,17 +28,17 @@ pub settle-lines-spec : {M : Type 1} → statement M
 settle-lines-spec =
     tie.close
     (tie.spec
-    slice-aggregate-write-rows
-    slice-aggregate-write-rows-2
-    slice-aggregate-write-rows-3
-    slice-aggregate-write-rows-4
-    slice-aggregate-write-rows-5
+    (λ c. search needs)  -- slice-aggregate-write-rows
+    (λ c. search needs)  -- slice-aggregate-write-rows-2
+    (λ c. search needs)  -- slice-aggregate-write-rows-3
+    (λ c. search needs)  -- slice-aggregate-write-rows-4
+    (λ c. search needs)  -- slice-aggregate-write-rows-5
     write-rows-requires
-    slice-aggregate-settle
-    slice-aggregate-settle-2
-    slice-aggregate-settle-3
-    slice-aggregate-settle-4
-    slice-aggregate-settle-5
-    settle-requires
-    same-length
+    (λ c. search needs)  -- slice-aggregate-settle
+    (λ c. search needs)  -- slice-aggregate-settle-2
+    (λ c. search needs)  -- slice-aggregate-settle-3
+    (λ c. search needs)  -- slice-aggregate-settle-4
+    (λ c. search needs)  -- slice-aggregate-settle-5
+    (λ c κs. search needs)  -- settle-requires
+    (λ c. search needs)  -- same-length
     returns)

@@ -31,12 +31,6 @@ take-turn-requires c κs =
     let l = c .before .before .loop in
     (s .pre .0, (l .inv .2, (omega (arith, l .inv .0, c .before .loop-test .taken), s .pre .1 .1)))
 
-sub-left : tie.Need-sub-left Inv-loop μ-loop
-sub-left c = omega arith
-
-loop-less : tie.Need-loop-less Inv-loop μ-loop
-loop-less c = omega arith
-
 loop-again : tie.Need-loop-again Inv-loop μ-loop
 loop-again c =
     let l : tie.At-loop Inv-loop μ-loop = search in
@@ -71,8 +65,8 @@ sweep-spec =
     loop-holds
     sub-take-turn
     take-turn-requires
-    sub-left
-    loop-less
+    (λ c. omega arith)  -- sub-left
+    (λ c. omega arith)  -- loop-less
     loop-again
     same-length
     returns)

@@ -6,30 +6,15 @@ use borrow.Author.Needs.{needs}
 use Rattle.sweeps.proofs.take_turn.Statement.{statement}
 use Rattle.sweeps.proofs.take_turn.Tie as tie
 
-shared-slice-read-if1 : tie.Need-shared-slice-read-if1
-shared-slice-read-if1 c = search needs
-
 returns : tie.Need-returns
 returns c =
     let s : tie.Start = search in
     (turn-held (s .args .held .now) (rows (s .args .first .now) (s .args .other .now) (s .args .rise .now) (s .args .weight .now) (suc (s .args .v))) (s .args .h .now) (s .args .v) (s .args .s) (c .if1 .taken), s .pre .1 .0)
 
-is-outside-requires : tie.Need-is-outside-requires
-is-outside-requires c κs = search needs
-
 returns-2 : tie.Need-returns-2
 returns-2 c =
     let s : tie.Start = search in
     (turn-outside (s .args .held .now) (rows (s .args .first .now) (s .args .other .now) (s .args .rise .now) (s .args .weight .now) (suc (s .args .v))) (s .args .h .now) (s .args .v) (s .args .s) (sym (c .before .is-outside .ensures) ∙ c .if2 .taken), s .pre .1 .0)
-
-visit-requires : tie.Need-visit-requires
-visit-requires c κs = search needs
-
-joined-requires : tie.Need-joined-requires
-joined-requires c κs = search needs
-
-same-length : tie.Need-same-length
-same-length c = search needs
 
 returns-3 : tie.Need-returns-3
 returns-3 c =
@@ -44,11 +29,11 @@ pub take-turn-spec : {M : Type 1} → statement M
 take-turn-spec =
     tie.close
     (tie.spec
-    shared-slice-read-if1
+    (λ c. search needs)  -- shared-slice-read-if1
     returns
-    is-outside-requires
+    (λ c κs. search needs)  -- is-outside-requires
     returns-2
-    visit-requires
-    joined-requires
-    same-length
+    (λ c κs. search needs)  -- visit-requires
+    (λ c κs. search needs)  -- joined-requires
+    (λ c. search needs)  -- same-length
     returns-3)

@@ -72,34 +72,16 @@ count-read c = stored (c .signed-count .result) (c .signed-count .ok) (c .signed
 over-read : (c : tie.After-sub) → toZ w64 (ofZ w64 (c .sub .result)) ≡ rise-over (start-of (c .before .before .before))
 over-read c = stored (c .sub .result) (c .sub .ok) (c .sub .ensures ∙ rw (given-read (c .before .before .before), present-read (start-of (c .before .before .before))))
 
-mul-add : tie.Need-mul-add
-mul-add c = search needs
-
-shared-slice-read-add : tie.Need-shared-slice-read-add
-shared-slice-read-add c = search needs
-
 mul-add-2 : tie.Need-mul-add-2
 mul-add-2 c = let s = c .before .before .before in omega (arith, s .pre .0 .otherIn (s .args .j))
 
 shared-slice-copy-out-add : tie.Need-shared-slice-copy-out-add
 shared-slice-copy-out-add c = let s = c .before .before .before in omega (arith, s .pre .0 .otherIn (s .args .j))
 
-mul-add-3 : tie.Need-mul-add-3
-mul-add-3 c = search needs
-
-shared-slice-copy-out-add-2 : tie.Need-shared-slice-copy-out-add-2
-shared-slice-copy-out-add-2 c = search needs
-
 add-requires : tie.Need-add-requires
 add-requires c κs =
     let s : tie.Start = search in
     let x = height-size s in let r = rise-size s in rw (height-read s, rise-read s) (omega arith)
-
-mul-signed-count : tie.Need-mul-signed-count
-mul-signed-count c = search needs
-
-shared-slice-read-signed-count : tie.Need-shared-slice-read-signed-count
-shared-slice-read-signed-count c = search needs
 
 signed-count-requires : tie.Need-signed-count-requires
 signed-count-requires c κs =
@@ -125,15 +107,15 @@ pub term-spec : {M : Type 1} → statement M
 term-spec =
     tie.close
     (tie.spec
-    mul-add
-    shared-slice-read-add
+    (λ c. search needs)  -- mul-add
+    (λ c. search needs)  -- shared-slice-read-add
     mul-add-2
     shared-slice-copy-out-add
-    mul-add-3
-    shared-slice-copy-out-add-2
+    (λ c. search needs)  -- mul-add-3
+    (λ c. search needs)  -- shared-slice-copy-out-add-2
     add-requires
-    mul-signed-count
-    shared-slice-read-signed-count
+    (λ c. search needs)  -- mul-signed-count
+    (λ c. search needs)  -- shared-slice-read-signed-count
     signed-count-requires
     sub-requires
     mul-requires

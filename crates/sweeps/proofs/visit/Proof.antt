@@ -55,36 +55,12 @@ still-read c =
     let after-move-of : tie.After-move-of = search in
     sym (c .same .ensures ∙ rw (move-read after-move-of))
 
-move-of-requires : tie.Need-move-of-requires
-move-of-requires c κs = search needs
-
-mul-add : tie.Need-mul-add
-mul-add c = search needs
-
-slice-copy-out-add : tie.Need-slice-copy-out-add
-slice-copy-out-add c = search needs
-
 add-requires : tie.Need-add-requires
 add-requires c κs =
     let s : tie.Start = search in
     let h = s .pre .1 .0 .inside (s .args .v) in
     let m = c .before .move-of .ensures .1 in
     rw (height-read s, move-read (c .before)) (omega arith)
-
-in-work-requires : tie.Need-in-work-requires
-in-work-requires c κs = search needs
-
-enum-known-made : tie.Need-enum-known-made
-enum-known-made c = search needs
-
-enum-told : tie.Need-enum-told
-enum-told c = search needs
-
-add-t19 : tie.Need-add-t19
-add-t19 c = search needs
-
-same-length : tie.Need-same-length
-same-length c = search needs
 
 returns : tie.Need-returns
 returns c =
@@ -96,18 +72,6 @@ returns c =
       s .pre .1 .0,
     )
 
-mul-z : tie.Need-mul-z
-mul-z c = search needs
-
-slice-set-from-z : tie.Need-slice-set-from-z
-slice-set-from-z c = search needs
-
-same-requires : tie.Need-same-requires
-same-requires c κs = search needs
-
-same-length-2 : tie.Need-same-length-2
-same-length-2 c = search needs
-
 returns-2 : tie.Need-returns-2
 returns-2 c =
     let told : tie.After-struct-told = search in
@@ -118,9 +82,6 @@ returns-2 c =
           (height-inside told) (still-read (c .before) ∙ c .if1 .taken),
       working-set (s .args .h .now) (s .args .b) (s .args .v) (height-of told) (s .pre .1 .0) (height-inside told),
     )
-
-same-length-3 : tie.Need-same-length-3
-same-length-3 c = search needs
 
 returns-3 : tie.Need-returns-3
 returns-3 c =
@@ -137,20 +98,20 @@ pub visit-spec : {M : Type 1} → statement M
 visit-spec =
     tie.close
     (tie.spec
-    move-of-requires
-    mul-add
-    slice-copy-out-add
+    (λ c κs. search needs)  -- move-of-requires
+    (λ c. search needs)  -- mul-add
+    (λ c. search needs)  -- slice-copy-out-add
     add-requires
-    in-work-requires
-    enum-known-made
-    enum-told
-    add-t19
-    same-length
+    (λ c κs. search needs)  -- in-work-requires
+    (λ c. search needs)  -- enum-known-made
+    (λ c. search needs)  -- enum-told
+    (λ c. search needs)  -- add-t19
+    (λ c. search needs)  -- same-length
     returns
-    mul-z
-    slice-set-from-z
-    same-requires
-    same-length-2
+    (λ c. search needs)  -- mul-z
+    (λ c. search needs)  -- slice-set-from-z
+    (λ c κs. search needs)  -- same-requires
+    (λ c. search needs)  -- same-length-2
     returns-2
-    same-length-3
+    (λ c. search needs)  -- same-length-3
     returns-3)

@@ -134,9 +134,6 @@ part-take-loop-start c =
     let lt = in-loop .loop-test .taken in
     simp length-set (omega (arith, run-room f (v .2) lt (v .1 .5)))
 
-part-take-loop-end : tie.Need-part-take-loop-end Inv-loop μ-loop
-part-take-loop-end c = omega arith
-
 take-loop-requires : tie.Need-take-loop-requires Inv-loop μ-loop
 take-loop-requires c κs =
     let in-loop : tie.In-loop Inv-loop μ-loop = search in
@@ -171,9 +168,6 @@ add-i c =
     let v = at-loop .loop .inv in
     let lt = in-loop .loop-test .taken in
     omega (arith, lt, entry .fits .count)
-
-loop-less : tie.Need-loop-less Inv-loop μ-loop
-loop-less c = omega arith
 
 loop-again : tie.Need-loop-again Inv-loop μ-loop
 loop-again c =
@@ -211,18 +205,6 @@ slice-write-starts-2 c =
     let v = at-loop .loop .inv in
     omega (arith, f .starts-fit, v .1)
 
-same-length : tie.Need-same-length Inv-loop μ-loop
-same-length c = omega arith
-
-same-length-2 : tie.Need-same-length-2 Inv-loop μ-loop
-same-length-2 c = omega arith
-
-same-length-3 : tie.Need-same-length-3 Inv-loop μ-loop
-same-length-3 c = omega arith
-
-same-length-4 : tie.Need-same-length-4 Inv-loop μ-loop
-same-length-4 c = omega arith
-
 same-length-5 : tie.Need-same-length-5 Inv-loop μ-loop
 same-length-5 c =
     let at-loop : tie.At-loop Inv-loop μ-loop = search in
@@ -230,9 +212,6 @@ same-length-5 c =
     let f = entry .pre in
     let v = at-loop .loop .inv in
     simp length-set (v .1 .4)
-
-same-length-6 : tie.Need-same-length-6 Inv-loop μ-loop
-same-length-6 c = omega arith
 
 returns : tie.Need-returns Inv-loop μ-loop
 returns c =
@@ -262,18 +241,18 @@ fill-spec =
     mul-take-loop
     sub-take-loop
     part-take-loop-start
-    part-take-loop-end
+    (λ c. omega arith)  -- part-take-loop-end
     take-loop-requires
     add-at-2
     add-i
-    loop-less
+    (λ c. omega arith)  -- loop-less
     loop-again
     mul-starts-2
     slice-write-starts-2
-    same-length
-    same-length-2
-    same-length-3
-    same-length-4
+    (λ c. omega arith)  -- same-length
+    (λ c. omega arith)  -- same-length-2
+    (λ c. omega arith)  -- same-length-3
+    (λ c. omega arith)  -- same-length-4
     same-length-5
-    same-length-6
+    (λ c. omega arith)  -- same-length-6
     returns)

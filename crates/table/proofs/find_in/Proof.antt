@@ -12,9 +12,6 @@ planted-before c = search
 abbrev entry-before : tie.After-plant-book → tie.Start
 entry-before c = search
 
-add-n : tie.Need-add-n
-add-n c = search needs
-
 plant-book-requires : tie.Need-plant-book-requires
 plant-book-requires c κs =
     let entry : tie.Start = search in
@@ -87,15 +84,6 @@ same-length-6 c =
     let after-plant-book = planted-before after-order-loops in
     omega (arith, after-plant-book .plant-book .kept, after-order-loops .order-loops .kept, after-fill .fill .kept)
 
-same-length-7 : tie.Need-same-length-7
-same-length-7 c = search needs
-
-same-length-8 : tie.Need-same-length-8
-same-length-8 c = search needs
-
-same-length-9 : tie.Need-same-length-9
-same-length-9 c = search needs
-
 returns : tie.Need-returns
 returns c =
     let after-fill : tie.After-fill = search in
@@ -112,7 +100,7 @@ pub find-in-spec : {M : Type 1} → statement M
 find-in-spec =
     tie.close
     (tie.spec
-    add-n
+    (λ c. search needs)  -- add-n
     add-q
     plant-book-requires
     order-loops-requires
@@ -123,7 +111,7 @@ find-in-spec =
     same-length-4
     same-length-5
     same-length-6
-    same-length-7
-    same-length-8
-    same-length-9
+    (λ c. search needs)  -- same-length-7
+    (λ c. search needs)  -- same-length-8
+    (λ c. search needs)  -- same-length-9
     returns)

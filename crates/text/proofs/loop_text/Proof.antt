@@ -6,42 +6,6 @@ use Rattle.text.proofs.Puts.{_then_, put-length}
 use Rattle.text.proofs.loop_text.Statement.{statement}
 use Rattle.text.proofs.loop_text.Tie as tie
 
-slice-aggregate-put : tie.Need-slice-aggregate-put
-slice-aggregate-put c = refl
-
-put-requires : tie.Need-put-requires
-put-requires c κs = tt
-
-put-number-requires : tie.Need-put-number-requires
-put-number-requires c κs = tt
-
-slice-aggregate-put-2 : tie.Need-slice-aggregate-put-2
-slice-aggregate-put-2 c = refl
-
-put-requires-2 : tie.Need-put-requires-2
-put-requires-2 c κs = tt
-
-put-signed-requires : tie.Need-put-signed-requires
-put-signed-requires c κs = tt
-
-slice-aggregate-put-3 : tie.Need-slice-aggregate-put-3
-slice-aggregate-put-3 c = refl
-
-put-requires-3 : tie.Need-put-requires-3
-put-requires-3 c κs = tt
-
-put-signed-requires-2 : tie.Need-put-signed-requires-2
-put-signed-requires-2 c κs = tt
-
-put-verdict-requires : tie.Need-put-verdict-requires
-put-verdict-requires c κs = tt
-
-put-listed-requires : tie.Need-put-listed-requires
-put-listed-requires c κs = tt
-
-put-byte-requires : tie.Need-put-byte-requires
-put-byte-requires c κs = tt
-
 returns : tie.Need-returns
 unfolding bytes loopText
 returns c =
@@ -73,17 +37,17 @@ pub loop-text-spec : {M : Type 1} → statement M
 loop-text-spec =
     tie.close
     (tie.spec
-    slice-aggregate-put
-    put-requires
-    put-number-requires
-    slice-aggregate-put-2
-    put-requires-2
-    put-signed-requires
-    slice-aggregate-put-3
-    put-requires-3
-    put-signed-requires-2
-    put-verdict-requires
-    put-listed-requires
-    put-byte-requires
+    (λ c. refl)  -- slice-aggregate-put
+    (λ c κs. tt)  -- put-requires
+    (λ c κs. tt)  -- put-number-requires
+    (λ c. refl)  -- slice-aggregate-put-2
+    (λ c κs. tt)  -- put-requires-2
+    (λ c κs. tt)  -- put-signed-requires
+    (λ c. refl)  -- slice-aggregate-put-3
+    (λ c κs. tt)  -- put-requires-3
+    (λ c κs. tt)  -- put-signed-requires-2
+    (λ c κs. tt)  -- put-verdict-requires
+    (λ c κs. tt)  -- put-listed-requires
+    (λ c κs. tt)  -- put-byte-requires
     same-length
     returns)

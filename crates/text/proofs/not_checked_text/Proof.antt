@@ -5,24 +5,6 @@ use Rattle.text.proofs.Puts.{_then_, put-length}
 use Rattle.text.proofs.not_checked_text.Statement.{statement}
 use Rattle.text.proofs.not_checked_text.Tie as tie
 
-slice-aggregate-put : tie.Need-slice-aggregate-put
-slice-aggregate-put c = refl
-
-put-requires : tie.Need-put-requires
-put-requires c κs = tt
-
-put-number-requires : tie.Need-put-number-requires
-put-number-requires c κs = tt
-
-put-byte-requires : tie.Need-put-byte-requires
-put-byte-requires c κs = tt
-
-put-listed-requires : tie.Need-put-listed-requires
-put-listed-requires c κs = tt
-
-put-byte-requires-2 : tie.Need-put-byte-requires-2
-put-byte-requires-2 c κs = tt
-
 returns : tie.Need-returns
 unfolding bytes notCheckedText
 returns c =
@@ -44,11 +26,11 @@ pub not-checked-text-spec : {M : Type 1} → statement M
 not-checked-text-spec =
     tie.close
     (tie.spec
-    slice-aggregate-put
-    put-requires
-    put-number-requires
-    put-byte-requires
-    put-listed-requires
-    put-byte-requires-2
+    (λ c. refl)  -- slice-aggregate-put
+    (λ c κs. tt)  -- put-requires
+    (λ c κs. tt)  -- put-number-requires
+    (λ c κs. tt)  -- put-byte-requires
+    (λ c κs. tt)  -- put-listed-requires
+    (λ c κs. tt)  -- put-byte-requires-2
     same-length
     returns)

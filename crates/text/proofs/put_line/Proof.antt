@@ -5,12 +5,6 @@ use Rattle.text.proofs.Lists.{listed-one}
 use Rattle.text.proofs.put_line.Statement.{statement}
 use Rattle.text.proofs.put_line.Tie as tie
 
-put-byte-requires : tie.Need-put-byte-requires
-put-byte-requires c κs = tt
-
-put-signed-requires : tie.Need-put-signed-requires
-put-signed-requires c κs = tt
-
 returns : tie.Need-returns
 unfolding bytes
 returns c =
@@ -23,4 +17,4 @@ same-length : tie.Need-same-length
 same-length c = put-length (returns c)
 
 pub put-line-spec : {M : Type 1} → statement M
-put-line-spec = tie.close (tie.spec put-byte-requires put-signed-requires same-length returns)
+put-line-spec = tie.close (tie.spec (λ c κs. tt) (λ c κs. tt) same-length returns)

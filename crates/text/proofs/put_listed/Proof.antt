@@ -21,21 +21,6 @@ loop-holds : tie.Need-loop-holds Inv-loop μ-loop
 unfolding listedText
 loop-holds c = (omega arith, search nothing-put)
 
-mul-put-line : tie.Need-mul-put-line Inv-loop μ-loop
-mul-put-line c = search needs
-
-shared-slice-copy-out-put-line : tie.Need-shared-slice-copy-out-put-line Inv-loop μ-loop
-shared-slice-copy-out-put-line c = omega arith
-
-put-line-requires : tie.Need-put-line-requires Inv-loop μ-loop
-put-line-requires c κs = tt
-
-add-i : tie.Need-add-i Inv-loop μ-loop
-add-i c = omega arith
-
-loop-less : tie.Need-loop-less Inv-loop μ-loop
-loop-less c = omega arith
-
 loop-again : tie.Need-loop-again Inv-loop μ-loop
 loop-again c =
     let turn = c .before .before in
@@ -57,11 +42,11 @@ put-listed-spec =
     Inv-loop
     μ-loop
     loop-holds
-    mul-put-line
-    shared-slice-copy-out-put-line
-    put-line-requires
-    add-i
-    loop-less
+    (λ c. search needs)  -- mul-put-line
+    (λ c. omega arith)  -- shared-slice-copy-out-put-line
+    (λ c κs. tt)  -- put-line-requires
+    (λ c. omega arith)  -- add-i
+    (λ c. omega arith)  -- loop-less
     loop-again
     same-length
     returns)

@@ -10,15 +10,6 @@ use Rattle.text.proofs.put_signed.Tie as tie
 size : (c : tie.After-magnitude) → natAbs (c .before .before .args .x) ≡ c .magnitude .result
 size c = sym (rw (toZ-ofZ (c .before .before .fits .x)) at (c .magnitude .ensures))
 
-magnitude-requires : tie.Need-magnitude-requires
-magnitude-requires c κs = tt
-
-put-byte-requires : tie.Need-put-byte-requires
-put-byte-requires c κs = tt
-
-put-number-requires : tie.Need-put-number-requires
-put-number-requires c κs = tt
-
 returns : tie.Need-returns
 unfolding bytes
 returns c =
@@ -31,9 +22,6 @@ returns c =
 
 same-length : tie.Need-same-length
 same-length c = put-length (returns c)
-
-put-number-requires-2 : tie.Need-put-number-requires-2
-put-number-requires-2 c κs = tt
 
 returns-2 : tie.Need-returns-2
 returns-2 c =
@@ -50,11 +38,11 @@ pub put-signed-spec : {M : Type 1} → statement M
 put-signed-spec =
     tie.close
     (tie.spec
-    magnitude-requires
-    put-byte-requires
-    put-number-requires
+    (λ c κs. tt)  -- magnitude-requires
+    (λ c κs. tt)  -- put-byte-requires
+    (λ c κs. tt)  -- put-number-requires
     same-length
     returns
-    put-number-requires-2
+    (λ c κs. tt)  -- put-number-requires-2
     same-length-2
     returns-2)

@@ -6,21 +6,6 @@ use Rattle.text.proofs.Puts.{put-length}
 use Rattle.text.proofs.put_verdict.Statement.{statement}
 use Rattle.text.proofs.put_verdict.Tie as tie
 
-same-requires : tie.Need-same-requires
-same-requires c κs = tt
-
-slice-aggregate-put : tie.Need-slice-aggregate-put
-slice-aggregate-put c = refl
-
-put-requires : tie.Need-put-requires
-put-requires c κs = tt
-
-slice-aggregate-put-2 : tie.Need-slice-aggregate-put-2
-slice-aggregate-put-2 c = refl
-
-put-requires-2 : tie.Need-put-requires-2
-put-requires-2 c κs = tt
-
 returns : tie.Need-returns
 unfolding bytes verdictText
 returns c =
@@ -45,11 +30,11 @@ pub put-verdict-spec : {M : Type 1} → statement M
 put-verdict-spec =
     tie.close
     (tie.spec
-    same-requires
-    slice-aggregate-put
-    put-requires
-    slice-aggregate-put-2
-    put-requires-2
+    (λ c κs. tt)  -- same-requires
+    (λ c. refl)  -- slice-aggregate-put
+    (λ c κs. tt)  -- put-requires
+    (λ c. refl)  -- slice-aggregate-put-2
+    (λ c κs. tt)  -- put-requires-2
     same-length
     returns
     same-length-2

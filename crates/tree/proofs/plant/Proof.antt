@@ -21,18 +21,6 @@ Inv-loop head next ends best₀ seg₀ order₀ n root₀ k₀ best seg order ro
 abbrev μ-loop : tie.MeasureT-loop
 μ-loop head next ends best₀ seg₀ order₀ n root₀ k₀ best seg order root k = n - k
 
-zero-requires : tie.Need-zero-requires Inv-loop μ-loop
-zero-requires c κs = search needs
-
-clear-requires : tie.Need-clear-requires Inv-loop μ-loop
-clear-requires c κs = search needs
-
-mul-clear : tie.Need-mul-clear Inv-loop μ-loop
-mul-clear c = search needs
-
-clear-requires-2 : tie.Need-clear-requires-2 Inv-loop μ-loop
-clear-requires-2 c κs = search needs
-
 loop-holds : tie.Need-loop-holds Inv-loop μ-loop
 loop-holds c =
     let after-clear : tie.After-clear Inv-loop μ-loop = search in
@@ -54,21 +42,12 @@ loop-holds c =
           (λ i h. b .1 i (omega arith)),
     )
 
-add-loop : tie.Need-add-loop Inv-loop μ-loop
-add-loop c = search needs
-
 sprout-requires : tie.Need-sprout-requires Inv-loop μ-loop
 sprout-requires c κs =
     let at-loop : tie.At-loop Inv-loop μ-loop = search in
     let entry : tie.Start Inv-loop μ-loop = search in
     let p = entry .pre in
     (p .0, (p .1 .0, (at-loop .loop .inv .2, (at-loop .loop .inv .1, omega (arith, c, p .1 .1 .orders, at-loop .loop .inv)))))
-
-add-k : tie.Need-add-k Inv-loop μ-loop
-add-k c = search needs
-
-loop-less : tie.Need-loop-less Inv-loop μ-loop
-loop-less c = omega arith
 
 loop-again : tie.Need-loop-again Inv-loop μ-loop
 loop-again c =
@@ -90,15 +69,6 @@ loop-again c =
           (omega (arith, v, p .1 .1 .orders)) _ _ _ _ e,
     )
 
-same-length : tie.Need-same-length Inv-loop μ-loop
-same-length c = omega arith
-
-same-length-2 : tie.Need-same-length-2 Inv-loop μ-loop
-same-length-2 c = omega arith
-
-same-length-3 : tie.Need-same-length-3 Inv-loop μ-loop
-same-length-3 c = omega arith
-
 returns : tie.Need-returns Inv-loop μ-loop
 returns c = (λ lines g. plant-end lines _ _ _ _ g _ _ _ _ _ (c .before .loop .inv .7 lines g) (omega arith), c .before .loop .inv .6)
 
@@ -108,17 +78,17 @@ plant-spec =
     (tie.spec
     Inv-loop
     μ-loop
-    zero-requires
-    clear-requires
-    mul-clear
-    clear-requires-2
+    (λ c κs. search needs)  -- zero-requires
+    (λ c κs. search needs)  -- clear-requires
+    (λ c. search needs)  -- mul-clear
+    (λ c κs. search needs)  -- clear-requires-2
     loop-holds
-    add-loop
+    (λ c. search needs)  -- add-loop
     sprout-requires
-    add-k
-    loop-less
+    (λ c. search needs)  -- add-k
+    (λ c. omega arith)  -- loop-less
     loop-again
-    same-length
-    same-length-2
-    same-length-3
+    (λ c. omega arith)  -- same-length
+    (λ c. omega arith)  -- same-length-2
+    (λ c. omega arith)  -- same-length-3
     returns)

@@ -9,43 +9,10 @@ use borrow.Author.Needs.{needs}
 use Rattle.tree.proofs.sprout.Statement.{statement}
 use Rattle.tree.proofs.sprout.Tie as tie
 
-turn-requires : tie.Need-turn-requires
-turn-requires c κs = search needs
-
-mul-order : tie.Need-mul-order
-mul-order c = search needs
-
-slice-write-order : tie.Need-slice-write-order
-slice-write-order c = search needs
-
-same-length : tie.Need-same-length
-same-length c = search needs
-
-same-length-2 : tie.Need-same-length-2
-same-length-2 c = search needs
-
-same-length-3 : tie.Need-same-length-3
-same-length-3 c = search needs
-
 returns : tie.Need-returns
 returns c =
     let after-turn : tie.After-turn = search in
     by-line (after-turn .turn .result) (after-turn .turn .ensures) (λ e. omega arith) refl refl
-
-first-far-requires : tie.Need-first-far-requires
-first-far-requires c κs = search needs
-
-mul-best : tie.Need-mul-best
-mul-best c = search needs
-
-slice-write-best : tie.Need-slice-write-best
-slice-write-best c = search needs
-
-mul-relax : tie.Need-mul-relax
-mul-relax c = search needs
-
-shared-slice-read-relax : tie.Need-shared-slice-read-relax
-shared-slice-read-relax c = search needs
 
 relax-requires : tie.Need-relax-requires
 relax-requires c κs =
@@ -73,12 +40,6 @@ same-length-4 c =
     let after-turn : tie.After-turn = search in
     omega (arith, length-set (after-turn .turn .last .1 .1 .1 .0) (after-first-far .first-far .result) 0)
 
-same-length-5 : tie.Need-same-length-5
-same-length-5 c = search needs
-
-same-length-6 : tie.Need-same-length-6
-same-length-6 c = search needs
-
 returns-2 : tie.Need-returns-2
 returns-2 c =
     let after-relax : tie.After-relax = search in
@@ -86,12 +47,6 @@ returns-2 c =
     let after-turn : tie.After-turn = search in
     by-root (after-turn .turn .result) (after-turn .turn .last .1 .1 .1 .0) (after-turn .turn .last .1 .1 .1 .1 .0)
     (after-turn .turn .ensures) (omega arith) (after-first-far .first-far .ensures) (omega arith) (after-relax .relax .ensures) refl
-
-same-length-7 : tie.Need-same-length-7
-same-length-7 c = search needs
-
-same-length-8 : tie.Need-same-length-8
-same-length-8 c = search needs
 
 returns-3 : tie.Need-returns-3
 returns-3 c =
@@ -102,25 +57,25 @@ pub sprout-spec : {M : Type 1} → statement M
 sprout-spec =
     tie.close
     (tie.spec
-    turn-requires
-    mul-order
-    slice-write-order
-    same-length
-    same-length-2
-    same-length-3
+    (λ c κs. search needs)  -- turn-requires
+    (λ c. search needs)  -- mul-order
+    (λ c. search needs)  -- slice-write-order
+    (λ c. search needs)  -- same-length
+    (λ c. search needs)  -- same-length-2
+    (λ c. search needs)  -- same-length-3
     returns
-    first-far-requires
-    mul-best
-    slice-write-best
-    mul-relax
-    shared-slice-read-relax
+    (λ c κs. search needs)  -- first-far-requires
+    (λ c. search needs)  -- mul-best
+    (λ c. search needs)  -- slice-write-best
+    (λ c. search needs)  -- mul-relax
+    (λ c. search needs)  -- shared-slice-read-relax
     relax-requires
     mul-order-2
     slice-write-order-2
     same-length-4
-    same-length-5
-    same-length-6
+    (λ c. search needs)  -- same-length-5
+    (λ c. search needs)  -- same-length-6
     returns-2
-    same-length-7
-    same-length-8
+    (λ c. search needs)  -- same-length-7
+    (λ c. search needs)  -- same-length-8
     returns-3)

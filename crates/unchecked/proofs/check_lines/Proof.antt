@@ -52,12 +52,6 @@ check-line-requires c κs =
       omega (arith, c),
     )
 
-add-number : tie.Need-add-number Inv-loop μ-loop
-add-number c = search needs
-
-loop-less : tie.Need-loop-less Inv-loop μ-loop
-loop-less c = search needs
-
 loop-again : tie.Need-loop-again Inv-loop μ-loop
 loop-again c =
     let after-check-line : tie.After-check-line Inv-loop μ-loop = search in
@@ -78,7 +72,7 @@ check-lines-spec =
     zero-requires
     loop-holds
     check-line-requires
-    add-number
-    loop-less
+    (λ c. search needs)  -- add-number
+    (λ c. search needs)  -- loop-less
     loop-again
     returns)

@@ -11,9 +11,6 @@ use Rattle.unchecked.proofs.list_book.Tie as tie
 abbrev entry-before : tie.After-plant-book → tie.Start
 entry-before c = search
 
-plant-book-requires : tie.Need-plant-book-requires
-plant-book-requires c κs = search needs
-
 add-not-checked : tie.Need-add-not-checked
 add-not-checked c =
     let entry : tie.Start = search in
@@ -24,21 +21,6 @@ not-checked-requires c κs =
     let after-plant-book : tie.After-plant-book = search in
     let entry : tie.Start = search in
     list-ready _ _ (entry .pre .0) (after-plant-book .plant-book .ensures) (entry .pre .1 .1)
-
-same-length : tie.Need-same-length
-same-length c = search needs
-
-same-length-2 : tie.Need-same-length-2
-same-length-2 c = search needs
-
-same-length-3 : tie.Need-same-length-3
-same-length-3 c = search needs
-
-same-length-4 : tie.Need-same-length-4
-same-length-4 c = search needs
-
-same-length-5 : tie.Need-same-length-5
-same-length-5 c = search needs
 
 returns : tie.Need-returns
 returns c =
@@ -53,12 +35,12 @@ pub list-book-spec : {M : Type 1} → statement M
 list-book-spec =
     tie.close
     (tie.spec
-    plant-book-requires
+    (λ c κs. search needs)  -- plant-book-requires
     add-not-checked
     not-checked-requires
-    same-length
-    same-length-2
-    same-length-3
-    same-length-4
-    same-length-5
+    (λ c. search needs)  -- same-length
+    (λ c. search needs)  -- same-length-2
+    (λ c. search needs)  -- same-length-3
+    (λ c. search needs)  -- same-length-4
+    (λ c. search needs)  -- same-length-5
     returns)

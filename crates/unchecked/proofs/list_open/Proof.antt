@@ -33,15 +33,6 @@ slice-write-out c =
     let entry : tie.Start Inv-loop μ-loop = search in
     let p = entry .pre in omega (arith, p .outs)
 
-add-c : tie.Need-add-c Inv-loop μ-loop
-add-c c = search needs
-
-add-number : tie.Need-add-number Inv-loop μ-loop
-add-number c = search needs
-
-loop-less : tie.Need-loop-less Inv-loop μ-loop
-loop-less c = search needs
-
 loop-again : tie.Need-loop-again Inv-loop μ-loop
 loop-again c =
     let v = c .before .before .before .loop .inv in
@@ -54,9 +45,6 @@ loop-again c =
     ))
     (λ w. (omega (arith, w .2), ap length (w .1) ∙ v .1, writing-shut (v .2) (omega arith) (sym o ∙ w .0 .left) (w .1) (w .2)))
     (c .if1 .came)
-
-same-length : tie.Need-same-length Inv-loop μ-loop
-same-length c = search needs
 
 returns : tie.Need-returns Inv-loop μ-loop
 returns c = writing-end (c .before .loop .inv .2) (omega arith)
@@ -71,9 +59,9 @@ list-open-spec =
     is-open-requires
     mul-out
     slice-write-out
-    add-c
-    add-number
-    loop-less
+    (λ c. search needs)  -- add-c
+    (λ c. search needs)  -- add-number
+    (λ c. search needs)  -- loop-less
     loop-again
-    same-length
+    (λ c. search needs)  -- same-length
     returns)

@@ -4,15 +4,6 @@ use borrow.Author.Needs.{needs}
 use Rattle.unchecked.proofs.not_checked.Statement.{statement}
 use Rattle.unchecked.proofs.not_checked.Tie as tie
 
-check-lines-requires : tie.Need-check-lines-requires
-check-lines-requires c κs = search needs
-
-list-open-requires : tie.Need-list-open-requires
-list-open-requires c κs = search needs
-
-same-length : tie.Need-same-length
-same-length c = search needs
-
 returns : tie.Need-returns
 returns c =
     let after-list-open : tie.After-list-open = search in
@@ -23,4 +14,4 @@ returns c =
 
 pub not-checked-spec : {M : Type 1} → statement M
 not-checked-spec =
-    tie.close (tie.spec check-lines-requires list-open-requires same-length returns)
+    tie.close (tie.spec (λ c κs. search needs) (λ c κs. search needs) (λ c. search needs) returns)

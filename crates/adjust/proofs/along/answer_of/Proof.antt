@@ -3,24 +3,6 @@ use borrow.Author.Needs.{needs}
 use Rattle.adjust.proofs.along.answer_of.Statement.{statement}
 use Rattle.adjust.proofs.along.answer_of.Tie as tie
 
-enum-known-e : tie.Need-enum-known-e
-enum-known-e c = search needs
-
-settled-at-requires : tie.Need-settled-at-requires
-settled-at-requires c κs = search needs
-
-enum-known-e-2 : tie.Need-enum-known-e-2
-enum-known-e-2 c = search needs
-
-refuse-requires : tie.Need-refuse-requires
-refuse-requires c κs = search needs
-
-enum-told : tie.Need-enum-told
-enum-told c = search needs
-
-refuse-requires-2 : tie.Need-refuse-requires-2
-refuse-requires-2 c κs = search needs
-
 returns : tie.Need-returns
 returns c = c .settled-at .ensures ∙ rw (c .before .before .e .given .1)
 
@@ -34,12 +16,12 @@ pub answer-of-spec : {M : Type 1} → statement M
 answer-of-spec =
     tie.close
     (tie.spec
-    enum-known-e
-    settled-at-requires
-    enum-known-e-2
-    refuse-requires
-    enum-told
-    refuse-requires-2
+    (λ c. search needs)  -- enum-known-e
+    (λ c κs. search needs)  -- settled-at-requires
+    (λ c. search needs)  -- enum-known-e-2
+    (λ c κs. search needs)  -- refuse-requires
+    (λ c. search needs)  -- enum-told
+    (λ c κs. search needs)  -- refuse-requires-2
     returns
     returns-2
     returns-3)

@@ -3,18 +3,6 @@ use borrow.Author.Needs.{needs}
 use Rattle.adjust.proofs.good.adjust_by.Statement.{statement}
 use Rattle.adjust.proofs.good.adjust_by.Tie as tie
 
-adjust-into-requires : tie.Need-adjust-into-requires
-adjust-into-requires c κs = search needs
-
-put-requires : tie.Need-put-requires
-put-requires c κs = search needs
-
-same-length : tie.Need-same-length
-same-length c = search needs
-
-same-length-2 : tie.Need-same-length-2
-same-length-2 c = search needs
-
 returns : tie.Need-returns
 returns c =
     let then1 : tie.Then1 = search in
@@ -22,9 +10,6 @@ returns c =
     let s : tie.Start = search in
     let a = after-adjust-into .adjust-into in
     call-done (s .args .book) (s .args .held .now) (s .args .lines .now) (s .args .heights .now) (a .result) _ (s .pre .1 .1) (a .ensures) (then1 .if1 .taken) _ (c .before .put .ensures)
-
-same-length-3 : tie.Need-same-length-3
-same-length-3 c = search needs
 
 returns-2 : tie.Need-returns-2
 returns-2 c =
@@ -37,10 +22,10 @@ pub adjust-by-spec : {M : Type 1} → statement M
 adjust-by-spec =
     tie.close
     (tie.spec
-    adjust-into-requires
-    put-requires
-    same-length
-    same-length-2
+    (λ c κs. search needs)  -- adjust-into-requires
+    (λ c κs. search needs)  -- put-requires
+    (λ c. search needs)  -- same-length
+    (λ c. search needs)  -- same-length-2
     returns
-    same-length-3
+    (λ c. search needs)  -- same-length-3
     returns-2)

@@ -6,14 +6,8 @@ use borrow.Author.Needs.{needs}
 use Rattle.adjust.proofs.good.adjust_good.Statement.{statement}
 use Rattle.adjust.proofs.good.adjust_good.Tie as tie
 
-refuse-requires : tie.Need-refuse-requires
-refuse-requires c κs = search needs
-
 returns : tie.Need-returns
 returns c = let s = c .before .before in call-ten (s .args .book) (s .args .held .now) (s .args .lines .now) (s .args .heights .now) (c .refuse .result) (c .before .if1 .taken) (c .refuse .ensures)
-
-array-borrow-prefix-z : tie.Need-array-borrow-prefix-z
-array-borrow-prefix-z c = search needs
 
 slice-aggregate-adjust-by : tie.Need-slice-aggregate-adjust-by
 slice-aggregate-adjust-by c = let s = c .before .before in sym (so-many (pos 0) (s .args .book .marks) 256 (s .pre .lines-good .few-marks))
@@ -21,20 +15,14 @@ slice-aggregate-adjust-by c = let s = c .before .before in sym (so-many (pos 0) 
 adjust-by-requires : tie.Need-adjust-by-requires
 adjust-by-requires c κs = let s = c .before .before .before in (s .pre, (so-many (pos 0) (s .args .book .marks) 256 (s .pre .lines-good .few-marks), c .before .before .if1 .left))
 
-same-length : tie.Need-same-length
-same-length c = search needs
-
-returns-2 : tie.Need-returns-2
-returns-2 c = search needs
-
 pub adjust-good-spec : {M : Type 1} → statement M
 adjust-good-spec =
     tie.close
     (tie.spec
-    refuse-requires
+    (λ c κs. search needs)  -- refuse-requires
     returns
-    array-borrow-prefix-z
+    (λ c. search needs)  -- array-borrow-prefix-z
     slice-aggregate-adjust-by
     adjust-by-requires
-    same-length
-    returns-2)
+    (λ c. search needs)  -- same-length
+    (λ c. search needs))  -- returns-2

@@ -8,19 +8,10 @@ use Rattle.adjust.proofs.Entering.{book-planted}
 use Rattle.adjust.proofs.good.adjust_in.Statement.{statement}
 use Rattle.adjust.proofs.good.adjust_in.Tie as tie
 
-plant-book-requires : tie.Need-plant-book-requires
-plant-book-requires c κs = search needs
-
-array-borrow-prefix-flags : tie.Need-array-borrow-prefix-flags
-array-borrow-prefix-flags c = search needs
-
 slice-aggregate-adjust-along : tie.Need-slice-aggregate-adjust-along
 slice-aggregate-adjust-along c =
     let entry : tie.Start = search in
     sym (so-many false (entry .args .book .marks) 256 (entry .pre .0 .lines-good .few-marks))
-
-array-borrow-prefix-own : tie.Need-array-borrow-prefix-own
-array-borrow-prefix-own c = search needs
 
 slice-aggregate-adjust-along-2 : tie.Need-slice-aggregate-adjust-along-2
 slice-aggregate-adjust-along-2 c =
@@ -41,45 +32,21 @@ adjust-along-requires c κs =
       ),
     )
 
-same-length : tie.Need-same-length
-same-length c = search needs
-
-same-length-2 : tie.Need-same-length-2
-same-length-2 c = search needs
-
-same-length-3 : tie.Need-same-length-3
-same-length-3 c = search needs
-
-same-length-4 : tie.Need-same-length-4
-same-length-4 c = search needs
-
-same-length-5 : tie.Need-same-length-5
-same-length-5 c = search needs
-
-same-length-6 : tie.Need-same-length-6
-same-length-6 c = search needs
-
-same-length-7 : tie.Need-same-length-7
-same-length-7 c = search needs
-
-returns : tie.Need-returns
-returns c = search needs
-
 pub adjust-in-spec : {M : Type 1} → statement M
 adjust-in-spec =
     tie.close
     (tie.spec
-    plant-book-requires
-    array-borrow-prefix-flags
+    (λ c κs. search needs)  -- plant-book-requires
+    (λ c. search needs)  -- array-borrow-prefix-flags
     slice-aggregate-adjust-along
-    array-borrow-prefix-own
+    (λ c. search needs)  -- array-borrow-prefix-own
     slice-aggregate-adjust-along-2
     adjust-along-requires
-    same-length
-    same-length-2
-    same-length-3
-    same-length-4
-    same-length-5
-    same-length-6
-    same-length-7
-    returns)
+    (λ c. search needs)  -- same-length
+    (λ c. search needs)  -- same-length-2
+    (λ c. search needs)  -- same-length-3
+    (λ c. search needs)  -- same-length-4
+    (λ c. search needs)  -- same-length-5
+    (λ c. search needs)  -- same-length-6
+    (λ c. search needs)  -- same-length-7
+    (λ c. search needs))  -- returns

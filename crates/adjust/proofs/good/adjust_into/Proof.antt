@@ -2,24 +2,6 @@ use borrow.Author.Needs.{needs}
 use Rattle.adjust.proofs.good.adjust_into.Statement.{statement}
 use Rattle.adjust.proofs.good.adjust_into.Tie as tie
 
-slice-aggregate-adjust-in : tie.Need-slice-aggregate-adjust-in
-slice-aggregate-adjust-in c = search needs
-
-slice-aggregate-adjust-in-2 : tie.Need-slice-aggregate-adjust-in-2
-slice-aggregate-adjust-in-2 c = search needs
-
-slice-aggregate-adjust-in-3 : tie.Need-slice-aggregate-adjust-in-3
-slice-aggregate-adjust-in-3 c = search needs
-
-slice-aggregate-adjust-in-4 : tie.Need-slice-aggregate-adjust-in-4
-slice-aggregate-adjust-in-4 c = search needs
-
-slice-aggregate-adjust-in-5 : tie.Need-slice-aggregate-adjust-in-5
-slice-aggregate-adjust-in-5 c = search needs
-
-slice-aggregate-adjust-in-6 : tie.Need-slice-aggregate-adjust-in-6
-slice-aggregate-adjust-in-6 c = search needs
-
 adjust-in-requires : tie.Need-adjust-in-requires
 adjust-in-requires c κs =
     let entry : tie.Start = search in (
@@ -30,22 +12,16 @@ adjust-in-requires c κs =
       ),
     )
 
-same-length : tie.Need-same-length
-same-length c = search needs
-
-returns : tie.Need-returns
-returns c = search needs
-
 pub adjust-into-spec : {M : Type 1} → statement M
 adjust-into-spec =
     tie.close
     (tie.spec
-    slice-aggregate-adjust-in
-    slice-aggregate-adjust-in-2
-    slice-aggregate-adjust-in-3
-    slice-aggregate-adjust-in-4
-    slice-aggregate-adjust-in-5
-    slice-aggregate-adjust-in-6
+    (λ c. search needs)  -- slice-aggregate-adjust-in
+    (λ c. search needs)  -- slice-aggregate-adjust-in-2
+    (λ c. search needs)  -- slice-aggregate-adjust-in-3
+    (λ c. search needs)  -- slice-aggregate-adjust-in-4
+    (λ c. search needs)  -- slice-aggregate-adjust-in-5
+    (λ c. search needs)  -- slice-aggregate-adjust-in-6
     adjust-in-requires
-    same-length
-    returns)
+    (λ c. search needs)  -- same-length
+    (λ c. search needs))  -- returns

@@ -5,18 +5,6 @@ use borrow.Author.Needs.{needs}
 use Rattle.book.proofs.Book.new.Statement.{statement}
 use Rattle.book.proofs.Book.new.Tie as tie
 
-outside-requires : tie.Need-outside-requires
-outside-requires c κs = search needs
-
-outside-requires-2 : tie.Need-outside-requires-2
-outside-requires-2 c κs = search needs
-
-outside-count-requires : tie.Need-outside-count-requires
-outside-count-requires c κs = search needs
-
-outside-count-requires-2 : tie.Need-outside-count-requires-2
-outside-count-requires-2 c κs = search needs
-
 -- the flag that the code has is the definition's test
 flag : (c : tie.After-outside-count2) → (let c₃ = c .before in let c₂ = c₃ .before in let c₁ = c₂ .before in let a = c₁ .before .args in
     c₁ .outside .result || c₂ .outside2 .result || c₃ .outside-count .result || c .outside-count2 .result ≡ bookOut (a .b) (a .t) (a .h) (a .n))
@@ -27,18 +15,9 @@ flag c =
     let c₁ = c₂ .before in
     rw (c₁ .outside .ensures, c₂ .outside2 .ensures, c₃ .outside-count .ensures, c .outside-count2 .ensures) (search needs)
 
-refuse-requires : tie.Need-refuse-requires
-refuse-requires c κs = search needs
-
 returns : tie.Need-returns
 unfolding bookOf
 returns c = rw (← (flag (c .before .before)), c .before .if1 .taken) (c .refuse .ensures)
-
-magnitude-requires : tie.Need-magnitude-requires
-magnitude-requires c κs = search needs
-
-magnitude-requires-2 : tie.Need-magnitude-requires-2
-magnitude-requires-2 c κs = search needs
 
 returns-2 : tie.Need-returns-2
 unfolding bookOf
@@ -50,12 +29,12 @@ pub new-spec : {M : Type 1} → statement M
 new-spec =
     tie.close
     (tie.spec
-    outside-requires
-    outside-requires-2
-    outside-count-requires
-    outside-count-requires-2
-    refuse-requires
+    (λ c κs. search needs)  -- outside-requires
+    (λ c κs. search needs)  -- outside-requires-2
+    (λ c κs. search needs)  -- outside-count-requires
+    (λ c κs. search needs)  -- outside-count-requires-2
+    (λ c κs. search needs)  -- refuse-requires
     returns
-    magnitude-requires
-    magnitude-requires-2
+    (λ c κs. search needs)  -- magnitude-requires
+    (λ c κs. search needs)  -- magnitude-requires-2
     returns-2)

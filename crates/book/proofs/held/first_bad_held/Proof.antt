@@ -45,80 +45,17 @@ held-flag c =
 scan-holds : tie.Need-scan-holds Inv-loop μ-loop Inv-scan μ-scan
 scan-holds c = scan-start _ _
 
-mul-at : tie.Need-mul-at Inv-loop μ-loop Inv-scan μ-scan
-mul-at c = search needs
-
-add-new : tie.Need-add-new Inv-loop μ-loop Inv-scan μ-scan
-add-new c = search needs
-
-mul-new : tie.Need-mul-new Inv-loop μ-loop Inv-scan μ-scan
-mul-new c = search needs
-
-shared-slice-copy-out-new : tie.Need-shared-slice-copy-out-new Inv-loop μ-loop Inv-scan μ-scan
-shared-slice-copy-out-new c = search needs
-
-add-new-2 : tie.Need-add-new-2 Inv-loop μ-loop Inv-scan μ-scan
-add-new-2 c = search needs
-
-mul-new-2 : tie.Need-mul-new-2 Inv-loop μ-loop Inv-scan μ-scan
-mul-new-2 c = search needs
-
-shared-slice-copy-out-new-2 : tie.Need-shared-slice-copy-out-new-2 Inv-loop μ-loop Inv-scan μ-scan
-shared-slice-copy-out-new-2 c = search needs
-
-new-requires : tie.Need-new-requires Inv-loop μ-loop Inv-scan μ-scan
-new-requires c κs = search needs
-
-enum-known-made : tie.Need-enum-known-made Inv-loop μ-loop Inv-scan μ-scan
-enum-known-made c = search needs
-
-enum-told : tie.Need-enum-told Inv-loop μ-loop Inv-scan μ-scan
-enum-told c = search needs
-
-add-result : tie.Need-add-result Inv-loop μ-loop Inv-scan μ-scan
-add-result c = search needs
-
 loop-holds : tie.Need-loop-holds Inv-loop μ-loop Inv-scan μ-scan
 unfolding heldBefore
 loop-holds c =
     let at : tie.At-scan Inv-loop μ-loop Inv-scan μ-scan = search in
     (omega arith, any-none (λ j. eqZ (markAt (at .before .args .held .now) j) (markAt (at .before .args .held .now) (at .scan .i))))
 
-mul-same : tie.Need-mul-same Inv-loop μ-loop Inv-scan μ-scan
-mul-same c = search needs
-
-add-same : tie.Need-add-same Inv-loop μ-loop Inv-scan μ-scan
-add-same c = search needs
-
-mul-same-2 : tie.Need-mul-same-2 Inv-loop μ-loop Inv-scan μ-scan
-mul-same-2 c = search needs
-
-shared-slice-copy-out-same : tie.Need-shared-slice-copy-out-same Inv-loop μ-loop Inv-scan μ-scan
-shared-slice-copy-out-same c = search needs
-
-same-requires : tie.Need-same-requires Inv-loop μ-loop Inv-scan μ-scan
-same-requires c κs = search needs
-
-add-result-2 : tie.Need-add-result-2 Inv-loop μ-loop Inv-scan μ-scan
-add-result-2 c = search needs
-
-add-j : tie.Need-add-j Inv-loop μ-loop Inv-scan μ-scan
-add-j c = search needs
-
-loop-less : tie.Need-loop-less Inv-loop μ-loop Inv-scan μ-scan
-loop-less c = search needs
-
 loop-again : tie.Need-loop-again Inv-loop μ-loop Inv-scan μ-scan
 unfolding heldBefore
 loop-again c =
     let l : tie.At-loop Inv-loop μ-loop Inv-scan μ-scan = search in
     (omega arith, any-next _ (l .loop .j) (l .loop .inv .1) (sym (held-flag (c .before)) ∙ c .if2 .left))
-
-add-i : tie.Need-add-i Inv-loop μ-loop Inv-scan μ-scan
-add-i c = search needs
-
-scan-less : tie.Need-scan-less Inv-loop μ-loop Inv-scan μ-scan
-scan-less c = search needs
 
 scan-again : tie.Need-scan-again Inv-loop μ-loop Inv-scan μ-scan
 unfolding heldBad
@@ -156,29 +93,29 @@ first-bad-held-spec =
     Inv-scan
     μ-scan
     scan-holds
-    mul-at
-    add-new
-    mul-new
-    shared-slice-copy-out-new
-    add-new-2
-    mul-new-2
-    shared-slice-copy-out-new-2
-    new-requires
-    enum-known-made
-    enum-told
-    add-result
+    (λ c. search needs)  -- mul-at
+    (λ c. search needs)  -- add-new
+    (λ c. search needs)  -- mul-new
+    (λ c. search needs)  -- shared-slice-copy-out-new
+    (λ c. search needs)  -- add-new-2
+    (λ c. search needs)  -- mul-new-2
+    (λ c. search needs)  -- shared-slice-copy-out-new-2
+    (λ c κs. search needs)  -- new-requires
+    (λ c. search needs)  -- enum-known-made
+    (λ c. search needs)  -- enum-told
+    (λ c. search needs)  -- add-result
     loop-holds
-    mul-same
-    add-same
-    mul-same-2
-    shared-slice-copy-out-same
-    same-requires
-    add-result-2
-    add-j
-    loop-less
+    (λ c. search needs)  -- mul-same
+    (λ c. search needs)  -- add-same
+    (λ c. search needs)  -- mul-same-2
+    (λ c. search needs)  -- shared-slice-copy-out-same
+    (λ c κs. search needs)  -- same-requires
+    (λ c. search needs)  -- add-result-2
+    (λ c. search needs)  -- add-j
+    (λ c. search needs)  -- loop-less
     loop-again
-    add-i
-    scan-less
+    (λ c. search needs)  -- add-i
+    (λ c. search needs)  -- scan-less
     scan-again
     returns
     returns-2

@@ -21,32 +21,8 @@ abbrev μ-loop : tie.MeasureT-loop
 loop-holds : tie.Need-loop-holds Inv-loop μ-loop
 loop-holds c = scan-start _ _
 
-mul-at : tie.Need-mul-at Inv-loop μ-loop
-mul-at c = omega arith
-
-add-line-of : tie.Need-add-line-of Inv-loop μ-loop
-add-line-of c = omega arith
-
-mul-line-of : tie.Need-mul-line-of Inv-loop μ-loop
-mul-line-of c = omega arith
-
-sub-line-of : tie.Need-sub-line-of Inv-loop μ-loop
-sub-line-of c = omega arith
-
-part-line-of-start : tie.Need-part-line-of-start Inv-loop μ-loop
-part-line-of-start c = omega arith
-
-part-line-of-end : tie.Need-part-line-of-end Inv-loop μ-loop
-part-line-of-end c = omega arith
-
 line-of-requires : tie.Need-line-of-requires Inv-loop μ-loop
 line-of-requires c κs = simp (length-take, length-drop) (omega arith)
-
-enum-told : tie.Need-enum-told Inv-loop μ-loop
-enum-told c = omega arith
-
-add-result : tie.Need-add-result Inv-loop μ-loop
-add-result c = omega arith
 
 returns : tie.Need-returns Inv-loop μ-loop
 unfolding firstBadLine
@@ -55,15 +31,6 @@ returns c =
     let i = in-loop .before .loop .i in
     let e = simp add-sub-cancel-left at (c .before .before .line-of .ensures) in
     scan-stop _ _ i (in-loop .loop-test .taken) (faulty-entry _ _ i _ e _ _ (c .enum-told .given .1)) (in-loop .before .loop .inv) ∙ search needs
-
-enum-told-2 : tie.Need-enum-told-2 Inv-loop μ-loop
-enum-told-2 c = omega arith
-
-add-i : tie.Need-add-i Inv-loop μ-loop
-add-i c = omega arith
-
-loop-less : tie.Need-loop-less Inv-loop μ-loop
-loop-less c = omega arith
 
 loop-again : tie.Need-loop-again Inv-loop μ-loop
 loop-again c =
@@ -83,18 +50,18 @@ first-bad-line-spec =
     Inv-loop
     μ-loop
     loop-holds
-    mul-at
-    add-line-of
-    mul-line-of
-    sub-line-of
-    part-line-of-start
-    part-line-of-end
+    (λ c. omega arith)  -- mul-at
+    (λ c. omega arith)  -- add-line-of
+    (λ c. omega arith)  -- mul-line-of
+    (λ c. omega arith)  -- sub-line-of
+    (λ c. omega arith)  -- part-line-of-start
+    (λ c. omega arith)  -- part-line-of-end
     line-of-requires
-    enum-told
-    add-result
+    (λ c. omega arith)  -- enum-told
+    (λ c. omega arith)  -- add-result
     returns
-    enum-told-2
-    add-i
-    loop-less
+    (λ c. omega arith)  -- enum-told-2
+    (λ c. omega arith)  -- add-i
+    (λ c. omega arith)  -- loop-less
     loop-again
     returns-2)

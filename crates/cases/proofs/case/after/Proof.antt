@@ -7,33 +7,12 @@ use Rattle.cases.specs.Case.{twoAt, headBytes, afterCase}
 use Rattle.cases.proofs.case.after.Statement.{statement}
 use Rattle.cases.proofs.case.after.Tie as tie
 
-mul-head : tie.Need-mul-head
-mul-head c = search needs
-
-add-head : tie.Need-add-head
-add-head c = search needs
-
-sub-if1 : tie.Need-sub-if1
-sub-if1 c = search needs
-
 returns : tie.Need-returns
 unfolding afterCase
 returns c =
     let s : tie.Start = search in
     let short : length (s .args .input .now) < s .args .at + headBytes (s .args .numbers) = omega arith in
     (rw (lt-ltb _ _ short), s .pre .0)
-
-add-file : tie.Need-add-file
-add-file c = search needs
-
-sub-two : tie.Need-sub-two
-sub-two c = search needs
-
-two-requires : tie.Need-two-requires
-two-requires c κs = search needs
-
-sub-if2 : tie.Need-sub-if2
-sub-if2 c = search needs
 
 returns-2 : tie.Need-returns-2
 unfolding afterCase
@@ -44,9 +23,6 @@ returns-2 c =
     let len = c .before .two .ensures .0 in
     let short : length (s .args .input .now) < file + twoAt (s .args .input .now) (file - 2) = omega (arith, len) in
     (rw (le-ltb _ _ whole, lt-ltb _ _ short), s .pre .0)
-
-add-result : tie.Need-add-result
-add-result c = search needs
 
 returns-3 : tie.Need-returns-3
 unfolding afterCase
@@ -62,14 +38,14 @@ pub after-spec : {M : Type 1} → statement M
 after-spec =
     tie.close
     (tie.spec
-    mul-head
-    add-head
-    sub-if1
+    (λ c. search needs)  -- mul-head
+    (λ c. search needs)  -- add-head
+    (λ c. search needs)  -- sub-if1
     returns
-    add-file
-    sub-two
-    two-requires
-    sub-if2
+    (λ c. search needs)  -- add-file
+    (λ c. search needs)  -- sub-two
+    (λ c κs. search needs)  -- two-requires
+    (λ c. search needs)  -- sub-if2
     returns-2
-    add-result
+    (λ c. search needs)  -- add-result
     returns-3)

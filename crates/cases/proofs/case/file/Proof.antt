@@ -9,24 +9,6 @@ use Rattle.cases.proofs.Most.{drop-most}
 use Rattle.cases.proofs.case.file.Statement.{statement}
 use Rattle.cases.proofs.case.file.Tie as tie
 
-mul-at-most : tie.Need-mul-at-most
-mul-at-most c = search needs
-
-add-at-most : tie.Need-add-at-most
-add-at-most c = search needs
-
-at-most-requires : tie.Need-at-most-requires
-at-most-requires c κs = search needs
-
-sub-result : tie.Need-sub-result
-sub-result c = search needs
-
-part-result-start : tie.Need-part-result-start
-part-result-start c = search needs
-
-part-result-end : tie.Need-part-result-end
-part-result-end c = search needs
-
 returns : tie.Need-returns
 returns c =
     let s : tie.Start = search in
@@ -38,10 +20,10 @@ pub file-spec : {M : Type 1} → statement M
 file-spec =
     tie.close
     (tie.spec
-    mul-at-most
-    add-at-most
-    at-most-requires
-    sub-result
-    part-result-start
-    part-result-end
+    (λ c. search needs)  -- mul-at-most
+    (λ c. search needs)  -- add-at-most
+    (λ c κs. search needs)  -- at-most-requires
+    (λ c. search needs)  -- sub-result
+    (λ c. search needs)  -- part-result-start
+    (λ c. search needs)  -- part-result-end
     returns)

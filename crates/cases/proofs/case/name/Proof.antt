@@ -5,9 +5,6 @@ use Rattle.cases.proofs.Most.{take-most}
 use Rattle.cases.proofs.case.name.Statement.{statement}
 use Rattle.cases.proofs.case.name.Tie as tie
 
-at-most-requires : tie.Need-at-most-requires
-at-most-requires c κs = search needs
-
 slice-aggregate-result : tie.Need-slice-aggregate-result
 slice-aggregate-result c = simp length-take (omega (arith, c .before .at-most .ensures))
 
@@ -15,4 +12,4 @@ returns : tie.Need-returns
 returns c = let s : tie.Start = search in let most : tie.After-at-most = search in take-most _ 48 (s .args .case .now) (most .at-most .ensures)
 
 pub name-spec : {M : Type 1} → statement M
-name-spec = tie.close (tie.spec at-most-requires slice-aggregate-result returns)
+name-spec = tie.close (tie.spec (λ c κs. search needs) slice-aggregate-result returns)

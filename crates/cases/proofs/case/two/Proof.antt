@@ -3,23 +3,8 @@ use borrow.Author.Needs.{needs}
 use Rattle.cases.proofs.case.two.Statement.{statement}
 use Rattle.cases.proofs.case.two.Tie as tie
 
-shared-slice-read-wide : tie.Need-shared-slice-read-wide
-shared-slice-read-wide c = search needs
-
-wide-requires : tie.Need-wide-requires
-wide-requires c κs = search needs
-
 mul-result : tie.Need-mul-result
 mul-result c = omega (arith, c .wide .ensures .1)
-
-add-wide : tie.Need-add-wide
-add-wide c = search needs
-
-shared-slice-read-wide-2 : tie.Need-shared-slice-read-wide-2
-shared-slice-read-wide-2 c = search needs
-
-wide-requires-2 : tie.Need-wide-requires-2
-wide-requires-2 c κs = search needs
 
 add-result : tie.Need-add-result
 add-result c = omega (arith, c .before .before .wide .ensures .1, c .wide2 .ensures .1)
@@ -34,11 +19,11 @@ pub two-spec : {M : Type 1} → statement M
 two-spec =
     tie.close
     (tie.spec
-    shared-slice-read-wide
-    wide-requires
+    (λ c. search needs)  -- shared-slice-read-wide
+    (λ c κs. search needs)  -- wide-requires
     mul-result
-    add-wide
-    shared-slice-read-wide-2
-    wide-requires-2
+    (λ c. search needs)  -- add-wide
+    (λ c. search needs)  -- shared-slice-read-wide-2
+    (λ c κs. search needs)  -- wide-requires-2
     add-result
     returns)

@@ -34,12 +34,6 @@ room c =
     let z = c .before .loop .inv .1 in
     record { bytes = omega arith; words = omega arith }
 
-bytes-requires : tie.Need-bytes-requires Inv-loop μ-loop
-bytes-requires c κs = tt
-
-words-requires : tie.Need-words-requires Inv-loop μ-loop
-words-requires c κs = tt
-
 loop-holds : tie.Need-loop-holds Inv-loop μ-loop
 unfolding entries
 loop-holds c = (omega arith, refl, rw zero-mul)
@@ -83,12 +77,6 @@ part-read-entry-end-2 c = let r = room (c .before) in omega arith
 read-entry-requires : tie.Need-read-entry-requires Inv-loop μ-loop
 read-entry-requires c κs = let r = room (c .before .before) in simp (length-take, length-drop) (omega arith)
 
-add-i : tie.Need-add-i Inv-loop μ-loop
-add-i c = omega arith
-
-loop-less : tie.Need-loop-less Inv-loop μ-loop
-loop-less c = omega arith
-
 loop-again : tie.Need-loop-again Inv-loop μ-loop
 loop-again c =
     let entered = c .before in
@@ -117,8 +105,8 @@ read-entries-spec =
     (tie.spec
     Inv-loop
     μ-loop
-    bytes-requires
-    words-requires
+    (λ c κs. tt)  -- bytes-requires
+    (λ c κs. tt)  -- words-requires
     loop-holds
     mul-at
     add-at
@@ -133,8 +121,8 @@ read-entries-spec =
     part-read-entry-start-2
     part-read-entry-end-2
     read-entry-requires
-    add-i
-    loop-less
+    (λ c. omega arith)  -- add-i
+    (λ c. omega arith)  -- loop-less
     loop-again
     same-length
     returns)

@@ -10,27 +10,6 @@ use borrow.Author.Needs.{needs}
 use Rattle.file.proofs.entry.read_held.Statement.{statement}
 use Rattle.file.proofs.entry.read_held.Tie as tie
 
-be2-requires : tie.Need-be2-requires
-be2-requires c κs = search needs
-
-plain-requires : tie.Need-plain-requires
-plain-requires c κs = search needs
-
-be8-requires : tie.Need-be8-requires
-be8-requires c κs = search needs
-
-signed8-requires : tie.Need-signed8-requires
-signed8-requires c κs = search needs
-
-slice-set-from-mark : tie.Need-slice-set-from-mark
-slice-set-from-mark c = search needs
-
-slice-set-from-height : tie.Need-slice-set-from-height
-slice-set-from-height c = search needs
-
-same-length : tie.Need-same-length
-same-length c = search needs
-
 returns : tie.Need-returns
 unfolding heldNumbers
 returns c =
@@ -45,11 +24,11 @@ pub read-held-spec : {M : Type 1} → statement M
 read-held-spec =
     tie.close
     (tie.spec
-    be2-requires
-    plain-requires
-    be8-requires
-    signed8-requires
-    slice-set-from-mark
-    slice-set-from-height
-    same-length
+    (λ c κs. search needs)  -- be2-requires
+    (λ c κs. search needs)  -- plain-requires
+    (λ c κs. search needs)  -- be8-requires
+    (λ c κs. search needs)  -- signed8-requires
+    (λ c. search needs)  -- slice-set-from-mark
+    (λ c. search needs)  -- slice-set-from-height
+    (λ c. search needs)  -- same-length
     returns)

@@ -12,47 +12,8 @@ use borrow.Author.Needs.{needs}
 use Rattle.file.proofs.entry.read_line.Statement.{statement}
 use Rattle.file.proofs.entry.read_line.Tie as tie
 
-be2-requires : tie.Need-be2-requires
-be2-requires c κs = search needs
-
-plain-requires : tie.Need-plain-requires
-plain-requires c κs = search needs
-
-be2-requires-2 : tie.Need-be2-requires-2
-be2-requires-2 c κs = search needs
-
-plain-requires-2 : tie.Need-plain-requires-2
-plain-requires-2 c κs = search needs
-
-be4-requires : tie.Need-be4-requires
-be4-requires c κs = search needs
-
-signed4-requires : tie.Need-signed4-requires
-signed4-requires c κs = search needs
-
-be4-requires-2 : tie.Need-be4-requires-2
-be4-requires-2 c κs = search needs
-
-plain-requires-3 : tie.Need-plain-requires-3
-plain-requires-3 c κs = search needs
-
-slice-set-from-from : tie.Need-slice-set-from-from
-slice-set-from-from c = search needs
-
-slice-set-from-to : tie.Need-slice-set-from-to
-slice-set-from-to c = search needs
-
-slice-set-from-difference : tie.Need-slice-set-from-difference
-slice-set-from-difference c = search needs
-
-slice-set-from-length : tie.Need-slice-set-from-length
-slice-set-from-length c = search needs
-
 slice-set-of-out : tie.Need-slice-set-of-out
 slice-set-of-out c = simp length-set (omega arith)
-
-same-length : tie.Need-same-length
-same-length c = search needs
 
 returns : tie.Need-returns
 unfolding lineNumbers
@@ -74,18 +35,18 @@ pub read-line-spec : {M : Type 1} → statement M
 read-line-spec =
     tie.close
     (tie.spec
-    be2-requires
-    plain-requires
-    be2-requires-2
-    plain-requires-2
-    be4-requires
-    signed4-requires
-    be4-requires-2
-    plain-requires-3
-    slice-set-from-from
-    slice-set-from-to
-    slice-set-from-difference
-    slice-set-from-length
+    (λ c κs. search needs)  -- be2-requires
+    (λ c κs. search needs)  -- plain-requires
+    (λ c κs. search needs)  -- be2-requires-2
+    (λ c κs. search needs)  -- plain-requires-2
+    (λ c κs. search needs)  -- be4-requires
+    (λ c κs. search needs)  -- signed4-requires
+    (λ c κs. search needs)  -- be4-requires-2
+    (λ c κs. search needs)  -- plain-requires-3
+    (λ c. search needs)  -- slice-set-from-from
+    (λ c. search needs)  -- slice-set-from-to
+    (λ c. search needs)  -- slice-set-from-difference
+    (λ c. search needs)  -- slice-set-from-length
     slice-set-of-out
-    same-length
+    (λ c. search needs)  -- same-length
     returns)

@@ -4,21 +4,6 @@ use borrow.Author.Needs.{needs}
 use Rattle.file.proofs.wire.be8.Statement.{statement}
 use Rattle.file.proofs.wire.be8.Tie as tie
 
-be4-requires : tie.Need-be4-requires
-be4-requires c κs = search needs
-
-mul-result : tie.Need-mul-result
-mul-result c = search needs
-
-add-be4 : tie.Need-add-be4
-add-be4 c = search needs
-
-be4-requires-2 : tie.Need-be4-requires-2
-be4-requires-2 c κs = search needs
-
-add-result : tie.Need-add-result
-add-result c = search needs
-
 returns : tie.Need-returns
 returns c =
     let a = c .before .before .before .args in
@@ -26,4 +11,4 @@ returns c =
     omega arith
 
 pub be8-spec : {M : Type 1} → statement M
-be8-spec = tie.close (tie.spec be4-requires mul-result add-be4 be4-requires-2 add-result returns)
+be8-spec = tie.close (tie.spec (λ c κs. search needs) (λ c. search needs) (λ c. search needs) (λ c κs. search needs) (λ c. search needs) returns)

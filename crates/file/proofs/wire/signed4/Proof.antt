@@ -9,12 +9,6 @@ use borrow.Author.Needs.{needs}
 use Rattle.file.proofs.wire.signed4.Statement.{statement}
 use Rattle.file.proofs.wire.signed4.Tie as tie
 
-cast-result : tie.Need-cast-result
-cast-result c = search needs
-
-cast-result-2 : tie.Need-cast-result-2
-cast-result-2 c = search needs
-
 sub-result : tie.Need-sub-result
 sub-result c =
     let x = c .before .args .x in
@@ -34,4 +28,4 @@ returns-2 c =
     ∙ sym (high32 (c .before .args .x) (c .if1 .left))
 
 pub signed4-spec : {M : Type 1} → statement M
-signed4-spec = tie.close (tie.spec cast-result cast-result-2 sub-result returns returns-2)
+signed4-spec = tie.close (tie.spec (λ c. search needs) (λ c. search needs) sub-result returns returns-2)

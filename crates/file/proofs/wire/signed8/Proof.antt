@@ -10,24 +10,12 @@ use borrow.Author.Needs.{needs}
 use Rattle.file.proofs.wire.signed8.Statement.{statement}
 use Rattle.file.proofs.wire.signed8.Tie as tie
 
-cast-result : tie.Need-cast-result
-cast-result c = search needs
-
-sub-result : tie.Need-sub-result
-sub-result c = search needs
-
-cast-result-2 : tie.Need-cast-result-2
-cast-result-2 c = search needs
-
 sub-result-2 : tie.Need-sub-result-2
 sub-result-2 c =
     let x = c .before .args .x in
     let m = 18446744073709551615 - x in
     let e : toZ w64 m ≡ pos m = toZ-pos w64 (omega arith) in
     rw (e, minus-one-less m) (record { sfits = omega arith })
-
-returns : tie.Need-returns
-returns c = search needs
 
 returns-2 : tie.Need-returns-2
 returns-2 c =
@@ -43,4 +31,4 @@ returns-2 c =
 
 pub signed8-spec : {M : Type 1} → statement M
 signed8-spec =
-    tie.close (tie.spec cast-result sub-result cast-result-2 sub-result-2 returns returns-2)
+    tie.close (tie.spec (λ c. search needs) (λ c. search needs) (λ c. search needs) sub-result-2 (λ c. search needs) returns-2)

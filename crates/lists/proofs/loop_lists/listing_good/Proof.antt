@@ -14,24 +14,6 @@ use borrow.Author.Needs.{needs}
 use Rattle.lists.proofs.loop_lists.listing_good.Statement.{statement}
 use Rattle.lists.proofs.loop_lists.listing_good.Tie as tie
 
-slice-aggregate-find-loops : tie.Need-slice-aggregate-find-loops
-slice-aggregate-find-loops c = search needs
-
-slice-aggregate-find-loops-2 : tie.Need-slice-aggregate-find-loops-2
-slice-aggregate-find-loops-2 c = search needs
-
-find-loops-requires : tie.Need-find-loops-requires
-find-loops-requires c κs = search needs
-
-signed-count-requires : tie.Need-signed-count-requires
-signed-count-requires c κs = search needs
-
-outside-requires : tie.Need-outside-requires
-outside-requires c κs = search needs
-
-refuse-requires : tie.Need-refuse-requires
-refuse-requires c κs = search needs
-
 -- the flag that the code has is the definition's test
 flag : (c : tie.After-outside) → (let a : tie.After-find-loops = search in let s : tie.Start = search in
     c .outside .result ≡ outZ (pos 1) (pos (a .find-loops .result .count)) (s .args .number))
@@ -58,9 +40,6 @@ returns c =
     let s : tie.Start = search in
     rw (c .refuse .ensures) (eight-is _ _ (s .pre) (after-find-loops .find-loops .ensures .1) (s .args .number) (s .args .out .now) (sym (flag (c .before .before)) ∙ c .before .if1 .taken))
 
-magnitude-requires : tie.Need-magnitude-requires
-magnitude-requires c κs = search needs
-
 sub-i : tie.Need-sub-i
 sub-i c = there c .0
 
@@ -75,9 +54,6 @@ array-read-begin c =
     let after-magnitude : tie.After-magnitude = search in
     let s : tie.Start = search in
     omega (arith, there after-magnitude, few-loops _ _ (s .pre), s .pre .few)
-
-add-end : tie.Need-add-end
-add-end c = search needs
 
 mul-end : tie.Need-mul-end
 mul-end c =
@@ -123,9 +99,6 @@ write-run-requires c κs =
     let s : tie.Start = search in
     run-coded _ _ (s .pre) (after-find-loops .find-loops .ensures .1) (after-magnitude .magnitude .result - 1) (there after-magnitude .1)
 
-same-length : tie.Need-same-length
-same-length c = search needs
-
 returns-2 : tie.Need-returns-2
 returns-2 c =
     let after-find-loops : tie.After-find-loops = search in
@@ -140,18 +113,18 @@ pub listing-good-spec : {M : Type 1} → statement M
 listing-good-spec =
     tie.close
     (tie.spec
-    slice-aggregate-find-loops
-    slice-aggregate-find-loops-2
-    find-loops-requires
-    signed-count-requires
-    outside-requires
-    refuse-requires
+    (λ c. search needs)  -- slice-aggregate-find-loops
+    (λ c. search needs)  -- slice-aggregate-find-loops-2
+    (λ c κs. search needs)  -- find-loops-requires
+    (λ c κs. search needs)  -- signed-count-requires
+    (λ c κs. search needs)  -- outside-requires
+    (λ c κs. search needs)  -- refuse-requires
     returns
-    magnitude-requires
+    (λ c κs. search needs)  -- magnitude-requires
     sub-i
     mul-begin
     array-read-begin
-    add-end
+    (λ c. search needs)  -- add-end
     mul-end
     array-read-end
     mul-write-run
@@ -159,5 +132,5 @@ listing-good-spec =
     part-write-run-start
     part-write-run-end
     write-run-requires
-    same-length
+    (λ c. search needs)  -- same-length
     returns-2)

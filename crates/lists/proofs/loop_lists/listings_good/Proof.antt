@@ -7,21 +7,6 @@ use borrow.Author.Needs.{needs}
 use Rattle.lists.proofs.loop_lists.listings_good.Statement.{statement}
 use Rattle.lists.proofs.loop_lists.listings_good.Tie as tie
 
-slice-aggregate-find-loops : tie.Need-slice-aggregate-find-loops
-slice-aggregate-find-loops c = search needs
-
-slice-aggregate-find-loops-2 : tie.Need-slice-aggregate-find-loops-2
-slice-aggregate-find-loops-2 c = search needs
-
-find-loops-requires : tie.Need-find-loops-requires
-find-loops-requires c κs = search needs
-
-mul-end : tie.Need-mul-end
-mul-end c = search needs
-
-array-read-end : tie.Need-array-read-end
-array-read-end c = search needs
-
 array-share-prefix-runs : tie.Need-array-share-prefix-runs
 array-share-prefix-runs c =
     let after-find-loops : tie.After-find-loops = search in
@@ -38,9 +23,6 @@ write-run-requires c κs =
     let s : tie.Start = search in
     all-coded _ _ (s .pre) (after-find-loops .find-loops .ensures .1)
 
-same-length : tie.Need-same-length
-same-length c = search needs
-
 returns : tie.Need-returns
 returns c =
     let after-find-loops : tie.After-find-loops = search in
@@ -51,13 +33,13 @@ pub listings-good-spec : {M : Type 1} → statement M
 listings-good-spec =
     tie.close
     (tie.spec
-    slice-aggregate-find-loops
-    slice-aggregate-find-loops-2
-    find-loops-requires
-    mul-end
-    array-read-end
+    (λ c. search needs)  -- slice-aggregate-find-loops
+    (λ c. search needs)  -- slice-aggregate-find-loops-2
+    (λ c κs. search needs)  -- find-loops-requires
+    (λ c. search needs)  -- mul-end
+    (λ c. search needs)  -- array-read-end
     array-share-prefix-runs
     slice-aggregate-write-run
     write-run-requires
-    same-length
+    (λ c. search needs)  -- same-length
     returns)

@@ -23,9 +23,6 @@ mul-listed-by c =
     let entry : tie.Start Inv-loop μ-loop = search in
     omega (arith, entry .pre .1, entry .good)
 
-shared-slice-read-listed-by : tie.Need-shared-slice-read-listed-by Inv-loop μ-loop
-shared-slice-read-listed-by c = omega arith
-
 listed-by-requires : tie.Need-listed-by-requires Inv-loop μ-loop
 listed-by-requires c κs =
     let at-loop : tie.At-loop Inv-loop μ-loop = search in
@@ -47,9 +44,6 @@ add-i : tie.Need-add-i Inv-loop μ-loop
 add-i c =
     let entry : tie.Start Inv-loop μ-loop = search in
     omega (arith, entry .pre .1, entry .good)
-
-loop-less : tie.Need-loop-less Inv-loop μ-loop
-loop-less c = omega arith
 
 loop-again : tie.Need-loop-again Inv-loop μ-loop
 loop-again c =
@@ -78,12 +72,12 @@ list-run-spec =
     μ-loop
     loop-holds
     mul-listed-by
-    shared-slice-read-listed-by
+    (λ c. omega arith)  -- shared-slice-read-listed-by
     listed-by-requires
     mul-t9
     slice-set-from-out
     add-i
-    loop-less
+    (λ c. omega arith)  -- loop-less
     loop-again
     same-length
     returns)

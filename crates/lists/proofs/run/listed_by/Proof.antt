@@ -12,9 +12,6 @@ use borrow.Author.Needs.{needs}
 use Rattle.lists.proofs.run.listed_by.Statement.{statement}
 use Rattle.lists.proofs.run.listed_by.Tie as tie
 
-cast-number : tie.Need-cast-number
-cast-number c = search needs
-
 -- the number of the half
 number : (c : tie.Else1) → toZ w64 (c .before .args .code / 2) ≡ pos (c .before .args .code / 2)
 number c = toZ-pos w64 (omega arith)
@@ -34,4 +31,4 @@ returns-2 c =
     (back _ (c .sub .ok) ∙ (rw (number e) at (c .sub .ensures)) ∙ +ℤ-idl (negℤ (pos (e .before .args .code / 2))))
 
 pub listed-by-spec : {M : Type 1} → statement M
-listed-by-spec = tie.close (tie.spec cast-number returns sub-requires returns-2)
+listed-by-spec = tie.close (tie.spec (λ c. search needs) returns sub-requires returns-2)

@@ -7,22 +7,10 @@ use borrow.Author.Needs.{needs}
 use Rattle.lists.proofs.run.write_run.Statement.{statement}
 use Rattle.lists.proofs.run.write_run.Tie as tie
 
-refuse-requires : tie.Need-refuse-requires
-refuse-requires c κs = search needs
-
 returns : tie.Need-returns
 returns c =
     let s : tie.Start = search in
     rw (c .refuse .ensures) (list-ten _ (s .args .out .now) (omega (arith, length-map (s .args .run .now) listedBy, c .before .if1 .taken)))
-
-list-run-requires : tie.Need-list-run-requires
-list-run-requires c κs = search needs
-
-entered-requires : tie.Need-entered-requires
-entered-requires c κs = search needs
-
-same-length : tie.Need-same-length
-same-length c = search needs
 
 returns-2 : tie.Need-returns-2
 returns-2 c =
@@ -36,4 +24,4 @@ returns-2 c =
 pub write-run-spec : {M : Type 1} → statement M
 write-run-spec =
     tie.close
-    (tie.spec refuse-requires returns list-run-requires entered-requires same-length returns-2)
+    (tie.spec (λ c κs. search needs) returns (λ c κs. search needs) (λ c κs. search needs) (λ c. search needs) returns-2)

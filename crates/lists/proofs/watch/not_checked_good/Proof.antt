@@ -5,21 +5,6 @@ use borrow.Author.Needs.{needs}
 use Rattle.lists.proofs.watch.not_checked_good.Statement.{statement}
 use Rattle.lists.proofs.watch.not_checked_good.Tie as tie
 
-slice-aggregate-list-book : tie.Need-slice-aggregate-list-book
-slice-aggregate-list-book c = search needs
-
-slice-aggregate-list-book-2 : tie.Need-slice-aggregate-list-book-2
-slice-aggregate-list-book-2 c = search needs
-
-slice-aggregate-list-book-3 : tie.Need-slice-aggregate-list-book-3
-slice-aggregate-list-book-3 c = search needs
-
-slice-aggregate-list-book-4 : tie.Need-slice-aggregate-list-book-4
-slice-aggregate-list-book-4 c = search needs
-
-slice-aggregate-list-book-5 : tie.Need-slice-aggregate-list-book-5
-slice-aggregate-list-book-5 c = search needs
-
 list-book-requires : tie.Need-list-book-requires
 list-book-requires c κs =
     let s : tie.Start = search in (
@@ -49,9 +34,6 @@ write-list-requires c κs =
     let s : tie.Start = search in
     list-numbers (s .args .book) (s .args .lines .now) (s .pre) (search needs) (after-list-book .list-book .ensures)
 
-same-length : tie.Need-same-length
-same-length c = search needs
-
 returns : tie.Need-returns
 returns c =
     let after-list-book : tie.After-list-book = search in
@@ -62,14 +44,14 @@ pub not-checked-good-spec : {M : Type 1} → statement M
 not-checked-good-spec =
     tie.close
     (tie.spec
-    slice-aggregate-list-book
-    slice-aggregate-list-book-2
-    slice-aggregate-list-book-3
-    slice-aggregate-list-book-4
-    slice-aggregate-list-book-5
+    (λ c. search needs)  -- slice-aggregate-list-book
+    (λ c. search needs)  -- slice-aggregate-list-book-2
+    (λ c. search needs)  -- slice-aggregate-list-book-3
+    (λ c. search needs)  -- slice-aggregate-list-book-4
+    (λ c. search needs)  -- slice-aggregate-list-book-5
     list-book-requires
     array-share-prefix-list
     slice-aggregate-write-list
     write-list-requires
-    same-length
+    (λ c. search needs)  -- same-length
     returns)

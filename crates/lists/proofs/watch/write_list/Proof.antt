@@ -17,9 +17,6 @@ Inv-loop list out₀ count i₀ out i = Laid (map pos list) out₀ out i
 abbrev μ-loop : tie.MeasureT-loop
 μ-loop list out₀ count i₀ out i = length list - i
 
-refuse-requires : tie.Need-refuse-requires Inv-loop μ-loop
-refuse-requires c κs = search needs
-
 returns : tie.Need-returns Inv-loop μ-loop
 returns c =
     let s = c .before .before .before in
@@ -28,28 +25,10 @@ returns c =
 loop-holds : tie.Need-loop-holds Inv-loop μ-loop
 loop-holds c = laid-start _ _
 
-mul-signed-count : tie.Need-mul-signed-count Inv-loop μ-loop
-mul-signed-count c = omega arith
-
-shared-slice-read-signed-count : tie.Need-shared-slice-read-signed-count Inv-loop μ-loop
-shared-slice-read-signed-count c = omega arith
-
 signed-count-requires : tie.Need-signed-count-requires Inv-loop μ-loop
 signed-count-requires c κs =
     let entry : tie.Start Inv-loop μ-loop = search in
     omega (arith, entry .pre (c .before .before .loop .i) (omega arith))
-
-mul-t13 : tie.Need-mul-t13 Inv-loop μ-loop
-mul-t13 c = omega arith
-
-slice-set-from-out : tie.Need-slice-set-from-out Inv-loop μ-loop
-slice-set-from-out c = omega arith
-
-add-i : tie.Need-add-i Inv-loop μ-loop
-add-i c = omega arith
-
-loop-less : tie.Need-loop-less Inv-loop μ-loop
-loop-less c = omega arith
 
 loop-again : tie.Need-loop-again Inv-loop μ-loop
 loop-again c =
@@ -60,9 +39,6 @@ loop-again c =
     laid-next _ _ _ (l .loop .i) _ (pos 0) (omega (arith, n, else1 .if1 .left)) (omega (arith, n))
     (stored _ (c .signed-count .ok) (c .signed-count .ensures) ∙ sym (List·getD-map pos (s .args .list .now) (l .loop .i) 0))
     (l .loop .inv)
-
-entered-requires : tie.Need-entered-requires Inv-loop μ-loop
-entered-requires c κs = search needs
 
 same-length : tie.Need-same-length Inv-loop μ-loop
 same-length c = c .before .before .loop .inv .as-long
@@ -80,17 +56,17 @@ write-list-spec =
     (tie.spec
     Inv-loop
     μ-loop
-    refuse-requires
+    (λ c κs. search needs)  -- refuse-requires
     returns
     loop-holds
-    mul-signed-count
-    shared-slice-read-signed-count
+    (λ c. omega arith)  -- mul-signed-count
+    (λ c. omega arith)  -- shared-slice-read-signed-count
     signed-count-requires
-    mul-t13
-    slice-set-from-out
-    add-i
-    loop-less
+    (λ c. omega arith)  -- mul-t13
+    (λ c. omega arith)  -- slice-set-from-out
+    (λ c. omega arith)  -- add-i
+    (λ c. omega arith)  -- loop-less
     loop-again
-    entered-requires
+    (λ c κs. search needs)  -- entered-requires
     same-length
     returns-2)

@@ -10,43 +10,16 @@ use borrow.Author.Needs.{needs}
 use Rattle.page.proofs.loop_lines.put_loop.Statement.{statement}
 use Rattle.page.proofs.loop_lines.put_loop.Tie as tie
 
-slice-aggregate-row-of : tie.Need-slice-aggregate-row-of
-slice-aggregate-row-of c = search needs
-
-row-of-requires : tie.Need-row-of-requires
-row-of-requires c κs = search needs
-
-slice-aggregate-list-run : tie.Need-slice-aggregate-list-run
-slice-aggregate-list-run c = search needs
-
 list-run-requires : tie.Need-list-run-requires
 list-run-requires c κs =
     let s : tie.Start = search in
     (run-coded (s .pre .0) (s .pre .1 .0), omega (arith, s .pre .1 .0 .few))
-
-array-copy-out-loop-text : tie.Need-array-copy-out-loop-text
-array-copy-out-loop-text c = search needs
-
-array-copy-out-loop-text-2 : tie.Need-array-copy-out-loop-text-2
-array-copy-out-loop-text-2 c = search needs
-
-array-copy-out-loop-text-3 : tie.Need-array-copy-out-loop-text-3
-array-copy-out-loop-text-3 c = search needs
-
-array-share-prefix-list : tie.Need-array-share-prefix-list
-array-share-prefix-list c = search needs
 
 slice-aggregate-loop-text : tie.Need-slice-aggregate-loop-text
 slice-aggregate-loop-text c =
     let after-list-run : tie.After-list-run = search in
     let s : tie.Start = search in
     simp length-take (omega (arith, s .pre .1 .0 .few, after-list-run .list-run .kept))
-
-loop-text-requires : tie.Need-loop-text-requires
-loop-text-requires c κs = search needs
-
-same-length : tie.Need-same-length
-same-length c = search needs
 
 returns : tie.Need-returns
 returns c =
@@ -64,15 +37,15 @@ pub put-loop-spec : {M : Type 1} → statement M
 put-loop-spec =
     tie.close
     (tie.spec
-    slice-aggregate-row-of
-    row-of-requires
-    slice-aggregate-list-run
+    (λ c. search needs)  -- slice-aggregate-row-of
+    (λ c κs. search needs)  -- row-of-requires
+    (λ c. search needs)  -- slice-aggregate-list-run
     list-run-requires
-    array-copy-out-loop-text
-    array-copy-out-loop-text-2
-    array-copy-out-loop-text-3
-    array-share-prefix-list
+    (λ c. search needs)  -- array-copy-out-loop-text
+    (λ c. search needs)  -- array-copy-out-loop-text-2
+    (λ c. search needs)  -- array-copy-out-loop-text-3
+    (λ c. search needs)  -- array-share-prefix-list
     slice-aggregate-loop-text
-    loop-text-requires
-    same-length
+    (λ c κs. search needs)  -- loop-text-requires
+    (λ c. search needs)  -- same-length
     returns)

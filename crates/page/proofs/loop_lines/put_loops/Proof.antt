@@ -89,18 +89,12 @@ put-loop-requires c κs =
     let p = entry .pre in
     (measured _ _ (p .0), (run-in _ _ (p .0) (p .1) (at-loop .loop .i) (omega arith), p .0 .small-tolerance))
 
-loop-less : tie.Need-loop-less Inv-loop μ-loop
-loop-less c = omega arith
-
 loop-again : tie.Need-loop-again Inv-loop μ-loop
 loop-again c =
     let at-loop : tie.At-loop Inv-loop μ-loop = search in
     let after-put-loop : tie.After-put-loop Inv-loop μ-loop = search in
     let v = at-loop .loop .inv in
     (omega arith, omega (arith, v .1, after-put-loop .put-loop .kept), all-put-next (omega arith) (v .2) (after-put-loop .put-loop .ensures))
-
-same-length : tie.Need-same-length Inv-loop μ-loop
-same-length c = omega arith
 
 returns : tie.Need-returns Inv-loop μ-loop
 returns c =
@@ -126,7 +120,7 @@ put-loops-spec =
     part-put-loop-start
     part-put-loop-end
     put-loop-requires
-    loop-less
+    (λ c. omega arith)  -- loop-less
     loop-again
-    same-length
+    (λ c. omega arith)  -- same-length
     returns)

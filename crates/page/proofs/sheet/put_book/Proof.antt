@@ -4,15 +4,6 @@ use borrow.Author.Needs.{needs}
 use Rattle.page.proofs.sheet.put_book.Statement.{statement}
 use Rattle.page.proofs.sheet.put_book.Tie as tie
 
-put-loops-of-requires : tie.Need-put-loops-of-requires
-put-loops-of-requires c κs = search needs
-
-put-unchecked-requires : tie.Need-put-unchecked-requires
-put-unchecked-requires c κs = search needs
-
-same-length : tie.Need-same-length
-same-length c = search needs
-
 returns : tie.Need-returns
 unfolding bookPage
 returns c =
@@ -21,4 +12,4 @@ returns c =
 
 pub put-book-spec : {M : Type 1} → statement M
 put-book-spec =
-    tie.close (tie.spec put-loops-of-requires put-unchecked-requires same-length returns)
+    tie.close (tie.spec (λ c κs. search needs) (λ c κs. search needs) (λ c. search needs) returns)

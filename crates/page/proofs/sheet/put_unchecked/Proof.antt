@@ -5,12 +5,6 @@ use borrow.Author.Needs.{needs}
 use Rattle.page.proofs.sheet.put_unchecked.Statement.{statement}
 use Rattle.page.proofs.sheet.put_unchecked.Tie as tie
 
-slice-aggregate-not-checked-good : tie.Need-slice-aggregate-not-checked-good
-slice-aggregate-not-checked-good c = search needs
-
-not-checked-good-requires : tie.Need-not-checked-good-requires
-not-checked-good-requires c κs = search needs
-
 array-share-prefix-list : tie.Need-array-share-prefix-list
 array-share-prefix-list c =
     let s : tie.Start = search in
@@ -24,12 +18,6 @@ slice-aggregate-not-checked-text c =
     let f = unchecked-fits (s .args .book) (s .args .lines .now) (s .pre) _ (search needs) (n .ensures) (n .kept .1 .1 .0) in
     simp length-take (omega (arith, f))
 
-not-checked-text-requires : tie.Need-not-checked-text-requires
-not-checked-text-requires c κs = search needs
-
-same-length : tie.Need-same-length
-same-length c = search needs
-
 returns : tie.Need-returns
 returns c =
     let after-not-checked-good : tie.After-not-checked-good = search in
@@ -40,10 +28,10 @@ pub put-unchecked-spec : {M : Type 1} → statement M
 put-unchecked-spec =
     tie.close
     (tie.spec
-    slice-aggregate-not-checked-good
-    not-checked-good-requires
+    (λ c. search needs)  -- slice-aggregate-not-checked-good
+    (λ c κs. search needs)  -- not-checked-good-requires
     array-share-prefix-list
     slice-aggregate-not-checked-text
-    not-checked-text-requires
-    same-length
+    (λ c κs. search needs)  -- not-checked-text-requires
+    (λ c. search needs)  -- same-length
     returns)

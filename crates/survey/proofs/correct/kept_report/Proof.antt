@@ -9,20 +9,11 @@ use borrow.Author.Needs.{needs}
 use Rattle.survey.proofs.correct.kept_report.Statement.{statement}
 use Rattle.survey.proofs.correct.kept_report.Tie as tie
 
-find-loops-requires : tie.Need-find-loops-requires
-find-loops-requires c κs = search needs
-
-slice-aggregate-write-rows : tie.Need-slice-aggregate-write-rows
-slice-aggregate-write-rows c = search needs
-
 write-rows-requires : tie.Need-write-rows-requires
 write-rows-requires c κs =
     let after-find-loops : tie.After-find-loops = search in
     let s : tie.Start = search in
     (s .pre .0, ((after-find-loops .find-loops .ensures .1), few-words _ _ (s .pre .0) (after-find-loops .find-loops .ensures .0)))
-
-mul-words : tie.Need-mul-words
-mul-words c = search needs
 
 array-share-prefix-rows : tie.Need-array-share-prefix-rows
 array-share-prefix-rows c =
@@ -37,15 +28,6 @@ slice-aggregate-differs c =
     let after-find-loops : tie.After-find-loops = search in
     let s : tie.Start = search in
     simp length-take (omega (arith, few-words _ _ (s .pre .0) (after-find-loops .find-loops .ensures .0), after-write-rows .write-rows .kept))
-
-differs-requires : tie.Need-differs-requires
-differs-requires c κs = search needs
-
-same-length : tie.Need-same-length
-same-length c = search needs
-
-same-length-2 : tie.Need-same-length-2
-same-length-2 c = search needs
 
 -- the flag that the code has is the definition's comparison
 flag : (c : tie.After-differs) → (let s : tie.Start = search in c .differs .result ≡ otherReport (s .args .report .now) (fresh (s .args .book) (s .args .lines .now) (s .pre .0)))
@@ -64,12 +46,6 @@ returns c =
     let s : tie.Start = search in
     (kept-other _ _ (s .pre .0) (s .args .report .now) _ (flag (c .before)) (c .if1 .taken), rw (← (count-is after-find-loops)) (after-find-loops .find-loops .ensures .1))
 
-same-length-3 : tie.Need-same-length-3
-same-length-3 c = search needs
-
-same-length-4 : tie.Need-same-length-4
-same-length-4 c = search needs
-
 returns-2 : tie.Need-returns-2
 returns-2 c =
     let after-find-loops : tie.After-find-loops = search in
@@ -80,16 +56,16 @@ pub kept-report-spec : {M : Type 1} → statement M
 kept-report-spec =
     tie.close
     (tie.spec
-    find-loops-requires
-    slice-aggregate-write-rows
+    (λ c κs. search needs)  -- find-loops-requires
+    (λ c. search needs)  -- slice-aggregate-write-rows
     write-rows-requires
-    mul-words
+    (λ c. search needs)  -- mul-words
     array-share-prefix-rows
     slice-aggregate-differs
-    differs-requires
-    same-length
-    same-length-2
+    (λ c κs. search needs)  -- differs-requires
+    (λ c. search needs)  -- same-length
+    (λ c. search needs)  -- same-length-2
     returns
-    same-length-3
-    same-length-4
+    (λ c. search needs)  -- same-length-3
+    (λ c. search needs)  -- same-length-4
     returns-2)

@@ -8,17 +8,11 @@ use Rattle.laws.proofs.Signed.{stored}
 use Rattle.laws.proofs.Tests.{or-here, or-next}
 use Rattle.laws.specs.Range.{Between}
 use Rattle.laws.proofs.Size.{between}
-use Rattle.book.specs.Line.{lineCount}
+use Rattle.book.specs.Line.{lineCount, standingAt}
 use Rattle.survey.specs.Correction.{noLine}
 use borrow.Author.Needs.{needs}
 use Rattle.survey.proofs.correct.no_line.Statement.{statement}
 use Rattle.survey.proofs.correct.no_line.Tie as tie
-
-signed-count-requires : tie.Need-signed-count-requires
-signed-count-requires c κs = search needs
-
-outside-requires : tie.Need-outside-requires
-outside-requires c κs = search needs
 
 -- the flag that the code has is the definition's test
 flag : (c : tie.After-outside) → (let a = c .before .before .args in c .outside .result ≡ outZ (pos 1) (pos (lineCount (a .lines .now))) (a .number))
@@ -37,9 +31,6 @@ returns : tie.Need-returns
 unfolding noLine
 returns c = or-here _ (flag (c .before)) (c .if1 .taken)
 
-magnitude-requires : tie.Need-magnitude-requires
-magnitude-requires c κs = search needs
-
 sub-at : tie.Need-sub-at
 sub-at c = let w = inside (c .before) in let m = size c in omega (arith, w .low)
 
@@ -55,11 +46,8 @@ mul-same c = let w = inside (c .before) in let m = size c in omega (arith, w .lo
 shared-slice-copy-out-same : tie.Need-shared-slice-copy-out-same
 shared-slice-copy-out-same c = let w = inside (c .before) in let m = size c in omega (arith, w .low, w .high)
 
-same-requires : tie.Need-same-requires
-same-requires c κs = search needs
-
 -- the flag of a withdrawn line
-gone : (c : tie.After-same) → (let entry : tie.Start = search in c .same .result ≡ eqZ (getD (entry .args .lines .now) ((c .before .before .magnitude .result - 1) * 5 + 4) (pos 0)) (pos 0))
+gone : (c : tie.After-same) → (let entry : tie.Start = search in c .same .result ≡ eqZ (standingAt (entry .args .lines .now) (c .before .before .magnitude .result - 1)) (pos 0))
 gone c = c .same .ensures ∙ search needs
 
 returns-2 : tie.Need-returns-2
@@ -72,14 +60,14 @@ pub no-line-spec : {M : Type 1} → statement M
 no-line-spec =
     tie.close
     (tie.spec
-    signed-count-requires
-    outside-requires
+    (λ c κs. search needs)  -- signed-count-requires
+    (λ c κs. search needs)  -- outside-requires
     returns
-    magnitude-requires
+    (λ c κs. search needs)  -- magnitude-requires
     sub-at
     mul-at
     add-same
     mul-same
     shared-slice-copy-out-same
-    same-requires
+    (λ c κs. search needs)  -- same-requires
     returns-2)

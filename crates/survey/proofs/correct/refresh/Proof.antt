@@ -4,17 +4,11 @@ use borrow.Author.Needs.{needs}
 use Rattle.survey.proofs.correct.refresh.Statement.{statement}
 use Rattle.survey.proofs.correct.refresh.Tie as tie
 
-survey-good-requires : tie.Need-survey-good-requires
-survey-good-requires c κs = search needs
-
 mul-vacate : tie.Need-mul-vacate
 mul-vacate c =
     let after-survey-good : tie.After-survey-good = search in
     let s : tie.Start = search in
     omega (arith, answer-words _ _ (s .pre .0) _ _ _ (omega (arith, s .pre .1 .fewer, s .pre .1 .places)) (after-survey-good .survey-good .ensures), s .pre .1 .fewer, s .pre .1 .places, s .good)
-
-mul-vacate-2 : tie.Need-mul-vacate-2
-mul-vacate-2 c = search needs
 
 vacate-requires : tie.Need-vacate-requires
 vacate-requires c κs =
@@ -22,9 +16,6 @@ vacate-requires c κs =
     let s : tie.Start = search in
     let w = answer-words _ _ (s .pre .0) _ _ _ (omega (arith, s .pre .1 .fewer, s .pre .1 .places)) (after-survey-good .survey-good .ensures) in
     omega (arith, w, s .pre .1 .fewer, s .pre .1 .places, after-survey-good .survey-good .kept)
-
-same-length : tie.Need-same-length
-same-length c = search needs
 
 returns : tie.Need-returns
 returns c =
@@ -36,4 +27,4 @@ returns c =
 pub refresh-spec : {M : Type 1} → statement M
 refresh-spec =
     tie.close
-    (tie.spec survey-good-requires mul-vacate mul-vacate-2 vacate-requires same-length returns)
+    (tie.spec (λ c κs. search needs) mul-vacate (λ c. search needs) vacate-requires (λ c. search needs) returns)

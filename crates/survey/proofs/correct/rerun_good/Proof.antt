@@ -7,6 +7,7 @@ use lib.ListN.{length, set}
 use mir.Syntax.{w64}
 use mir.Val.{toZ, ofZ}
 use mir.Facts.{toZ-ofZ}
+use Rattle.book.specs.Line.{place, differenceField}
 use Rattle.loops.specs.Row.{rowWords}
 use Rattle.table.specs.Filled.{foundIn}
 use Rattle.table.specs.declared.Found.{Found}
@@ -22,15 +23,6 @@ use borrow.Author.Needs.{needs}
 use Rattle.survey.proofs.correct.rerun_good.Statement.{statement}
 use Rattle.survey.proofs.correct.rerun_good.Tie as tie
 
-no-line-requires : tie.Need-no-line-requires
-no-line-requires c κs = search needs
-
-refuse-requires : tie.Need-refuse-requires
-refuse-requires c κs = search needs
-
-same-length : tie.Need-same-length
-same-length c = search needs
-
 -- the flag that the code has is the definition's test
 flag : (c : tie.After-no-line) → (let a = c .before .before .args in c .no-line .result ≡ noLine (a .lines .now) (a .number))
 flag c = c .no-line .ensures ∙ search needs
@@ -42,7 +34,7 @@ size : (c : tie.After-magnitude) → (let entry : tie.Start = search in c .magni
 size c = c .magnitude .ensures ∙ search needs
 
 -- where the number that is set stands
-inside : (c : tie.After-magnitude) → (let entry : tie.Start = search in (c .magnitude .result ≡ c .magnitude .result - 1 + 1) × ((c .magnitude .result - 1) * 5 + 2 < length (entry .args .lines .now)))
+inside : (c : tie.After-magnitude) → (let entry : tie.Start = search in (c .magnitude .result ≡ c .magnitude .result - 1 + 1) × (place (c .magnitude .result - 1) differenceField < length (entry .args .lines .now)))
 inside c =
     let else1 : tie.Else1 = search in
     let n = ap natAbs (stands else1 .its-number) in
@@ -59,30 +51,6 @@ returns : tie.Need-returns
 unfolding correctGood
 returns c = rw (← (flag (c .before .before)), c .before .if1 .taken, c .refuse .ensures)
 
-slice-aggregate-kept-report : tie.Need-slice-aggregate-kept-report
-slice-aggregate-kept-report c = search needs
-
-slice-aggregate-kept-report-2 : tie.Need-slice-aggregate-kept-report-2
-slice-aggregate-kept-report-2 c = search needs
-
-kept-report-requires : tie.Need-kept-report-requires
-kept-report-requires c κs = search needs
-
-enum-known-kept : tie.Need-enum-known-kept
-enum-known-kept c = search needs
-
-enum-told : tie.Need-enum-told
-enum-told c = search needs
-
-refuse-requires-2 : tie.Need-refuse-requires-2
-refuse-requires-2 c κs = search needs
-
-same-length-2 : tie.Need-same-length-2
-same-length-2 c = search needs
-
-same-length-3 : tie.Need-same-length-3
-same-length-3 c = search needs
-
 returns-2 : tie.Need-returns-2
 unfolding correctGood
 returns-2 c =
@@ -96,9 +64,6 @@ returns-2 c =
       is-other (s .args .book) (s .args .lines .now) (s .pre .0) (s .args .report .now) _ (after-kept-report .kept-report .ensures .0) (c .before .enum-told .given .1),
       c .refuse2 .ensures,
     )
-
-magnitude-requires : tie.Need-magnitude-requires
-magnitude-requires c κs = search needs
 
 sub-at : tie.Need-sub-at
 sub-at c =
@@ -130,19 +95,13 @@ slice-set-from-difference c =
     let s : tie.Start = search in
     omega (arith, inside m, s .good)
 
-slice-aggregate-write-rows : tie.Need-slice-aggregate-write-rows
-slice-aggregate-write-rows c = search needs
-
-slice-aggregate-write-rows-2 : tie.Need-slice-aggregate-write-rows-2
-slice-aggregate-write-rows-2 c = search needs
-
 -- the steps before the report was compared, which are further back than one search goes
 abbrev else-before : tie.After-kept → tie.Else1
 else-before c = search
 
 -- the lines as they now are
 new-lines : (c : tie.After-magnitude) → (let entry : tie.Start = search in let a = entry .args in
-    set (a .lines .now) ((c .magnitude .result - 1) * 5 + 2) (toZ w64 (ofZ w64 (a .difference))) ≡ rerunLines (a .lines .now) (a .number) (a .difference))
+    set (a .lines .now) (place (c .magnitude .result - 1) differenceField) (toZ w64 (ofZ w64 (a .difference))) ≡ rerunLines (a .lines .now) (a .number) (a .difference))
 unfolding rerunLines
 new-lines c = let entry : tie.Start = search in rw (size c, toZ-ofZ (entry .fits .difference))
 
@@ -169,15 +128,6 @@ write-rows-requires c κs =
       ),
     )
 
-count-of-requires : tie.Need-count-of-requires
-count-of-requires c κs = search needs
-
-same-length-4 : tie.Need-same-length-4
-same-length-4 c = search needs
-
-same-length-5 : tie.Need-same-length-5
-same-length-5 c = search needs
-
 returns-3 : tie.Need-returns-3
 returns-3 c =
     let after-write-rows : tie.After-write-rows = search in
@@ -195,29 +145,29 @@ pub rerun-good-spec : {M : Type 1} → statement M
 rerun-good-spec =
     tie.close
     (tie.spec
-    no-line-requires
-    refuse-requires
-    same-length
+    (λ c κs. search needs)  -- no-line-requires
+    (λ c κs. search needs)  -- refuse-requires
+    (λ c. search needs)  -- same-length
     returns
-    slice-aggregate-kept-report
-    slice-aggregate-kept-report-2
-    kept-report-requires
-    enum-known-kept
-    enum-told
-    refuse-requires-2
-    same-length-2
-    same-length-3
+    (λ c. search needs)  -- slice-aggregate-kept-report
+    (λ c. search needs)  -- slice-aggregate-kept-report-2
+    (λ c κs. search needs)  -- kept-report-requires
+    (λ c. search needs)  -- enum-known-kept
+    (λ c. search needs)  -- enum-told
+    (λ c κs. search needs)  -- refuse-requires-2
+    (λ c. search needs)  -- same-length-2
+    (λ c. search needs)  -- same-length-3
     returns-2
-    magnitude-requires
+    (λ c κs. search needs)  -- magnitude-requires
     sub-at
     mul-at
     add-at
     mul-difference
     slice-set-from-difference
-    slice-aggregate-write-rows
-    slice-aggregate-write-rows-2
+    (λ c. search needs)  -- slice-aggregate-write-rows
+    (λ c. search needs)  -- slice-aggregate-write-rows-2
     write-rows-requires
-    count-of-requires
-    same-length-4
-    same-length-5
+    (λ c κs. search needs)  -- count-of-requires
+    (λ c. search needs)  -- same-length-4
+    (λ c. search needs)  -- same-length-5
     returns-3)

@@ -4,6 +4,7 @@ use Prim.Native.Nat.{_+_, _*_, _-_, _<_}
 use native.Mathlib.Omega.{arith}
 use lib.IntN.{pos, natAbs}
 use lib.ListN.{length, set}
+use Rattle.book.specs.Line.{place, standingField}
 use Rattle.table.specs.Filled.{foundIn}
 use Rattle.table.specs.declared.Found.{Found}
 use Rattle.book.specs.Good.{GoodLines}
@@ -14,15 +15,6 @@ use Rattle.survey.proofs.Keeping.{fresh, is-other, is-own, corrected-is
 use borrow.Author.Needs.{needs}
 use Rattle.survey.proofs.correct.withdraw_good.Statement.{statement}
 use Rattle.survey.proofs.correct.withdraw_good.Tie as tie
-
-no-line-requires : tie.Need-no-line-requires
-no-line-requires c κs = search needs
-
-refuse-requires : tie.Need-refuse-requires
-refuse-requires c κs = search needs
-
-same-length : tie.Need-same-length
-same-length c = search needs
 
 -- the flag that the code has is the definition's test
 flag : (c : tie.After-no-line) → (let a = c .before .before .args in c .no-line .result ≡ noLine (a .lines .now) (a .number))
@@ -35,7 +27,7 @@ size : (c : tie.After-magnitude) → (let entry : tie.Start = search in c .magni
 size c = c .magnitude .ensures ∙ search needs
 
 -- where the number that is set stands
-inside : (c : tie.After-magnitude) → (let entry : tie.Start = search in (c .magnitude .result ≡ c .magnitude .result - 1 + 1) × ((c .magnitude .result - 1) * 5 + 4 < length (entry .args .lines .now)))
+inside : (c : tie.After-magnitude) → (let entry : tie.Start = search in (c .magnitude .result ≡ c .magnitude .result - 1 + 1) × (place (c .magnitude .result - 1) standingField < length (entry .args .lines .now)))
 inside c =
     let else1 : tie.Else1 = search in
     let n = ap natAbs (stands else1 .its-number) in
@@ -52,30 +44,6 @@ returns : tie.Need-returns
 unfolding correctGood
 returns c = rw (← (flag (c .before .before)), c .before .if1 .taken, c .refuse .ensures)
 
-slice-aggregate-kept-report : tie.Need-slice-aggregate-kept-report
-slice-aggregate-kept-report c = search needs
-
-slice-aggregate-kept-report-2 : tie.Need-slice-aggregate-kept-report-2
-slice-aggregate-kept-report-2 c = search needs
-
-kept-report-requires : tie.Need-kept-report-requires
-kept-report-requires c κs = search needs
-
-enum-known-kept : tie.Need-enum-known-kept
-enum-known-kept c = search needs
-
-enum-told : tie.Need-enum-told
-enum-told c = search needs
-
-refuse-requires-2 : tie.Need-refuse-requires-2
-refuse-requires-2 c κs = search needs
-
-same-length-2 : tie.Need-same-length-2
-same-length-2 c = search needs
-
-same-length-3 : tie.Need-same-length-3
-same-length-3 c = search needs
-
 returns-2 : tie.Need-returns-2
 unfolding correctGood
 returns-2 c =
@@ -89,9 +57,6 @@ returns-2 c =
       is-other (s .args .book) (s .args .lines .now) (s .pre) (s .args .report .now) _ (after-kept-report .kept-report .ensures .0) (c .before .enum-told .given .1),
       c .refuse2 .ensures,
     )
-
-magnitude-requires : tie.Need-magnitude-requires
-magnitude-requires c κs = search needs
 
 sub-at : tie.Need-sub-at
 sub-at c =
@@ -125,7 +90,7 @@ slice-set-of-lines c =
 
 -- the lines as they now are
 new-lines : (c : tie.After-magnitude) → (let entry : tie.Start = search in let a = entry .args in
-    set (a .lines .now) ((c .magnitude .result - 1) * 5 + 4) (pos 0) ≡ withdrawLines (a .lines .now) (a .number))
+    set (a .lines .now) (place (c .magnitude .result - 1) standingField) (pos 0) ≡ withdrawLines (a .lines .now) (a .number))
 unfolding withdrawLines
 new-lines c = rw (size c)
 
@@ -149,12 +114,6 @@ refresh-requires c κs =
           (withdrawal-fewer (s .args .book) (s .args .lines .now) (s .pre) (s .args .number) _ (stands e)) (o .0) (o .1),
     )
 
-same-length-4 : tie.Need-same-length-4
-same-length-4 c = search needs
-
-same-length-5 : tie.Need-same-length-5
-same-length-5 c = search needs
-
 returns-3 : tie.Need-returns-3
 returns-3 c =
     let m : tie.After-magnitude = search in
@@ -170,26 +129,26 @@ pub withdraw-good-spec : {M : Type 1} → statement M
 withdraw-good-spec =
     tie.close
     (tie.spec
-    no-line-requires
-    refuse-requires
-    same-length
+    (λ c κs. search needs)  -- no-line-requires
+    (λ c κs. search needs)  -- refuse-requires
+    (λ c. search needs)  -- same-length
     returns
-    slice-aggregate-kept-report
-    slice-aggregate-kept-report-2
-    kept-report-requires
-    enum-known-kept
-    enum-told
-    refuse-requires-2
-    same-length-2
-    same-length-3
+    (λ c. search needs)  -- slice-aggregate-kept-report
+    (λ c. search needs)  -- slice-aggregate-kept-report-2
+    (λ c κs. search needs)  -- kept-report-requires
+    (λ c. search needs)  -- enum-known-kept
+    (λ c. search needs)  -- enum-told
+    (λ c κs. search needs)  -- refuse-requires-2
+    (λ c. search needs)  -- same-length-2
+    (λ c. search needs)  -- same-length-3
     returns-2
-    magnitude-requires
+    (λ c κs. search needs)  -- magnitude-requires
     sub-at
     mul-at
     add-at
     mul-lines
     slice-set-of-lines
     refresh-requires
-    same-length-4
-    same-length-5
+    (λ c. search needs)  -- same-length-4
+    (λ c. search needs)  -- same-length-5
     returns-3)

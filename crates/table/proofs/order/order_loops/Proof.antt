@@ -8,12 +8,6 @@ closing-lines-requires c κs =
     let entry : tie.Start = search in
     ready-of (entry .pre)
 
-lay-tree-requires : tie.Need-lay-tree-requires
-lay-tree-requires c κs = search needs
-
-sub-t17 : tie.Need-sub-t17
-sub-t17 c = search needs
-
 sub-t18 : tie.Need-sub-t18
 sub-t18 c =
     let after-lay-tree : tie.After-lay-tree = search in
@@ -23,15 +17,6 @@ sub-t18 c =
     few-laid _ _ _ (p .some-line) (p .lines) (p .listed) _ _ _ _ _ _ (p .closes)
     (after-closing-lines .closing-lines .ensures (p .lines) (p .listed) (p .holding))
     (after-lay-tree .lay-tree .ensures _ (p .lines) (p .listed) (p .holding))
-
-same-length : tie.Need-same-length
-same-length c = search needs
-
-same-length-2 : tie.Need-same-length-2
-same-length-2 c = search needs
-
-same-length-3 : tie.Need-same-length-3
-same-length-3 c = search needs
 
 returns : tie.Need-returns
 returns c =
@@ -47,10 +32,10 @@ order-loops-spec =
     tie.close
     (tie.spec
     closing-lines-requires
-    lay-tree-requires
-    sub-t17
+    (λ c κs. search needs)  -- lay-tree-requires
+    (λ c. search needs)  -- sub-t17
     sub-t18
-    same-length
-    same-length-2
-    same-length-3
+    (λ c. search needs)  -- same-length
+    (λ c. search needs)  -- same-length-2
+    (λ c. search needs)  -- same-length-3
     returns)

@@ -8,9 +8,6 @@ use Rattle.book.proofs.Made.{held-height-made, no-held-height}
 use Rattle.book.proofs.held.Held.new.Statement.{statement}
 use Rattle.book.proofs.held.Held.new.Tie as tie
 
-outside-requires : tie.Need-outside-requires
-outside-requires c κs = search needs
-
 -- the flag that the code has is the definition's test
 flag : (c : tie.After-outside) → (let a = c .before .args in c .outside .result ≡ outZ (pos 1) (a .b) (a .mark))
 flag c = c .outside .ensures ∙ search needs
@@ -18,15 +15,6 @@ flag c = c .outside .ensures ∙ search needs
 returns : tie.Need-returns
 unfolding heldEntryOf heldOut
 returns c = rw (← (flag (c .before)), c .if1 .taken)
-
-held-requires : tie.Need-held-requires
-held-requires c κs = search needs
-
-enum-known-number : tie.Need-enum-known-number
-enum-known-number c = search needs
-
-enum-known-height : tie.Need-enum-known-height
-enum-known-height c = search needs
 
 -- what the height's constructor answered
 made : (c : tie.After-held) → c .held .result ≡ heldHeightOf (c .before .before .before .args .height)
@@ -50,10 +38,10 @@ pub new-spec : {M : Type 1} → statement M
 new-spec =
     tie.close
     (tie.spec
-    outside-requires
+    (λ c κs. search needs)  -- outside-requires
     returns
-    held-requires
-    enum-known-number
-    enum-known-height
+    (λ c κs. search needs)  -- held-requires
+    (λ c. search needs)  -- enum-known-number
+    (λ c. search needs)  -- enum-known-height
     returns-2
     returns-3)

@@ -3,39 +3,6 @@ use borrow.Author.Needs.{needs}
 use Rattle.book.proofs.line.Line.fault.Statement.{statement}
 use Rattle.book.proofs.line.Line.fault.Tie as tie
 
-outside-requires : tie.Need-outside-requires
-outside-requires c κs = search needs
-
-first-requires : tie.Need-first-requires
-first-requires c κs = search needs
-
-outside-requires-2 : tie.Need-outside-requires-2
-outside-requires-2 c κs = search needs
-
-first-requires-2 : tie.Need-first-requires-2
-first-requires-2 c κs = search needs
-
-outside-difference-requires : tie.Need-outside-difference-requires
-outside-difference-requires c κs = search needs
-
-first-requires-3 : tie.Need-first-requires-3
-first-requires-3 c κs = search needs
-
-same-requires : tie.Need-same-requires
-same-requires c κs = search needs
-
-first-requires-4 : tie.Need-first-requires-4
-first-requires-4 c κs = search needs
-
-outside-requires-3 : tie.Need-outside-requires-3
-outside-requires-3 c κs = search needs
-
-outside-requires-4 : tie.Need-outside-requires-4
-outside-requires-4 c κs = search needs
-
-first-requires-5 : tie.Need-first-requires-5
-first-requires-5 c κs = search needs
-
 returns : tie.Need-returns
 unfolding lineFault
 returns c =
@@ -55,15 +22,15 @@ pub fault-spec : {M : Type 1} → statement M
 fault-spec =
     tie.close
     (tie.spec
-    outside-requires
-    first-requires
-    outside-requires-2
-    first-requires-2
-    outside-difference-requires
-    first-requires-3
-    same-requires
-    first-requires-4
-    outside-requires-3
-    outside-requires-4
-    first-requires-5
+    (λ c κs. search needs)  -- outside-requires
+    (λ c κs. search needs)  -- first-requires
+    (λ c κs. search needs)  -- outside-requires-2
+    (λ c κs. search needs)  -- first-requires-2
+    (λ c κs. search needs)  -- outside-difference-requires
+    (λ c κs. search needs)  -- first-requires-3
+    (λ c κs. search needs)  -- same-requires
+    (λ c κs. search needs)  -- first-requires-4
+    (λ c κs. search needs)  -- outside-requires-3
+    (λ c κs. search needs)  -- outside-requires-4
+    (λ c κs. search needs)  -- first-requires-5
     returns)

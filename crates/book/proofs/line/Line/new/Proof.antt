@@ -5,9 +5,6 @@ use borrow.Author.Needs.{needs}
 use Rattle.book.proofs.line.Line.new.Statement.{statement}
 use Rattle.book.proofs.line.Line.new.Tie as tie
 
-fault-requires : tie.Need-fault-requires
-fault-requires c κs = search needs
-
 -- the number that the code has is the definition's fault
 flag : (c : tie.After-fault) → (let a = c .before .args in
     c .fault .result ≡ lineFault (a .b) (a .from) (a .to) (a .difference) (a .length) (a .standing))
@@ -22,4 +19,4 @@ unfolding lineOf
 returns-2 c = rw (← (flag (c .before)), le-ltb _ _ (c .if1 .left)) (search needs)
 
 pub new-spec : {M : Type 1} → statement M
-new-spec = tie.close (tie.spec fault-requires returns returns-2)
+new-spec = tie.close (tie.spec (λ c κs. search needs) returns returns-2)

@@ -4,12 +4,9 @@ use borrow.Author.Needs.{needs}
 use Rattle.book.proofs.line.Line.outside_difference.Statement.{statement}
 use Rattle.book.proofs.line.Line.outside_difference.Tie as tie
 
-outside-requires : tie.Need-outside-requires
-outside-requires c κs = search needs
-
 returns : tie.Need-returns
 unfolding differenceOut
 returns c = c .outside .ensures ∙ search needs
 
 pub outside-difference-spec : {M : Type 1} → statement M
-outside-difference-spec = tie.close (tie.spec outside-requires returns)
+outside-difference-spec = tie.close (tie.spec (λ c κs. search needs) returns)
