@@ -18,7 +18,7 @@ use Rattle.book.proofs.Goods.{tested-good, good-lines}
 use Rattle.network.specs.Standing.{Line, standing}
 use Rattle.loops.specs.Loops.{Loop, loops, loopAt}
 use Rattle.loops.specs.LinesInAll.{linesInAll, mostLinesInAll}
-use Rattle.loops.specs.Row.{listed, listings, verdict, row}
+use Rattle.loops.specs.Row.{listed, listings, verdict, row, rowWords, rowClosing, rowCount}
 use Rattle.loops.specs.Checked.{runs, notChecked}
 use Rattle.loops.specs.Circuit.{Circuit}
 use Rattle.loops.proofs.Row.{within-exactly-if, over-else, rows-length}
@@ -49,7 +49,7 @@ over-exactly-if t lp = (λ e. go e (decLe _ _), over-else t lp)
     go e (no h) = omega arith
 
 -- numbers that are a loop's row in its place
-row-of : (t : ℕ) (report : List ℤ) (i : ℕ) (lp : Loop) → ((j : ℕ) → j < 5 → inRow j report i ≡ getD (row t lp) j (pos 0)) → RowOf t report i lp
+row-of : (t : ℕ) (report : List ℤ) (i : ℕ) (lp : Loop) → ((j : ℕ) → j < rowWords → inRow j report i ≡ getD (row t lp) j (pos 0)) → RowOf t report i lp
 unfolding row
 row-of t report i lp h = record {
   closing-line = h 0 (omega arith);
@@ -107,7 +107,7 @@ module _ (book : Lent) (k : Book) (passes : testOf book ≡ Good k) where
 
     -- "each with a closing line that no earlier loop has"
     pub closing-line-is-new : (i j : ℕ) → j < i → i < surveyOf book out .answer .rows
-        → runs (natAbs (inRow 0 (surveyOf book out .rows) i)) (loopAt (loopsOf (k .marks) (book .lines)) j) ≡ false
+        → runs (natAbs (inRow rowClosing (surveyOf book out .rows) i)) (loopAt (loopsOf (k .marks) (book .lines)) j) ≡ false
     closing-line-is-new i j l h =
         let w = each-row-is-of-its-loop i h in
         rw (w .0 .closing-line, w .1 .closing-line-first) (w .1 .not-in-earlier-loop j l)
@@ -157,7 +157,7 @@ module _ (book : Lent) (k : Book) (passes : testOf book ≡ Good k) where
     abbrev report : List ℤ
     report = surveyOf book rows .rows
 
-    count-is : (i : ℕ) → i < length (loopsOf (k .marks) (book .lines)) → natAbs (inRow 1 report i) ≡ length (loopAt ls i)
+    count-is : (i : ℕ) → i < length (loopsOf (k .marks) (book .lines)) → natAbs (inRow rowCount report i) ≡ length (loopAt ls i)
     count-is i h = ap natAbs (each-row-is-of-its-loop rows surveyed i (omega (arith, survey-counts rows surveyed .0)) .0 .count)
 
     counts-are : (i : ℕ) → i ≤ length (loopsOf (k .marks) (book .lines)) → countsBefore report i ≡ linesInAll (take i ls)
@@ -166,7 +166,7 @@ module _ (book : Lent) (k : Book) (passes : testOf book ≡ Good k) where
     counts-are (suc i) h = omega (arith, counts-are i (omega arith), count-is i (omega arith), lines-more ls i (omega arith))
 
     pub listings-go-by-rows : (i : ℕ) → i < surveyOf book rows .answer .rows
-        → take (natAbs (inRow 1 report i)) (drop (countsBefore report i) (listingsOf book out .out)) ≡ map listed (loopAt (loopsOf (k .marks) (book .lines)) i)
+        → take (natAbs (inRow rowCount report i)) (drop (countsBefore report i) (listingsOf book out .out)) ≡ map listed (loopAt (loopsOf (k .marks) (book .lines)) i)
     listings-go-by-rows i h =
         let l : i < length (loopsOf (k .marks) (book .lines)) = omega (arith, survey-counts rows surveyed .0) in
         rw (count-is i l, counts-are i (omega arith), listings-keeps-to-table book out .finished done, marks-are)

@@ -17,7 +17,7 @@ use Rattle.book.proofs.Passing.{good-passes}
 use Rattle.network.specs.Standing.{Line, standing}
 use Rattle.book.specs.Line.{differenceField}
 use Rattle.network.proofs.Standing.{from-on}
-use Rattle.loops.specs.Row.{closingNumber}
+use Rattle.loops.specs.Row.{closingNumber, rowClosing}
 use Rattle.loops.specs.Circuit.{Circuit}
 use Rattle.loops.specs.Report.{reportOf}
 use Rattle.survey.specs.Survey.{surveyed, surveyOf}
@@ -81,7 +81,7 @@ rerun-moves-the-report = refl
 
 -- "row 1 and .. the rest with zeros": no row that is answered begins with 0
 pub no-row-of-zeros : (book : Lent) (k : Book) (passes : testOf book ≡ Good k) (out : List ℤ) → surveyOf book out .answer .refusal .number ≡ 0
-    → (i : ℕ) → i < surveyOf book out .answer .rows → inRow 0 (surveyOf book out .rows) i ≡ pos 0 → ⊥
+    → (i : ℕ) → i < surveyOf book out .answer .rows → inRow rowClosing (surveyOf book out .rows) i ≡ pos 0 → ⊥
 unfolding standing
 no-row-of-zeros book k passes out done i h e =
     let w = each-row-is-of-its-loop book k passes out done i h in

@@ -13,7 +13,7 @@ use Rattle.network.specs.Closing.{closing}
 use Rattle.network.specs.Subgraph.{only, numbers}
 use Rattle.network.specs.Walk.{Pass, pass, Walk, wayLength, IsShortest, marksOn, AllDifferent, OnlyOnce}
 use Rattle.loops.specs.Loops.{Loop, loopAt}
-use Rattle.loops.specs.Row.{misclosure, closingNumber, rowWords}
+use Rattle.loops.specs.Row.{misclosure, closingNumber, rowWords, rowClosing, rowCount, rowLength, rowMisclosure, rowVerdict}
 use Rattle.loops.specs.Checked.{runs}
 use Rattle.loops.specs.Report.{loopsOf}
 use Rattle.lists.specs.Listing.{Listing}
@@ -25,7 +25,7 @@ inRow j report i = getD report (rowWords * i + j) (pos 0)
 -- the counts of lines of the rows before row i, in all
 unfoldable pub countsBefore : List ℤ → ℕ → ℕ
 countsBefore report zero = zero
-countsBefore report (suc i) = countsBefore report i + natAbs (inRow 1 report i)
+countsBefore report (suc i) = countsBefore report i + natAbs (inRow rowCount report i)
 
 -- "With misclosure m and length L a loop is within exactly if m*m <= 10*t*t*L"
 abbrev pub Within : ℕ → Loop → Type 0
@@ -36,12 +36,12 @@ Over t lp = 10 * t * t * wayLength lp < natAbs (misclosure lp) * natAbs (misclos
 
 -- row i of the report is the row of the loop lp, at the tolerance t
 pub record RowOf (t : ℕ) (report : List ℤ) (i : ℕ) (lp : Loop) : Type 0 where
-  pub closing-line : inRow 0 report i ≡ pos (closingNumber lp)
-  pub count : inRow 1 report i ≡ pos (length lp)
-  pub its-length : inRow 2 report i ≡ pos (wayLength lp)
-  pub its-misclosure : inRow 3 report i ≡ misclosure lp
-  pub within : (inRow 4 report i ≡ pos 0) ↔ Within t lp
-  pub over : (inRow 4 report i ≡ pos 1) ↔ Over t lp
+  pub closing-line : inRow rowClosing report i ≡ pos (closingNumber lp)
+  pub count : inRow rowCount report i ≡ pos (length lp)
+  pub its-length : inRow rowLength report i ≡ pos (wayLength lp)
+  pub its-misclosure : inRow rowMisclosure report i ≡ misclosure lp
+  pub within : (inRow rowVerdict report i ≡ pos 0) ↔ Within t lp
+  pub over : (inRow rowVerdict report i ≡ pos 1) ↔ Over t lp
 
 -- the tree of a lent book, its lines in the order in which they entered, and the closing lines in theirs
 abbrev pub treeOf : ℕ → List ℤ → Tree

@@ -21,7 +21,7 @@ plant-book-requires c κs =
 add-q : tie.Need-add-q
 add-q c =
     let entry : tie.Start = search in
-    omega (arith, entry .pre .0 .few)
+    omega (arith, entry .pre .0 .good .few)
 
 order-loops-requires : tie.Need-order-loops-requires
 order-loops-requires c κs =

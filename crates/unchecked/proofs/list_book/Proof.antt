@@ -14,7 +14,7 @@ entry-before c = search
 add-not-checked : tie.Need-add-not-checked
 add-not-checked c =
     let entry : tie.Start = search in
-    omega (arith, entry .pre .0 .few)
+    omega (arith, entry .pre .0 .good .few)
 
 not-checked-requires : tie.Need-not-checked-requires
 not-checked-requires c κs =
