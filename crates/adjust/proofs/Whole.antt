@@ -18,7 +18,7 @@ use Rattle.network.proofs.Marks.{size, grows}
 use Rattle.fields.specs.Heights.{Working}
 use Rattle.sights.specs.Sights.{Sight, sightsOf}
 use Rattle.sweeps.specs.Sweeps.{Swept, still, moved, visit, sweep, Settled, onward, settleFrom, maxSweeps, settle}
-use Rattle.sweeps.specs.Turns.{flags, endedAt}
+use Rattle.sweeps.specs.MarkTurns.{flags, endedAt}
 use Rattle.start.specs.Start.{heldHeight, isSome, isHeld, Rooted, rootedBy, unheldPiece, startOf, startHeights}
 use Rattle.start.specs.Along.{Entered, rooting, Given, HeldIn, Started}
 use Rattle.adjust.specs.Adjusted.{Outcome, refused, ended, unlessUnheld, adjustment}

@@ -7,7 +7,7 @@ ghost use Rattle.adjust.specs.Answers.{settledAt, refusedWith};
 ghost use Rattle.adjust.specs.Call.{adjusted, adjustOf};
 
 mod along;
-mod good;
+mod heights;
 
 use book::Refusal;
 use book::Tested;
@@ -45,7 +45,7 @@ pub fn adjust(b: i64, t: i64, held: &[i64], lines: &[i64], heights: &mut [i64]) 
 {
     match book::test(b, t, held, lines) {
         Tested::Refused(r) => refused(r),
-        Tested::Good(book) => good::adjust_good(book, held, lines, heights),
+        Tested::Good(book) => heights::adjust_good(book, held, lines, heights),
     }
 }
 

@@ -1,4 +1,4 @@
 pub mod Few
 pub mod Halves
-pub mod Laws
+pub mod Joining
 pub mod Order

@@ -12,7 +12,7 @@ use Rattle.network.specs.Standing.{Line}
 use Rattle.chains.specs.Chains.{markOf, On, here, later, Chain, no-half, first, leftBy, leaving, InOrder, Sound, halves}
 use Rattle.chains.specs.Link.{RoomChains, Linked, Joined}
 use Rattle.chains.proofs.Halves.{on-split}
-use Rattle.chains.proofs.Laws.{next-new, head-old, head-new, chain-new, link-room}
+use Rattle.chains.proofs.Joining.{next-new, head-old, head-new, chain-new, link-room}
 
 -- what is on a chain is one of its halves
 on-member : {next : List ℕ} {i h : ℕ} {hs : List ℕ} → Chain next i hs → On next i h → List·Memᴰ h hs

@@ -23,7 +23,7 @@ use Rattle.book.specs.Good.{GoodLine}
 use Rattle.chains.specs.Chains.{Half, fore, aft, markOf, metresOf, Bounded, Told, Drawn, InOrder, Sound, AllSound, halves, numberLimit}
 use Rattle.chains.specs.Link.{RoomChains, Fits, Joined, Wider}
 use Rattle.chains.proofs.Halves.{half-no, half-ok, told-mark, told-metres}
-use Rattle.chains.proofs.Laws.{join-draws, draws-none}
+use Rattle.chains.proofs.Joining.{join-draws, draws-none}
 use Rattle.chains.proofs.Order.{join-order, order-none}
 use Rattle.prepare.specs.Drawn.{Entry, endOf, Drew, withdrawn, drawn, Sheet, BookDrawn}
 

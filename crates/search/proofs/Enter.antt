@@ -16,7 +16,7 @@ use Rattle.network.specs.Sound.{Rising}
 use Rattle.network.proofs.Without.{lowest-first}
 use Rattle.nearest.specs.Heap.{Heap, Changed}
 use Rattle.nearest.specs.Heap as hp
-use Rattle.nearest.proofs.Laws.{root-least, root-leaf}
+use Rattle.nearest.proofs.Tournament.{root-least, root-leaf}
 use Rattle.chains.specs.Chains.{Half, fore, aft, markOf, Has, Given, AllSound, halves}
 use Rattle.chains.proofs.Halves.{half-ends, ends-half, half-low, half-no, half-ok, met-on, has-on}
 use Rattle.search.specs.Front.{Moved, still, moved, Relaxed, came, By, Key, Keyed, Offer, Front, Nothing, Rest, limit}

@@ -16,7 +16,7 @@ use Rattle.network.proofs.Grown.{scored, After, new, old, after, keeps, lowest-
 use Rattle.network.proofs.Shortest.{same, never, turn, frontier, rising}
 use Rattle.nearest.specs.Heap.{Changed, leafLimit}
 use Rattle.nearest.specs.Heap as hp
-use Rattle.nearest.proofs.Laws.{cleared}
+use Rattle.nearest.proofs.Tournament.{cleared}
 use Rattle.chains.specs.Chains.{Half, flip, markOf, AllSound, Given, halves}
 use Rattle.search.specs.Front.{Stage, Relaxed, Key, Keyed, Front, Nothing, Rest, Begun, Two, top, lead, Turned, more, found, nothing, limit, Outcome, reached, cut-off}
 use Rattle.search.specs.Front as f

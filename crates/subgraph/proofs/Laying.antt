@@ -19,7 +19,7 @@ use Rattle.chains.specs.Chains.{Half, fore, aft, Drawn, halves}
 use Rattle.chains.specs.Link.{RoomChains, Joined, Wider}
 use Rattle.chains.specs.Listed.{Listed}
 use Rattle.chains.proofs.Halves.{line-from, line-to}
-use Rattle.chains.proofs.Laws.{join-draws, draws-none, draws-same}
+use Rattle.chains.proofs.Joining.{join-draws, draws-none, draws-same}
 use Rattle.search.specs.Front.{By, Key}
 use Rattle.search.specs.Front as f
 use Rattle.tree.specs.Plant.{Holding}

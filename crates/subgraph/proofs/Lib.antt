@@ -1,3 +1,3 @@
 pub mod Only
 pub mod Laying
-pub mod Turns
+pub mod LoopTurns

@@ -1,2 +1,2 @@
 pub mod Drawn
-pub mod Turn
+pub mod LoopTurn

@@ -2,7 +2,7 @@
 ghost use Rattle.chains.specs.Chains.{Bounded};
 ghost use Rattle.chains.specs.Link.{RoomChains};
 ghost use Rattle.subgraph.specs.Drawn.{Laid, RoomLay, TreeLaid};
-ghost use Rattle.subgraph.specs.Turn.{Takes, Taken};
+ghost use Rattle.subgraph.specs.LoopTurn.{Takes, Taken};
 
 // The line by which a mark of this key came in joins, unless the mark is a root. The answer is the count of lines that joined.
 fn lay_mark(ends: &[u64], head: &mut [u64], next: &mut [u64], n: usize, key: u64) -> usize

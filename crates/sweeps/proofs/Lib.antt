@@ -2,5 +2,5 @@ pub mod Moving
 pub mod Keeping
 pub mod Best
 pub mod Sums
-pub mod Turns
+pub mod MarkTurns
 pub mod States

@@ -11,7 +11,7 @@ use lib.IntN.{ℤ}
 use Rattle.sights.specs.Sights.{Sight}
 use Rattle.sights.specs.Table.{Sighted}
 use Rattle.sweeps.specs.Sweeps.{Swept, still, moved, hasMoved, visited, visit, sweep, Settled, settled, unsettled, onward, settleFrom, maxSweeps, settle}
-use Rattle.sweeps.specs.Turns.{flags, swept, movedTurn, joinedTurn, outsideTurn}
+use Rattle.sweeps.specs.MarkTurns.{flags, swept, movedTurn, joinedTurn, outsideTurn}
 use Rattle.fields.proofs.Setting.{place}
 use Rattle.sweeps.specs.declared.Turn.{Turn}
 use Rattle.sweeps.specs.declared.Turn.the-variants as turn

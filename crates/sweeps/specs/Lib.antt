@@ -1,4 +1,4 @@
 pub mod Sweeps
 pub mod Squares
 pub mod Kept
-pub mod Turns
+pub mod MarkTurns

@@ -10,7 +10,7 @@ ghost use Rattle.chains.specs.Chains.{InOrder};
 ghost use Rattle.fields.specs.Heights.{Working};
 ghost use Rattle.sights.specs.Sights.{sightsOf, pull};
 ghost use Rattle.sights.specs.Table.{seen, rows, Ends, Span, Table};
-ghost use Rattle.sweeps.specs.Turns.{termAt, flags, swept, endedAt, joinedTurn, movedTurn, outsideTurn};
+ghost use Rattle.sweeps.specs.MarkTurns.{termAt, flags, swept, endedAt, joinedTurn, movedTurn, outsideTurn};
 ghost use Rattle.sweeps.specs.Sweeps.{moveOf, visited, visit, sweep, settle};
 use book::Book;
 use book::height::Height;

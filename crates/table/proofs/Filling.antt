@@ -17,8 +17,8 @@ use Rattle.loops.specs.Table.{runsOf, Table}
 use Rattle.loops.proofs.Table.{codes-length, runs-append, runs-more}
 use Rattle.chains.specs.Chains.{numberLimit}
 use Rattle.search.specs.Front.{RoomPath}
-use Rattle.subgraph.specs.Turn.{Taking, Takes, Took, Taken, Going}
-use Rattle.subgraph.proofs.Turns.{Next, going-turn, going-next, going-more, going-none, going-all}
+use Rattle.subgraph.specs.LoopTurn.{Taking, Takes, Took, Taken, Going}
+use Rattle.subgraph.proofs.LoopTurns.{Next, going-turn, going-next, going-more, going-none, going-all}
 use Rattle.table.specs.Filled.{Ready, Fills, FilledTo}
 use Rattle.table.proofs.Runs.{run-on}
 

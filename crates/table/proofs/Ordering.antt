@@ -16,7 +16,7 @@ use Rattle.chains.specs.Listed.{Listed}
 use Rattle.closing.specs.Order.{Ready, Put}
 use Rattle.closing.proofs.Members.{length-numbers}
 use Rattle.subgraph.specs.Drawn.{RoomLay, TreeDrawn}
-use Rattle.subgraph.proofs.Turns.{going-start, queue-start}
+use Rattle.subgraph.proofs.LoopTurns.{going-start, queue-start}
 use Rattle.table.specs.Ordered.{Orders, Started}
 
 -- lines by rising number, above k and below q

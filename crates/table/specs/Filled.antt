@@ -14,7 +14,7 @@ use Rattle.chains.specs.Chains.{Bounded}
 use Rattle.chains.specs.Listed.{Listed}
 use Rattle.search.specs.Front.{RoomSearch}
 use Rattle.prepare.specs.Prepared.{RoomBook}
-use Rattle.subgraph.specs.Turn.{Going}
+use Rattle.subgraph.specs.LoopTurn.{Going}
 use Rattle.table.specs.declared.Found.{Found}
 
 -- room for the table of any book's loops: "at most 65,792 entries in all", and one path more

@@ -11,7 +11,7 @@ use Rattle.chains.specs.Chains.{Bounded}
 use Rattle.chains.specs.Link.{RoomChains}
 use Rattle.chains.specs.Listed.{Listed}
 use Rattle.tree.specs.Plant.{Holding, Below}
-use Rattle.subgraph.specs.Turn.{Going}
+use Rattle.subgraph.specs.LoopTurn.{Going}
 use Rattle.table.specs.declared.Found.{Found}
 
 -- what is asked for: ends and the tree of some lines, in numbers below q, and room

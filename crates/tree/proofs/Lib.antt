@@ -1,2 +1,2 @@
-pub mod Laws
+pub mod Planting
 pub mod Entries

@@ -2,7 +2,7 @@ use Prim.Native.Nat.{ℕ, _-_, _<_, _≤_}
 use native.Mathlib.Omega.{arith}
 use mathlib.Core.Path.{_≡_}
 use lib.ListN.{length, getD, length-set}
-use Rattle.chains.proofs.Laws.{zero-next}
+use Rattle.chains.proofs.Joining.{zero-next}
 use Rattle.chains.proofs.zero.Statement.{statement}
 use Rattle.chains.proofs.zero.Tie as tie
 

@@ -4,7 +4,7 @@ use mathlib.Core.List.{List}
 use lib.ListN.{length}
 use Rattle.chains.specs.Chains.{Chain}
 use Rattle.chains.proofs.Halves.{stepsLeft, steps-fall, chain-low, chain-rest}
-use Rattle.search.proofs.Laws.{Relaxing, relax-start, relax-turn, relax-end}
+use Rattle.search.proofs.Relaxing.{Relaxing, relax-start, relax-turn, relax-end}
 use borrow.Author.Needs.{needs}
 use native.Mathlib.Omega.{arith}
 use Rattle.search.proofs.relax.Statement.{statement}

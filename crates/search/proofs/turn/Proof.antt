@@ -3,7 +3,7 @@ use mathlib.Core.Path.{refl}
 use lib.ListN.{getD}
 use Rattle.chains.specs.Chains.{halves}
 use Rattle.search.specs.Front.{more, found, nothing}
-use Rattle.search.proofs.Laws.{stage-close}
+use Rattle.search.proofs.Relaxing.{stage-close}
 use native.Mathlib.Omega.{arith}
 use borrow.Author.Needs.{needs}
 use Rattle.search.proofs.turn.Statement.{statement}

@@ -1,5 +1,5 @@
 use mathlib.Core.Path.{refl}
-use Rattle.chains.proofs.Laws.{bounded-fits}
+use Rattle.chains.proofs.Joining.{bounded-fits}
 use Rattle.subgraph.specs.Drawn.{stayed, joined}
 use native.Mathlib.Omega.{arith}
 use borrow.Author.Needs.{needs}

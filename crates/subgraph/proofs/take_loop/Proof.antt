@@ -1,4 +1,4 @@
-use Rattle.subgraph.proofs.Turns.{takes-held, takes-two, takes-number, takes-fits, takes-room, took-same, took-more}
+use Rattle.subgraph.proofs.LoopTurns.{takes-held, takes-two, takes-number, takes-fits, takes-room, took-same, took-more}
 use native.Mathlib.Omega.{arith}
 use borrow.Author.Needs.{needs}
 use Rattle.subgraph.proofs.take_loop.Statement.{statement}

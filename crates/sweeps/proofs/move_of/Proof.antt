@@ -8,7 +8,7 @@ use Rattle.laws.proofs.Signed.{stored}
 use Rattle.book.specs.Limits.{mostHeight}
 use Rattle.divisions.specs.Nearest.{nearest}
 use Rattle.fields.proofs.Readback.{read}
-use Rattle.sweeps.proofs.Turns.{pullHere, total-zero, total-fits, pull-fits, move-is, move-fits}
+use Rattle.sweeps.proofs.MarkTurns.{pullHere, total-zero, total-fits, pull-fits, move-is, move-fits}
 use borrow.Author.Needs.{needs}
 use Rattle.sweeps.proofs.move_of.Statement.{statement}
 use Rattle.sweeps.proofs.move_of.Tie as tie

@@ -3,7 +3,7 @@ use Prim.Native.Nat.{_-_, _*_, _≤_}
 use native.Mathlib.Omega.{arith}
 use Rattle.sights.specs.Sights.{pull}
 use Rattle.sights.specs.Table.{seen}
-use Rattle.sweeps.specs.Turns.{termAt}
+use Rattle.sweeps.specs.MarkTurns.{termAt}
 use Rattle.sweeps.proofs.Sums.{mostTerm, shorter, pull-turn, pull-end, term-size}
 use borrow.Author.Needs.{needs}
 use lib.IntN.{ℤ, natAbs, _+ℤ_, +ℤ-idl}

@@ -3,7 +3,7 @@ use Prim.Native.Nat.{_-_}
 use Rattle.fields.specs.Heights.{Working}
 use Rattle.sights.specs.Table.{rows}
 use Rattle.sweeps.specs.Sweeps.{maxSweeps, settle}
-use Rattle.sweeps.specs.Turns.{flags, swept}
+use Rattle.sweeps.specs.MarkTurns.{flags, swept}
 use Rattle.sweeps.proofs.States.{Left, left-start, left-still, left-moved, left-outside, left-none}
 use borrow.Author.Needs.{needs}
 use Rattle.sweeps.specs.declared.Turn.{Turn}

@@ -3,7 +3,7 @@ use Prim.Native.Nat.{_+_, _-_, _≤_}
 use Rattle.fields.specs.Heights.{Working}
 use Rattle.sights.specs.Table.{rows}
 use Rattle.sweeps.specs.Sweeps.{sweep}
-use Rattle.sweeps.specs.Turns.{flags, swept}
+use Rattle.sweeps.specs.MarkTurns.{flags, swept}
 use Rattle.sweeps.proofs.States.{sweep-none, sweep-turn}
 use native.Mathlib.Omega.{arith}
 use Rattle.sweeps.proofs.sweep.Statement.{statement}

@@ -11,7 +11,7 @@ use native.Mathlib.Omega.{arith}
 use Rattle.sweeps.proofs.Sums.{mostApart}
 use Rattle.divisions.specs.Weight.{mostWeight}
 use Rattle.book.specs.Limits.{mostHeight, mostDifference}
-use Rattle.sweeps.specs.Turns.{termAt}
+use Rattle.sweeps.specs.MarkTurns.{termAt}
 use Rattle.fields.proofs.Readback.{read}
 use borrow.Author.Needs.{needs}
 use Rattle.sweeps.proofs.term.Statement.{statement}

@@ -14,7 +14,7 @@ use Rattle.book.specs.declared.height.Height.{Height}
 use Rattle.book.proofs.Made.{work-height-made, no-work-height}
 use Rattle.sights.specs.Table.{rows}
 use Rattle.fields.proofs.Readback.{read}
-use Rattle.sweeps.proofs.Turns.{working-set, visit-outside, visit-still, visit-moved}
+use Rattle.sweeps.proofs.MarkTurns.{working-set, visit-outside, visit-still, visit-moved}
 use borrow.Author.Needs.{needs}
 use Rattle.sweeps.proofs.visit.Statement.{statement}
 use Rattle.sweeps.proofs.visit.Tie as tie

@@ -3,7 +3,7 @@ use native.Mathlib.Omega.{arith}
 use mathlib.Core.Path.{_≡_}
 use lib.ListN.{getD}
 use Rattle.nearest.specs.Heap as hp
-use Rattle.tree.proofs.Laws.{first-next}
+use Rattle.tree.proofs.Planting.{first-next}
 use Rattle.tree.proofs.first_far.Statement.{statement}
 use Rattle.tree.proofs.first_far.Tie as tie
 

@@ -2,7 +2,7 @@ use Prim.Native.Nat.{_<_}
 use native.Mathlib.Omega.{arith}
 use mathlib.Core.Path.{refl}
 use lib.ListN.{length-set}
-use Rattle.search.proofs.Laws.{stage-set}
+use Rattle.search.proofs.Relaxing.{stage-set}
 use Rattle.search.proofs.Searched.{turned-any}
 use Rattle.tree.specs.Plant.{by-line, by-root, ended}
 use borrow.Author.Needs.{needs}

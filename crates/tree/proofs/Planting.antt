@@ -19,7 +19,7 @@ use Rattle.network.specs.Sound.{Placed}
 use Rattle.network.proofs.Marks.{one-each}
 use Rattle.nearest.specs.Heap.{Changed, leafLimit}
 use Rattle.nearest.specs.Heap as hp
-use Rattle.nearest.proofs.Laws.{cleared}
+use Rattle.nearest.proofs.Tournament.{cleared}
 use Rattle.chains.specs.Chains.{Half, flip, Bounded, Given, halves}
 use Rattle.search.specs.Front.{Stage, Relaxed, Key, Offer, Front, Nothing, limit, top, lead, Turned, more, found, nothing}
 use Rattle.search.specs.Front as f

@@ -8,7 +8,7 @@ use mathlib.Core.List.{List}
 use lib.ListN.{length, getD, set, length-set}
 use lib.Seq.{getD-set-same, getD-set-other}
 use Rattle.nearest.specs.Heap.{far, Changed, leafLimit}
-use Rattle.nearest.proofs.Laws.{cleared}
+use Rattle.nearest.proofs.Tournament.{cleared}
 use Rattle.chains.specs.Chains.{markOf, sumOf, On, here, later}
 use Rattle.chains.proofs.Halves.{on-zero, on-split}
 use Rattle.search.specs.Front.{Stage, Offered, kept, fell, Moved, still, moved, Relaxed}

@@ -5,8 +5,8 @@ use lib.IntN.{pos}
 use borrow.Author.Needs.{needs}
 use Rattle.start.proofs.Zeros.{so-many, blank}
 use Rattle.adjust.proofs.Entering.{book-planted}
-use Rattle.adjust.proofs.good.adjust_in.Statement.{statement}
-use Rattle.adjust.proofs.good.adjust_in.Tie as tie
+use Rattle.adjust.proofs.heights.adjust_in.Statement.{statement}
+use Rattle.adjust.proofs.heights.adjust_in.Tie as tie
 
 slice-aggregate-adjust-along : tie.Need-slice-aggregate-adjust-along
 slice-aggregate-adjust-along c =

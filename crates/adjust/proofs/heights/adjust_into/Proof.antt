@@ -1,6 +1,6 @@
 use borrow.Author.Needs.{needs}
-use Rattle.adjust.proofs.good.adjust_into.Statement.{statement}
-use Rattle.adjust.proofs.good.adjust_into.Tie as tie
+use Rattle.adjust.proofs.heights.adjust_into.Statement.{statement}
+use Rattle.adjust.proofs.heights.adjust_into.Tie as tie
 
 adjust-in-requires : tie.Need-adjust-in-requires
 adjust-in-requires c κs =

@@ -24,10 +24,10 @@ use Rattle.chains.specs.Chains.{markOf, Bounded, Drawn, Given, numberLimit}
 use Rattle.chains.specs.Link.{RoomChains, Fits, Joined, Wider}
 use Rattle.chains.specs.Listed.{Listed}
 use Rattle.chains.proofs.Halves.{line-from, line-to}
-use Rattle.chains.proofs.Laws.{bounded-fits}
+use Rattle.chains.proofs.Joining.{bounded-fits}
 use Rattle.search.specs.Front.{RoomPath, Two, Held, Pathed, Written}
 use Rattle.subgraph.specs.Drawn.{TreeDrawn}
-use Rattle.subgraph.specs.Turn.{Taking, Takes, Took, Reached, Queue, empty, next-is, Going}
+use Rattle.subgraph.specs.LoopTurn.{Taking, Takes, Took, Reached, Queue, empty, next-is, Going}
 use Rattle.subgraph.proofs.Only.{in-first, in-more, in-cases}
 use Rattle.subgraph.proofs.Laying.{line-joins}
 

@@ -3,8 +3,8 @@ use lib.IntN.{pos}
 use Rattle.start.proofs.Zeros.{so-many}
 use Rattle.adjust.proofs.Calling.{call-ten}
 use borrow.Author.Needs.{needs}
-use Rattle.adjust.proofs.good.adjust_good.Statement.{statement}
-use Rattle.adjust.proofs.good.adjust_good.Tie as tie
+use Rattle.adjust.proofs.heights.adjust_good.Statement.{statement}
+use Rattle.adjust.proofs.heights.adjust_good.Tie as tie
 
 returns : tie.Need-returns
 returns c = let s = c .before .before in call-ten (s .args .book) (s .args .held .now) (s .args .lines .now) (s .args .heights .now) (c .refuse .result) (c .before .if1 .taken) (c .refuse .ensures)

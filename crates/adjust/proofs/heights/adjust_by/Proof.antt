@@ -1,7 +1,7 @@
 use Rattle.adjust.proofs.Calling.{call-done, call-refused}
 use borrow.Author.Needs.{needs}
-use Rattle.adjust.proofs.good.adjust_by.Statement.{statement}
-use Rattle.adjust.proofs.good.adjust_by.Tie as tie
+use Rattle.adjust.proofs.heights.adjust_by.Statement.{statement}
+use Rattle.adjust.proofs.heights.adjust_by.Tie as tie
 
 returns : tie.Need-returns
 returns c =
