@@ -42,10 +42,12 @@ module _ (a : Adjusted) (z out : List ℤ) where
   given-done (done n hs) w e =
       let q : done n z ≡ done n hs = subst (λ (x : Adjusted). answered x z ≡ done n hs) (w .whole) (w .is) in
       let same : z ≡ hs = cc in
-      ap (λ (x : Adjusted). adjusted x (z ++ drop (length z) out)) (w .whole) ∙ ap (λ (x : List ℤ). adjusted (settledAt n) (x ++ drop (length x) out)) same
+      ap (λ (x : Adjusted). adjusted x (z ++ drop (length z) out)) (w .whole)
+      ∙ ap (λ (x : List ℤ). adjusted (settledAt n) (x ++ drop (length x) out)) same
   given-done (refused k p) w e =
       let none : k ≡ 0 = sym (ap (λ (x : Adjusted). x .refusal .number) (w .whole)) ∙ e in
-      let q : answered (refusedWith (refusal k p)) z ≡ refused k p = subst (λ (x : Adjusted). answered x z ≡ refused k p) (w .whole) (w .is) in
+      let q : answered (refusedWith (refusal k p)) z ≡ refused k p =
+      subst (λ (x : Adjusted). answered x z ≡ refused k p) (w .whole) (w .is) in
       absurd (clash (subst (λ (x : ℕ). answered (refusedWith (refusal x p)) z ≡ refused x p) none q))
     where
       clash : done 0 z ≡ refused 0 p → ⊥
@@ -62,9 +64,11 @@ module _ (k : Book) (held lines out : List ℤ) where
   call-ten a h e = rw (lt-ltb (length out) (k .marks) h) (ap (λ (x : Adjusted). adjusted x out) e)
 
   module _ (a : Adjusted) (z : List ℤ) (room : k .marks ≤ length out) (w : Answers a z (adjustment (k .marks) held lines)) where
-    pub call-done : a .refusal .number ≡ 0 → (out′ : List ℤ) → out′ ≡ z ++ drop (length z) out → adjusted a out′ ≡ adjustGood k held lines out
+    pub call-done : a .refusal .number ≡ 0 → (out′ : List ℤ) → out′ ≡ z ++ drop (length z) out
+        → adjusted a out′ ≡ adjustGood k held lines out
     unfolding adjustGood
-    call-done e out′ q = rw (le-ltb (length out) (k .marks) room) (ap (adjusted a) q ∙ given-done a z out (adjustment (k .marks) held lines) w e)
+    call-done e out′ q =
+        rw (le-ltb (length out) (k .marks) room) (ap (adjusted a) q ∙ given-done a z out (adjustment (k .marks) held lines) w e)
 
     pub call-refused : (a .refusal .number ≡ 0 → ⊥) → adjusted a out ≡ adjustGood k held lines out
     unfolding adjustGood

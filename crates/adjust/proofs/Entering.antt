@@ -22,7 +22,8 @@ use Rattle.prepare.specs.Prepared.{BookPlanted}
 use Rattle.adjust.specs.Planted.{Planted}
 use Rattle.start.specs.Along.{Entered, none-yet, by-root, by-line, Growth}
 
-module _ (n q : ℕ) (lines : List Line) (ends best order : List ℕ) (li : ch.Listed lines n q ends) (ho : Holding (tree (n - 1) lines) best order ends) where
+module _ (n q : ℕ) (lines : List Line) (ends best order : List ℕ) (li : ch.Listed lines n q ends)
+    (ho : Holding (tree (n - 1) lines) best order ends) where
   abbrev at : ℕ → Tree
   at k = grow lines (marks (n - 1)) k
 
@@ -39,7 +40,9 @@ module _ (n q : ℕ) (lines : List Line) (ends best order : List ℕ) (li : ch.L
 
     key : Key (at (n - 1)) best ends (getD order k 0) (en .e .dist)
     unfolding tree mark
-    key = ho .keyed (getD order k 0) (en .e .dist) (later n lines (li .sound) (suc k) (n - 1) (getD order k 0) (en .e .dist) (omega arith) (in-at n lines (li .sound) (getD order k 0) mark))
+    key =
+        ho .keyed (getD order k 0) (en .e .dist) (later n lines (li .sound) (suc k) (n - 1) (getD order k 0) (en .e .dist) (omega arith)
+        (in-at n lines (li .sound) (getD order k 0) mark))
 
     number-of : {l : Line} {u : ℕ} → Half l u (getD order k 0) (key .h) → lineIn best (getD order k 0) ≡ l .number
     number-of (fore p x z) = omega (arith, key .key, key .low)
@@ -61,7 +64,8 @@ module _ (n q : ℕ) (lines : List Line) (ends best order : List ℕ) (li : ch.L
         go (f.root c a b) =
             let z : lineIn best (getD order k 0) ≡ 0 = omega (arith, key .key) in
             by-root (order-here ∙ order-is) (sym (came-of n lines (li .sound) (getD order k 0) mark) ∙ c) (line-here ∙ z) r
-        go (f.line l u du c hf low t i s) = by-line (order-here ∙ order-is) l (sym (came-of n lines (li .sound) (getD order k 0) mark) ∙ c) (line-here ∙ number-of hf) r
+        go (f.line l u du c hf low t i s) =
+            by-line (order-here ∙ order-is) l (sym (came-of n lines (li .sound) (getD order k 0) mark) ∙ c) (line-here ∙ number-of hf) r
 
     -- its line is one of the book's
     line-low : 0 < q → lineIn best (getD order k 0) < q
@@ -70,7 +74,8 @@ module _ (n q : ℕ) (lines : List Line) (ends best order : List ℕ) (li : ch.L
       where
         go : By (at (n - 1)) ends (getD order k 0) (en .e .dist) (key .h) → lineIn best (getD order k 0) < q
         go (f.root c a b) = let z : lineIn best (getD order k 0) ≡ 0 = omega (arith, key .key) in rw z pos
-        go (f.line l u du c hf low t i s) = rw (number-of hf) (li .numbered l (enters-line en l (sym (came-of n lines (li .sound) (getD order k 0) mark) ∙ c)))
+        go (f.line l u du c hf low t i s) =
+            rw (number-of hf) (li .numbered l (enters-line en l (sym (came-of n lines (li .sound) (getD order k 0) mark) ∙ c)))
 
     -- and it is a mark of the book
     mark-in : (0 < en .e .mark) × (en .e .mark ≤ n - 1)
@@ -109,7 +114,8 @@ module _ (n q : ℕ) (lines : List Line) (ends best order : List ℕ) (li : ch.L
   }
 
 -- the same, of a planted book
-module _ (k : Book) (lines : List ℤ) (g : GoodLines k lines) {ends head next best order : List ℕ} (p : BookPlanted (k .marks + 1) lines ends head next best order) where
+module _ (k : Book) (lines : List ℤ) (g : GoodLines k lines) {ends head next best order : List ℕ}
+    (p : BookPlanted (k .marks + 1) lines ends head next best order) where
   marks-are : k .marks + 1 - 1 ≡ k .marks
   marks-are = omega arith
 
@@ -122,7 +128,8 @@ module _ (k : Book) (lines : List ℤ) (g : GoodLines k lines) {ends head next b
   book-growth lo lb =
       let lines-are : lineCount lines + 1 - 1 ≡ k .lines = omega (arith, g .good .whole) in
       subst (λ (b : ℕ). Growth order best b (k .lines)) marks-are (subst (Growth order best (k .marks + 1 - 1)) lines-are
-      (tree-growth (k .marks + 1) (lineCount lines + 1) (standing lines) ends best order (p .listed) (p .holding) (omega arith) (omega arith) (omega arith)))
+      (tree-growth (k .marks + 1) (lineCount lines + 1) (standing lines) ends best order (p .listed) (p .holding) (omega arith)
+      (omega arith) (omega arith)))
 
   pub book-planted : k .marks ≤ length order → k .marks < length best → Planted lines (k .marks) (k .lines) head next best order
   book-planted lo lb = record { ordered = p .ordered; entered = book-entered; growth = book-growth lo lb }

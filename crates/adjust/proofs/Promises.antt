@@ -41,32 +41,38 @@ done-sweeps (suc m) s n hs e = absurd (clash e)
     clash : refused 11 (suc m) ≡ done n hs → ⊥
     clash e = let z : _≡_ {A = ℕ} 0 1 = cc in omega arith
 
-module _ (b n : ℕ) (held lines : List ℤ) (good : Lines lines b n) (sweeps : ℕ) (hs : List ℤ) (e : adjustment b held lines ≡ done sweeps hs) where
+module _ (b n : ℕ) (held lines : List ℤ) (good : Lines lines b n) (sweeps : ℕ) (hs : List ℤ)
+    (e : adjustment b held lines ≡ done sweeps hs) where
   sound : Sound b (standing lines)
   sound = fairs-sound (fair-lines lines b n good)
 
   its-sweeps : settle (sightsOf (standing lines)) (isHeld held) b (startHeights b held lines) ≡ settled sweeps hs
   unfolding adjustment
   its-sweeps =
-      done-sweeps (unheldPiece (rootedBy (tree b (standing lines))) (heldHeight held) b) (settle (sightsOf (standing lines)) (isHeld held) b (startHeights b held lines)) sweeps hs e
+      done-sweeps (unheldPiece (rootedBy (tree b (standing lines))) (heldHeight held) b)
+      (settle (sightsOf (standing lines)) (isHeld held) b (startHeights b held lines)) sweeps hs e
 
   -- one height to each mark
   pub as-many : length hs ≡ b
   as-many =
-      subst (KeptTo (λ gs. (length gs ≡ b) × (squares (standing lines) gs ≤ squares (standing lines) (startHeights b held lines)))) its-sweeps
+      subst (KeptTo (λ gs. (length gs ≡ b) × (squares (standing lines) gs ≤ squares (standing lines) (startHeights b held lines))))
+      its-sweeps
       (settled-not-worse b (standing lines) sound (isHeld held) (startHeights b held lines) (start-length b held lines)) .0
 
   -- "the sum is no greater than at the start"
   pub never-worse : squares (standing lines) hs ≤ squares (standing lines) (startHeights b held lines)
   never-worse =
-      subst (KeptTo (λ gs. (length gs ≡ b) × (squares (standing lines) gs ≤ squares (standing lines) (startHeights b held lines)))) its-sweeps
+      subst (KeptTo (λ gs. (length gs ≡ b) × (squares (standing lines) gs ≤ squares (standing lines) (startHeights b held lines))))
+      its-sweeps
       (settled-not-worse b (standing lines) sound (isHeld held) (startHeights b held lines) (start-length b held lines)) .1
 
   -- "no free mark can be moved by one micrometre, either way, so that the weighted sum of squared residuals falls"
   pub best-at-every-mark : (m : ℕ) → 0 < m → m ≤ b → isHeld held m ≡ false
-      → (squares (standing lines) hs ≤ squares (standing lines) (moveMark hs m (pos 1))) × (squares (standing lines) hs ≤ squares (standing lines) (moveMark hs m (negsuc 0)))
+      → (squares (standing lines) hs ≤ squares (standing lines) (moveMark hs m (pos 1)))
+      × (squares (standing lines) hs ≤ squares (standing lines) (moveMark hs m (negsuc 0)))
   best-at-every-mark m l u free =
-      settled-best b (standing lines) sound (isHeld held) (startHeights b held lines) (start-length b held lines) sweeps hs its-sweeps m l u free
+      settled-best b (standing lines) sound (isHeld held) (startHeights b held lines) (start-length b held lines) sweeps hs its-sweeps m
+      l u free
 
   held-is : (m : ℕ) (z : ℤ) → heldHeight held m ≡ some z → isHeld held m ≡ true
   unfolding isHeld
@@ -79,6 +85,8 @@ module _ (b n : ℕ) (held lines : List ℤ) (good : Lines lines b n) (sweeps : 
   -- a held mark keeps its held height
   pub held-marks-keep : (m : ℕ) (z : ℤ) → 0 < m → m ≤ b → heldHeight held m ≡ some z → height hs m ≡ z
   held-marks-keep m z l u h =
-      subst (KeptTo (λ gs. (length gs ≡ b) × ((k : ℕ) → 0 < k → isHeld held k ≡ true → height gs k ≡ height (startHeights b held lines) k))) its-sweeps
-      (settled-keeps-held b (standing lines) sound (isHeld held) (startHeights b held lines) (start-length b held lines)) .1 m l (held-is m z h)
+      subst (KeptTo (λ gs. (length gs ≡ b) × ((k : ℕ) → 0 < k → isHeld held k ≡ true → height gs k
+      ≡ height (startHeights b held lines) k))) its-sweeps
+      (settled-keeps-held b (standing lines) sound (isHeld held) (startHeights b held lines) (start-length b held lines)) .1 m l
+      (held-is m z h)
       ∙ start-height b held lines m l u ∙ start-own m z h

@@ -52,7 +52,8 @@ module _ (f : ℕ → List Sight) (p q : ℕ → Bool) where
   from-held b e zero n hs = refl
   from-held b e (suc k) n hs =
       ap (λ (s : Swept). onward s n (λ gs. settleFrom f p b k (suc n) gs)) (sweep-held hs b e)
-      ∙ onward-held (sweep f q hs b) n (λ gs. settleFrom f p b k (suc n) gs) (λ gs. settleFrom f q b k (suc n) gs) (λ gs. from-held b e k (suc n) gs)
+      ∙ onward-held (sweep f q hs b) n (λ gs. settleFrom f p b k (suc n) gs) (λ gs. settleFrom f q b k (suc n) gs)
+      (λ gs. from-held b e k (suc n) gs)
 
   settle-held : (b : ℕ) → ((m : ℕ) → 0 < m → m ≤ b → p m ≡ q m) → (hs : List ℤ) → settle f p b hs ≡ settle f q b hs
   unfolding settle
@@ -73,8 +74,10 @@ end-answer (end.Settled n) hs = refl
 end-answer (end.Outside m) hs = refl
 end-answer end.Unsettled hs = refl
 
-module _ (lines held : List ℤ) (order best : List ℕ) (b n h : ℕ) (few : b ≤ mostMarks) (good : Lines lines b n) (helds : HeldEntries held b h)
-    (entered : Entered order best (tree b (standing lines))) (flagged : List Bool) (own : List ℤ) (g : Given (heldHeight held) flagged own b mostHeldHeight) where
+module _ (lines held : List ℤ) (order best : List ℕ) (b n h : ℕ) (few : b ≤ mostMarks) (good : Lines lines b n)
+    (helds : HeldEntries held b h)
+    (entered : Entered order best (tree b (standing lines))) (flagged : List Bool) (own : List ℤ)
+    (g : Given (heldHeight held) flagged own b mostHeldHeight) where
   pub held-in : HeldIn flagged own b
   held-in = record { few = few; flagged = g .flagged; owned = g .heighted; small = g .size }
 
@@ -87,13 +90,15 @@ module _ (lines held : List ℤ) (order best : List ℕ) (b n h : ℕ) (few : b 
   at-tree : (m : ℕ) → rooting lines order best b m ≡ rootedBy (tree b (standing lines)) m
   at-tree m =
       ap (λ (k : ℕ). rooting lines order best k m) (sym marks-in)
-      ∙ rooting-is lines order best n (tree b (standing lines)) entered (λ e i l q. named lines b n good l (treeLine (standing lines) (grows b (standing lines) (sound .placed)) e i l q)) m
+      ∙ rooting-is lines order best n (tree b (standing lines)) entered
+      (λ e i l q. named lines b n good l (treeLine (standing lines) (grows b (standing lines) (sound .placed)) e i l q)) m
 
   held-flags : (m : ℕ) → 0 < m → m ≤ b → flags flagged m ≡ isHeld held m
   unfolding isHeld
   held-flags m l u =
       let e : suc (m - 1) ≡ m = omega arith in
-      sym (is-some (getD flagged (m - 1) false) (getD own (m - 1) (pos 0))) ∙ ap isSome (g .is (m - 1) (omega arith) ∙ ap (heldHeight held) e)
+      sym (is-some (getD flagged (m - 1) false) (getD own (m - 1) (pos 0)))
+      ∙ ap isSome (g .is (m - 1) (omega arith) ∙ ap (heldHeight held) e)
 
   module _ (z : List ℤ) (r : ℕ) (started : Started (rooting lines order best b) flagged own z b r) where
     places-are : rooting lines order best b ≡ rootedBy (tree b (standing lines))
@@ -108,12 +113,16 @@ module _ (lines held : List ℤ) (order best : List ℕ) (b n h : ℕ) (few : b 
     -- 11
     pub unheld-answer : (a : Adjusted) (hs : List ℤ) → 0 < r → a ≡ refusedWith (refusal 11 r) → Answers a hs (adjustment b held lines)
     unfolding adjustment
-    unheld-answer a hs l e = answers-of a (refusedWith (refusal 11 r)) hs (adjustment b held lines) e refl (ap (λ (x : Adjusted). answered x hs) e ∙ by r is-unheld l)
+    unheld-answer a hs l e =
+        answers-of a (refusedWith (refusal 11 r)) hs (adjustment b held lines) e refl
+        (ap (λ (x : Adjusted). answered x hs) e ∙ by r is-unheld l)
       where
         by : (k : ℕ) → k ≡ unheldPiece (rootedBy (tree b (standing lines))) (heldHeight held) b → 0 < k
-            → refused 11 k ≡ unlessUnheld (unheldPiece (rootedBy (tree b (standing lines))) (heldHeight held) b) (λ _. ended (settle (sightsOf (standing lines)) (isHeld held) b (startHeights b held lines)))
+            → refused 11 k ≡ unlessUnheld (unheldPiece (rootedBy (tree b (standing lines))) (heldHeight held) b)
+            (λ _. ended (settle (sightsOf (standing lines)) (isHeld held) b (startHeights b held lines)))
         by zero q l = absurd (omega arith)
-        by (suc k) q l = ap (λ (m : ℕ). unlessUnheld m (λ _. ended (settle (sightsOf (standing lines)) (isHeld held) b (startHeights b held lines)))) q
+        by (suc k) q l =
+            ap (λ (m : ℕ). unlessUnheld m (λ _. ended (settle (sightsOf (standing lines)) (isHeld held) b (startHeights b held lines)))) q
 
     module _ (none-unheld : r ≡ 0) where
       long : length z ≡ b
@@ -131,13 +140,17 @@ module _ (lines held : List ℤ) (order best : List ℕ) (b n h : ℕ) (few : b 
           each i k ∙ sym (start-height b held lines (suc i) (omega arith) k) ∙ ap (λ (x : ℕ). getD (startHeights b held lines) x (pos 0)) e)
 
       pub working : Working z b
-      working = subst (λ (x : List ℤ). Working x b) (sym begun) (start-working b n h held lines few good helds (sym is-unheld ∙ none-unheld))
+      working =
+          subst (λ (x : List ℤ). Working x b) (sym begun) (start-working b n h held lines few good helds (sym is-unheld ∙ none-unheld))
 
       -- the sweeps, from the start
-      pub settled-answer : (a : Adjusted) (e : End) (hs : List ℤ) → a ≡ endAnswer e → endedAt e hs ≡ settle (sightsOf (standing lines)) (flags flagged) b z → Answers a hs (adjustment b held lines)
+      pub settled-answer : (a : Adjusted) (e : End) (hs : List ℤ) → a ≡ endAnswer e
+          → endedAt e hs ≡ settle (sightsOf (standing lines)) (flags flagged) b z → Answers a hs (adjustment b held lines)
       unfolding adjustment
       settled-answer a e hs ea es =
           answers-of a (endAnswer e) hs (adjustment b held lines) ea (end-whole e hs)
           (ap (λ (x : Adjusted). answered x hs) ea ∙ end-answer e hs
-          ∙ ap ended (es ∙ settle-held (sightsOf (standing lines)) (flags flagged) (isHeld held) b held-flags z ∙ ap (settle (sightsOf (standing lines)) (isHeld held) b) begun)
-          ∙ ap (λ (m : ℕ). unlessUnheld m (λ _. ended (settle (sightsOf (standing lines)) (isHeld held) b (startHeights b held lines)))) (sym none-unheld ∙ is-unheld))
+          ∙ ap ended (es ∙ settle-held (sightsOf (standing lines)) (flags flagged) (isHeld held) b held-flags z
+          ∙ ap (settle (sightsOf (standing lines)) (isHeld held) b) begun)
+          ∙ ap (λ (m : ℕ). unlessUnheld m (λ _. ended (settle (sightsOf (standing lines)) (isHeld held) b (startHeights b held lines))))
+          (sym none-unheld ∙ is-unheld))

@@ -36,7 +36,8 @@ abbrev begun : List ℤ
 begun = pos 100000000 ∷ pos 102110000 ∷ pos 106345000 ∷ pos 103895000 ∷ pos 99075000 ∷ []
 
 begins : startHeights 5 held lines ≡ begun
-unfolding startHeights start startOf heightsFrom rootHeight rootedBy heldHeight tree marks upTo grow step firstOut lowest far score distance standing standingFrom keep
+unfolding startHeights start startOf heightsFrom rootHeight rootedBy heldHeight tree marks upTo grow step firstOut lowest far score
+    distance standing standingFrom keep
 begins = refl
 
 -- mark 2 has lines 2 and 3
@@ -50,17 +51,22 @@ pull-at-2 = refl
 
 first-sweep : sweep (sightsOf (standing lines)) (isHeld held) begun 5
     ≡ moved (pos 100000000 ∷ pos 102127857 ∷ pos 106331380 ∷ pos 103905963 ∷ pos 99074765 ∷ [])
-unfolding sweep visited moveOf workHeightOut outZ eqZ nearest nearestSize pull weights sightsOf weightOf isHeld heldHeight standing standingFrom keep
+unfolding sweep visited moveOf workHeightOut outZ eqZ nearest nearestSize pull weights sightsOf weightOf isHeld heldHeight standing
+    standingFrom keep
 first-sweep = refl
 
 -- 102.1235, 106.3358, 103.9072 and 99.0726 m to 0.1 mm
 whole : adjustment 5 held lines ≡ done 15 (pos 100000000 ∷ pos 102123536 ∷ pos 106335770 ∷ pos 103907175 ∷ pos 99072642 ∷ [])
-unfolding adjustment unheldPiece firstBad firstFrom startHeights start startOf heightsFrom rootHeight rootedBy heldHeight isHeld tree marks upTo grow step firstOut lowest far score distance standing standingFrom keep settle settleFrom sweep visited moveOf workHeightOut outZ eqZ nearest nearestSize pull weights sightsOf weightOf
+unfolding adjustment unheldPiece firstBad firstFrom startHeights start startOf heightsFrom rootHeight rootedBy heldHeight isHeld tree
+    marks upTo grow step firstOut lowest far score distance standing standingFrom keep settle settleFrom sweep visited moveOf
+    workHeightOut outZ eqZ nearest nearestSize pull weights sightsOf weightOf
 whole = refl
 
 -- no mark is held: 11 at mark 1
 none-held : adjustment 5 [] lines ≡ refused 11 1
-unfolding adjustment unheldPiece firstBad firstFrom startHeights start startOf heightsFrom rootHeight rootedBy heldHeight isHeld tree marks upTo grow step firstOut lowest far score distance standing standingFrom keep settle settleFrom sweep visited moveOf workHeightOut outZ eqZ nearest nearestSize pull weights sightsOf weightOf
+unfolding adjustment unheldPiece firstBad firstFrom startHeights start startOf heightsFrom rootHeight rootedBy heldHeight isHeld tree
+    marks upTo grow step firstOut lowest far score distance standing standingFrom keep settle settleFrom sweep visited moveOf
+    workHeightOut outZ eqZ nearest nearestSize pull weights sightsOf weightOf
 none-held = refl
 
 -- halves toward zero, of both signs; just over a half is rounded away

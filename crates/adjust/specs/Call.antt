@@ -29,7 +29,8 @@ givenBy out (refused number place) = adjusted (refusedWith (refusal number place
 -- of a good book: 10, "lent output too short for the whole answer", or the adjustment
 unfoldable pub adjustGood : Book → List ℤ → List ℤ → List ℤ → Given
 unfolding adjustment
-adjustGood k held lines out = cond (ltb (length out) (k .marks)) (adjusted (refusedWith (refusal 10 0)) out) (givenBy out (adjustment (k .marks) held lines))
+adjustGood k held lines out =
+    cond (ltb (length out) (k .marks)) (adjusted (refusedWith (refusal 10 0)) out) (givenBy out (adjustment (k .marks) held lines))
 
 unfoldable pub adjustOf : Lent → List ℤ → Given
 unfolding adjustGood testOf

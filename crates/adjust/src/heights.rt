@@ -83,7 +83,8 @@ fn adjust_by(
     z: &mut [i64],
     heights: &mut [i64],
 ) -> Adjusted
-    requires { ⌜ GoodEntries book (now held) (now lines) ⌝ ∗ ⌜ (length (now z) ≡ book .marks) × (book .marks ≤ length (now heights)) ⌝ }
+    requires { ⌜ GoodEntries book (now held) (now lines) ⌝
+        ∗ ⌜ (length (now z) ≡ book .marks) × (book .marks ≤ length (now heights)) ⌝ }
     ensures { λ r. ⌜ adjusted r (now (heights .exit)) ≡ adjustGood book (now (held .entry)) (now (lines .entry)) (now (heights .entry)) ⌝ }
 {
     let a = adjust_into(book, held, lines, z);

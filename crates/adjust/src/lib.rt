@@ -38,7 +38,8 @@ pub(crate) fn settled_at(sweeps: usize) -> Adjusted
     Adjusted { refusal, sweeps }
 }
 
-// The adjusted heights of the marks. Refusals 4, 6, 7, 10, 11, then 12 or 13 by whichever comes first; a refusal leaves the heights as they were.
+// The adjusted heights of the marks. Refusals 4, 6, 7, 10, 11, then 12 or 13 by whichever comes first; a refusal leaves the heights as
+// they were.
 pub fn adjust(b: i64, t: i64, held: &[i64], lines: &[i64], heights: &mut [i64]) -> Adjusted
     ensures { λ r. ⌜ adjusted r (now (heights .exit))
         ≡ adjustOf (lent b t (now (held .entry)) (now (lines .entry))) (now (heights .entry)) ⌝ }

@@ -1,8 +1,8 @@
-// Plays an afternoon on the worked network: re-runs, withdrawals and tries that are refused, one step after the other. Of each it says in words what was
-// answered, what changed in the book, and what the kept report then holds.
-// On standard input: the length of the book's file (2 bytes), the file, and the steps. A step: the length of its note, its kind and how many numbers of the
-// report are lent (2 bytes each), a line or place and a new number (6 bytes each: 1 if negative, in 2, and the size), the note. tests/afternoon.py makes
-// the steps and, on its own, what is printed of them.
+// Plays an afternoon on the worked network: re-runs, withdrawals and tries that are refused, one step after the other. Of each it says in
+// words what was answered, what changed in the book, and what the kept report then holds.
+// On standard input: the length of the book's file (2 bytes), the file, and the steps. A step: the length of its note, its kind and how
+// many numbers of the report are lent (2 bytes each), a line or place and a new number (6 bytes each: 1 if negative, in 2, and the size),
+// the note. tests/afternoon.py makes the steps and, on its own, what is printed of them.
 ghost use Prim.Native.Nat.{_≤_, _+_};
 ghost use lib.ListN.{length};
 

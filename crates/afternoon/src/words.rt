@@ -163,7 +163,8 @@ pub(crate) fn put_report(number: usize, was: &[i64; REPORT_WORDS], is: &[i64; RE
 }
 
 fn put_row_at(was: &[i64], is: &[i64], at: usize)
-    requires { ⌜ at + 5 ≤ length (now was) ⌝ ∗ ⌜ at + 5 ≤ length (now is) ⌝ }
+    requires { ⌜ at + 5 ≤ length (now was) ⌝
+        ∗ ⌜ at + 5 ≤ length (now is) ⌝ }
 {
     count(b"    ROW", at / ROW_WORDS + 1);
     put_row(&is[at..at + ROW_WORDS]);

@@ -14,10 +14,12 @@ use Rattle.laws.specs.Tests.{outZ, outN, eqZ}
 use Rattle.laws.proofs.Tests.{or-left, or-right, inN-high, eqZ-apart}
 use Rattle.laws.proofs.Scans.{cond-zero, none-bad, none-below, first-most}
 use Rattle.laws.proofs.Size.{between, size-within}
-use Rattle.book.specs.Limits.{leastMarks, mostMarks, leastLines, mostLines, leastHeld, mostHeld, leastTolerance, mostTolerance, mostDifference, leastLength, mostLength, mostHeldHeight}
+use Rattle.book.specs.Limits.{leastMarks, mostMarks, leastLines, mostLines, leastHeld, mostHeld, leastTolerance, mostTolerance}
+use Rattle.book.specs.Limits.{mostDifference, leastLength, mostLength, mostHeldHeight}
 use Rattle.book.specs.Height.{heldHeightOut}
 use Rattle.book.specs.Held.{heldWords, markAt, heightAt, heldCount, heldOut, heldBefore, heldBad, firstBadHeld}
-use Rattle.book.specs.Line.{lineWords, fromAt, toAt, differenceAt, lengthAt, standingAt, lineCount, differenceOut, lineFault, lineBad, firstBadLine}
+use Rattle.book.specs.Line.{lineWords, fromAt, toAt, differenceAt, lengthAt, standingAt, lineCount, differenceOut, lineFault}
+use Rattle.book.specs.Line.{lineBad, firstBadLine}
 use Rattle.book.specs.Lent.{Lent}
 use Rattle.book.specs.Test.{bookOut, countsOf, refused, torn, testOf}
 use Rattle.book.specs.Good.{GoodLine, GoodHeld, GoodBook, GoodLines}
@@ -65,14 +67,16 @@ good-held b held i e =
     }
 
 -- an answer of the test that is no refusal got past each refusal
-past : (t : Bool) (number place : ℕ) (rest : Tested) (k : Book) → cond t (refused number place) rest ≡ Good k → (t ≡ false) × (rest ≡ Good k)
+past : (t : Bool) (number place : ℕ) (rest : Tested) (k : Book) → cond t (refused number place) rest ≡ Good k
+    → (t ≡ false) × (rest ≡ Good k)
 past true number place rest k e = let z : _≡_ {A = ℕ} 0 1 = cc in absurd (omega arith)
 past false number place rest k e = (refl, e)
 
 -- a slice of whole entries
 whole : (w : ℕ) (slice : List ℤ) → torn w slice ≡ false → length slice ≡ length slice / w * w
 unfolding torn
-whole w slice e = let d = div-add-mod' (length slice) w in let z = eqb-true (length slice % w) 0 (not-not (eqb (length slice % w) 0) e) in omega arith
+whole w slice e =
+    let d = div-add-mod' (length slice) w in let z = eqb-true (length slice % w) 0 (not-not (eqb (length slice % w) 0) e) in omega arith
   where
     not-not : (t : Bool) → not t ≡ false → t ≡ true
     not-not true e = refl
@@ -144,21 +148,26 @@ abbrev pub NumberedIf : Tested → Type 0
 NumberedIf (Good k) = Unit {0}
 NumberedIf (Refused r) = Numbered r
 
-numbered : (t : Bool) (number place : ℕ) (rest : Tested) → (t ≡ true → Numbered (record { number = number; place = place })) → (t ≡ false → NumberedIf rest)
+numbered : (t : Bool) (number place : ℕ) (rest : Tested) → (t ≡ true → Numbered (record { number = number; place = place }))
+    → (t ≡ false → NumberedIf rest)
     → NumberedIf (cond t (refused number place) rest)
 numbered true number place rest h n = h refl
 numbered false number place rest h n = n refl
 
 module _ (book : Lent) where
-  few-entries : bookOut (book .b) (book .t) (heldCount (book .held)) (lineCount (book .lines)) ≡ false → (heldCount (book .held) ≤ mostHeld) × (lineCount (book .lines) ≤ mostLines)
+  few-entries : bookOut (book .b) (book .t) (heldCount (book .held)) (lineCount (book .lines)) ≡ false
+      → (heldCount (book .held) ≤ mostHeld) × (lineCount (book .lines) ≤ mostLines)
   unfolding bookOut
   few-entries e =
       let out₁ = outZ (pos leastMarks) (pos mostMarks) (book .b) in
       let out₂ = outZ (pos leastTolerance) (pos mostTolerance) (book .t) in
       let out₃ = outN leastHeld mostHeld (heldCount (book .held)) in
       let out₄ = outN leastLines mostLines (lineCount (book .lines)) in
-      let o₃ = or-left (out₁ || out₂ || out₃) out₄ e in
-      (inN-high leastHeld mostHeld (heldCount (book .held)) (or-right (out₁ || out₂) out₃ o₃), inN-high leastLines mostLines (lineCount (book .lines)) (or-right (out₁ || out₂ || out₃) out₄ e))
+      let o₃ = or-left (out₁ || out₂ || out₃) out₄ e in (
+        inN-high leastHeld mostHeld (heldCount (book .held)) (or-right (out₁ || out₂) out₃ o₃),
+        inN-high leastLines mostLines
+            (lineCount (book .lines)) (or-right (out₁ || out₂ || out₃) out₄ e),
+      )
 
   pub tested-numbered : (r : Refusal) → testOf book ≡ Refused r → Numbered r
   unfolding testOf firstBadHeld firstBadLine
@@ -170,8 +179,10 @@ module _ (book : Lent) where
       let few = few-entries inside in
       let h = first-most (heldBad (book .b) (book .held)) (heldCount (book .held)) in
       let n = first-most (lineBad (book .b) (book .lines)) (lineCount (book .lines)) in
-      numbered (ltb 0 (firstBadHeld (book .b) (book .held))) 6 (firstBadHeld (book .b) (book .held)) _ (λ _. record { low = omega arith; high = omega arith; near = omega (arith, few .0, h) }) (λ _.
-      numbered (ltb 0 (firstBadLine (book .b) (book .lines))) 7 (firstBadLine (book .b) (book .lines)) _ (λ _. record { low = omega arith; high = omega arith; near = omega (arith, few .1, n) }) (λ _. tt))))))
+      numbered (ltb 0 (firstBadHeld (book .b) (book .held))) 6 (firstBadHeld (book .b) (book .held)) _
+      (λ _. record { low = omega arith; high = omega arith; near = omega (arith, few .0, h) }) (λ _.
+      numbered (ltb 0 (firstBadLine (book .b) (book .lines))) 7 (firstBadLine (book .b) (book .lines)) _
+      (λ _. record { low = omega arith; high = omega arith; near = omega (arith, few .1, n) }) (λ _. tt))))))
     where
       four : {P : Type 0} → P → Numbered (record { number = 4; place = 0 })
       four p = record { low = omega arith; high = omega arith; near = omega arith }

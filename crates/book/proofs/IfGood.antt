@@ -17,7 +17,8 @@ module _ {A : Type 0} (book : Lent) (refuse : Refusal → A) (go : Book → A) w
   if-good k e = rw e
 
   -- what holds in both cases holds of what the call gives
-  pub either-way : (P : A → Type 0) → ((r : Refusal) → testOf book ≡ Refused r → P (refuse r)) → ((k : Book) → testOf book ≡ Good k → P (go k))
+  pub either-way : (P : A → Type 0) → ((r : Refusal) → testOf book ≡ Refused r → P (refuse r))
+      → ((k : Book) → testOf book ≡ Good k → P (go k))
       → P (ifGood (testOf book) refuse go)
   either-way P bad good = by (testOf book) refl
     where

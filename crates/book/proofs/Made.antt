@@ -38,33 +38,41 @@ is-left false x y z n e = absurd (n e)
 module _ (b t : ℤ) (h n : ℕ) (m : Tested) (e : m ≡ bookOf b t h n) where
   pub no-book : (r : Refusal) → m ≡ tested.Refused r → (bookOut b t h n ≡ true) × (m ≡ refused 4 0)
   unfolding bookOf
-  no-book r g = is-left (bookOut b t h n) (refused 4 0) (tested.Good (counts b t h n)) m (λ f. let z : _≡_ {A = ℕ} 0 1 = cc in omega arith) e
+  no-book r g =
+      is-left (bookOut b t h n) (refused 4 0) (tested.Good (counts b t h n)) m (λ f. let z : _≡_ {A = ℕ} 0 1 = cc in omega arith) e
 
   pub book-made : (k : Book) → m ≡ tested.Good k → (bookOut b t h n ≡ false) × (k ≡ counts b t h n)
   unfolding bookOf
   book-made k g =
-      let w = is-right (bookOut b t h n) (refused 4 0) (tested.Good (counts b t h n)) m (λ f. let z : _≡_ {A = ℕ} 0 1 = cc in omega arith) e in
+      let w =
+      is-right (bookOut b t h n) (refused 4 0) (tested.Good (counts b t h n)) m (λ f. let z : _≡_ {A = ℕ} 0 1 = cc in omega arith) e
+      in
       let made : m ≡ tested.Good (counts b t h n) = w .1 in
       (w .0, cc)
 
 -- ---- a height
 
-made-height : (t : Bool) (n : ℕ) (z : ℤ) (m : MadeHeight) (k : Height) → m ≡ cond t (height.Refused n) (height.Good (record { micrometres = z })) → m ≡ height.Good k
+made-height : (t : Bool) (n : ℕ) (z : ℤ) (m : MadeHeight) (k : Height)
+    → m ≡ cond t (height.Refused n) (height.Good (record { micrometres = z })) → m ≡ height.Good k
     → (t ≡ false) × (k ≡ record { micrometres = z })
 made-height t n z m k e g =
-    let w = is-right t (height.Refused n) (height.Good (record { micrometres = z })) m (λ f. let q : _≡_ {A = ℕ} 0 1 = cc in omega arith) e in
+    let w =
+    is-right t (height.Refused n) (height.Good (record { micrometres = z })) m (λ f. let q : _≡_ {A = ℕ} 0 1 = cc in omega arith) e in
     let made : m ≡ height.Good (record { micrometres = z }) = w .1 in
     (w .0, cc)
 
-no-height : (t : Bool) (n : ℕ) (z : ℤ) (m : MadeHeight) (j : ℕ) → m ≡ cond t (height.Refused n) (height.Good (record { micrometres = z })) → m ≡ height.Refused j
+no-height : (t : Bool) (n : ℕ) (z : ℤ) (m : MadeHeight) (j : ℕ)
+    → m ≡ cond t (height.Refused n) (height.Good (record { micrometres = z })) → m ≡ height.Refused j
     → (t ≡ true) × (j ≡ n)
 no-height t n z m j e g =
-    let w = is-left t (height.Refused n) (height.Good (record { micrometres = z })) m (λ f. let q : _≡_ {A = ℕ} 0 1 = cc in omega arith) e in
+    let w =
+    is-left t (height.Refused n) (height.Good (record { micrometres = z })) m (λ f. let q : _≡_ {A = ℕ} 0 1 = cc in omega arith) e in
     let refusal : m ≡ height.Refused n = w .1 in
     (w .0, cc)
 
 module _ (z : ℤ) (m : MadeHeight) where
-  pub held-height-made : m ≡ heldHeightOf z → (k : Height) → m ≡ height.Good k → (heldHeightOut z ≡ false) × (k ≡ record { micrometres = z })
+  pub held-height-made : m ≡ heldHeightOf z → (k : Height) → m ≡ height.Good k
+      → (heldHeightOut z ≡ false) × (k ≡ record { micrometres = z })
   unfolding heldHeightOf
   held-height-made e k g = made-height (heldHeightOut z) 6 z m k e g
 
@@ -72,7 +80,8 @@ module _ (z : ℤ) (m : MadeHeight) where
   unfolding heldHeightOf
   no-held-height e j g = no-height (heldHeightOut z) 6 z m j e g
 
-  pub work-height-made : m ≡ workHeightOf z → (k : Height) → m ≡ height.Good k → (workHeightOut z ≡ false) × (k ≡ record { micrometres = z })
+  pub work-height-made : m ≡ workHeightOf z → (k : Height) → m ≡ height.Good k
+      → (workHeightOut z ≡ false) × (k ≡ record { micrometres = z })
   unfolding workHeightOf
   work-height-made e k g = made-height (workHeightOut z) 13 z m k e g
 
@@ -86,7 +95,9 @@ module _ (b mark h : ℤ) (m : MadeHeld) (e : m ≡ heldEntryOf b mark h) where
   pub entry-made : (k : Held) → m ≡ held.Good k → (heldOut b mark h ≡ false) × (k .mark ≡ mark)
   unfolding heldEntryOf
   entry-made k g =
-      let w = is-right (heldOut b mark h) (held.Refused 6) (held.Good (record { mark = mark; height = record { micrometres = h } })) m (λ f. let q : _≡_ {A = ℕ} 0 1 = cc in omega arith) e in
+      let w =
+      is-right (heldOut b mark h) (held.Refused 6) (held.Good (record { mark = mark; height = record { micrometres = h } })) m
+      (λ f. let q : _≡_ {A = ℕ} 0 1 = cc in omega arith) e in
       let made : m ≡ held.Good (record { mark = mark; height = record { micrometres = h } }) = w .1 in
       let same : k ≡ record { mark = mark; height = record { micrometres = h } } = cc in
       (w .0, ap (λ (x : Held). x .mark) same)
@@ -94,7 +105,8 @@ module _ (b mark h : ℤ) (m : MadeHeld) (e : m ≡ heldEntryOf b mark h) where
   pub no-entry : (j : ℕ) → m ≡ held.Refused j → heldOut b mark h ≡ true
   unfolding heldEntryOf
   no-entry j g =
-      is-left (heldOut b mark h) (held.Refused 6) (held.Good (record { mark = mark; height = record { micrometres = h } })) m (λ f. let q : _≡_ {A = ℕ} 0 1 = cc in omega arith) e .0
+      is-left (heldOut b mark h) (held.Refused 6) (held.Good (record { mark = mark; height = record { micrometres = h } })) m
+      (λ f. let q : _≡_ {A = ℕ} 0 1 = cc in omega arith) e .0
 
 -- ---- a line
 
@@ -108,11 +120,14 @@ module _ (b from to difference length standing : ℤ) (m : MadeLine) (e : m ≡ 
   pub line-made : (k : Line) → m ≡ line.Good k → (faulty ≡ false) × (k ≡ its)
   unfolding lineOf
   line-made k g =
-      let w = is-right faulty (line.Refused 7 (lineFault b from to difference length standing)) (line.Good its) m (λ f. let q : _≡_ {A = ℕ} 0 1 = cc in omega arith) e in
+      let w =
+      is-right faulty (line.Refused 7 (lineFault b from to difference length standing)) (line.Good its) m
+      (λ f. let q : _≡_ {A = ℕ} 0 1 = cc in omega arith) e in
       let made : m ≡ line.Good its = w .1 in
       (w .0, cc)
 
   pub no-line : (number fault : ℕ) → m ≡ line.Refused number fault → faulty ≡ true
   unfolding lineOf
   no-line number fault g =
-      is-left faulty (line.Refused 7 (lineFault b from to difference length standing)) (line.Good its) m (λ f. let q : _≡_ {A = ℕ} 0 1 = cc in omega arith) e .0
+      is-left faulty (line.Refused 7 (lineFault b from to difference length standing)) (line.Good its) m
+      (λ f. let q : _≡_ {A = ℕ} 0 1 = cc in omega arith) e .0

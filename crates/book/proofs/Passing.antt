@@ -8,7 +8,8 @@ use lib.ListN.{length}
 use lib.IntN.{ℤ, pos}
 use borrow.Author.Tests.{eq-eqb, le-ltb}
 use Rattle.laws.specs.Tests.{outN, eqZ}
-use Rattle.book.specs.Limits.{leastMarks, mostMarks, leastLines, mostLines, leastHeld, mostHeld, leastTolerance, mostTolerance, mostDifference, mostHeldHeight}
+use Rattle.book.specs.Limits.{leastMarks, mostMarks, leastLines, mostLines, leastHeld, mostHeld, leastTolerance, mostTolerance}
+use Rattle.book.specs.Limits.{mostDifference, mostHeldHeight}
 use Rattle.book.specs.Height.{heldHeightOut}
 use Rattle.book.specs.Held.{heldWords, heldCount, markAt, heightAt, heldOut, heldBefore, heldBad, firstBadHeld}
 use Rattle.book.specs.Line.{lineWords, fromAt, toAt, differenceAt, lengthAt, standingAt, lineAt, entryAt, lineCount}
@@ -28,13 +29,26 @@ use Rattle.laws.proofs.Inside.{inside, between-inside, size-inside, apart-eqZ}
 pub line-passes : (b : ℕ) (lines : List ℤ) (i : ℕ) → GoodLine b lines i → lineBad (pos b) lines i ≡ false
 unfolding lineBad lineFault differenceOut
 line-passes b lines i g =
-    rw (between-inside (g .from), between-inside (g .to), apart-eqZ (fromAt lines i) (toAt lines i) (g .apart), size-inside mostDifference (differenceAt lines i) (g .difference), between-inside (g .long), between-inside (g .standing))
+    rw (
+      between-inside (g .from),
+      between-inside (g .to),
+      apart-eqZ (fromAt lines i) (toAt lines i) (g .apart),
+      size-inside
+          mostDifference (differenceAt lines i) (g .difference),
+      between-inside (g .long),
+      between-inside (g .standing),
+    )
 
 -- a held entry inside its limits is not bad
 pub held-passes : (b : ℕ) (held : List ℤ) (i : ℕ) → GoodHeld b held i → heldBad (pos b) held i ≡ false
 unfolding heldBad heldOut heldHeightOut heldBefore
 held-passes b held i g =
-    rw (between-inside (g .mark), size-inside mostHeldHeight (heightAt held i) (g .height), none-any (λ j. eqZ (markAt held j) (markAt held i)) i (λ j l. apart-eqZ (markAt held j) (markAt held i) (g .once j l)))
+    rw (
+      between-inside (g .mark),
+      size-inside mostHeldHeight (heightAt held i) (g .height),
+      none-any
+          (λ j. eqZ (markAt held j) (markAt held i)) i (λ j l. apart-eqZ (markAt held j) (markAt held i) (g .once j l)),
+    )
 
 -- a book inside every limit passes the test
 pub good-passes : (k : Book) (book : Lent) → GoodBook k book → testOf book ≡ Good k
@@ -54,7 +68,8 @@ good-passes k book g =
       le-ltb (k .lines) leastLines (omega arith),
       le-ltb mostLines (k .lines) (g .lines-good .few),
       none-first (heldBad (pos (k .marks)) (book .held)) (k .held) (λ i l. held-passes (k .marks) (book .held) i (g .held-good .each i l)),
-      none-first (lineBad (pos (k .marks)) (book .lines)) (k .lines) (λ i l. line-passes (k .marks) (book .lines) i (g .lines-good .each i l)),
+      none-first (lineBad (pos (k .marks)) (book .lines)) (k .lines)
+          (λ i l. line-passes (k .marks) (book .lines) i (g .lines-good .each i l)),
     )
   where
     h : heldCount (book .held) ≡ k .held

@@ -79,8 +79,8 @@ lineCount lines = length lines / lineWords
 unfoldable pub differenceOut : ℤ → Bool
 differenceOut d = outZ (negℤ (pos mostDifference)) (pos mostDifference) d
 
--- the first thing wrong with five numbers as a line of a book of b marks: 1 "end not 1 to b", 2 "ends equal", 3 "difference", 4 "length outside",
--- 5 "standing not 0 or 1"; 0: nothing
+-- the first thing wrong with five numbers as a line of a book of b marks: 1 "end not 1 to b", 2 "ends equal", 3 "difference", 4 "length
+-- outside", 5 "standing not 0 or 1"; 0: nothing
 unfoldable pub lineFault : ℤ → ℤ → ℤ → ℤ → ℤ → ℤ → ℕ
 unfolding differenceOut
 lineFault b from to difference len standing =

@@ -64,7 +64,8 @@ impl Line {
         signed::outside(d, Line::MIN_DIFFERENCE, Line::MAX_DIFFERENCE)
     }
 
-    // The first fault of five numbers as a line of a book of b marks, or 0. `|` and a choice of numbers, no branch: one fact is left to show.
+    // The first fault of five numbers as a line of a book of b marks, or 0. `|` and a choice of numbers, no branch: one fact is left to
+    // show.
     fn fault(b: i64, from: i64, to: i64, difference: i64, length: i64, standing: i64) -> usize
         ensures { λ r. ⌜ r ≡ lineFault b from to difference length standing ⌝ }
     {

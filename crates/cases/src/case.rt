@@ -23,7 +23,8 @@ pub fn two(s: &[u8], at: usize) -> usize
 
 // The place after the case at `at` that has so many numbers; `at`, where there is no whole one.
 pub fn after(input: &[u8], at: usize, numbers: usize) -> usize
-    requires { ⌜ at ≤ length (now input) ⌝ ∗ ⌜ numbers ≤ 3 ⌝ }
+    requires { ⌜ at ≤ length (now input) ⌝
+        ∗ ⌜ numbers ≤ 3 ⌝ }
     ensures { λ r. ⌜ (r ≡ afterCase (now (input .entry)) at numbers) × (r ≤ length (now (input .entry))) ⌝ }
 {
     let head = NAME_BYTES + 2 * numbers;

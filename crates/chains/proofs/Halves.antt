@@ -7,7 +7,8 @@ use mathlib.Core.List.{List, _∷_, List·Memᴰ, List·Memᴰ·head, List·Mem�
 use lib.ListN.{length, getD}
 use Rattle.network.specs.Standing.{Line}
 use Rattle.network.specs.Walk.{Ends, along, against}
-use Rattle.chains.specs.Chains.{Half, fore, aft, flip, markOf, metresOf, sumOf, On, here, later, Chain, no-half, first, Sound, Given, Met, Has, halves}
+use Rattle.chains.specs.Chains.{Half, fore, aft, flip, markOf, metresOf, sumOf, On, here, later, Chain, no-half, first, Sound}
+use Rattle.chains.specs.Chains.{Given, Met, Has, halves}
 use Rattle.chains.specs.Listed.{Listed}
 use Rattle.chains.proofs.Few.{Differ, no-two, differs, few}
 

@@ -8,7 +8,8 @@ use mathlib.Core.List.{List, [], _∷_, List·Memᴰ, List·Memᴰ·not-nil}
 use lib.ListN.{length, getD, set, length-set}
 use lib.Seq.{getD-set-same, getD-set-other}
 use Rattle.network.specs.Standing.{Line}
-use Rattle.chains.specs.Chains.{Half, fore, aft, markOf, Bounded, On, here, later, Chain, no-half, first, Chained, Heads, Leaves, Chains, Drawn, Sound, AllSound, halves, numberLimit}
+use Rattle.chains.specs.Chains.{Half, fore, aft, markOf, Bounded, On, here, later, Chain, no-half, first, Chained, Heads, Leaves}
+use Rattle.chains.specs.Chains.{Chains, Drawn, Sound, AllSound, halves, numberLimit}
 use Rattle.chains.specs.Link.{RoomChains, Linked, Fits, Joined, Wider}
 use Rattle.chains.proofs.Halves.{half-ok, half-no, on-zero, on-split}
 

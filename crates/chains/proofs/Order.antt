@@ -37,11 +37,13 @@ module _ (n : ℕ) (head next head′ next′ : List ℕ) (m h : ℕ) (room : Ro
   linked : (x : ℕ) → x < n → (t : Bool) → eqb m x ≡ t → Chain next′ (getD head′ x 0) (leftBy t h (of x))
   linked x lt true e =
       let same = eqb-true m x e in
-      subst (λ (i : ℕ). Chain next′ i (h ∷ of x)) (sym (ap (λ (z : ℕ). getD head′ z 0) (sym same) ∙ head-new n head next head′ next′ m h room mok low high lk))
+      subst (λ (i : ℕ). Chain next′ i (h ∷ of x)) (sym (ap (λ (z : ℕ). getD head′ z 0) (sym same)
+      ∙ head-new n head next head′ next′ m h room mok low high lk))
       (first low high (subst (λ (i : ℕ). Chain next′ i (of x))
       (sym (next-new n head next head′ next′ m h room mok low high lk ∙ ap (λ (z : ℕ). getD head z 0) same)) (kept x lt)))
   linked x lt false e =
-      subst (λ (i : ℕ). Chain next′ i (of x)) (sym (head-old n head next head′ next′ m h room mok low high lk x (λ z. eqb-false m x e (sym z)))) (kept x lt)
+      subst (λ (i : ℕ). Chain next′ i (of x)) (sym (head-old n head next head′ next′ m h room mok low high lk x
+      (λ z. eqb-false m x e (sym z)))) (kept x lt)
 
 -- ---- both halves of a line
 
@@ -76,10 +78,12 @@ module _ (sub : List Line) (l : Line) {n : ℕ} {ends head next head′ next′ 
   new-half : (x g : ℕ) → 2 * l .number ≤ g → g ≤ 2 * l .number + 1 → List·Memᴰ g (leaving sub x) → ⊥
   new-half x g a b i = let w = of-leaving sub x g i in isNew (w .0) (w .1) (omega (arith, w .2, w .3))
 
-  from-linked : (x : ℕ) → x < n → Chain (jn .next₁) (getD (jn .head₁) x 0) (leftBy (eqb (markOf ends (l .number * 2 + 1)) x) (l .number * 2) (leaving sub x))
+  from-linked : (x : ℕ) → x < n
+      → Chain (jn .next₁) (getD (jn .head₁) x 0) (leftBy (eqb (markOf ends (l .number * 2 + 1)) x) (l .number * 2) (leaving sub x))
   from-linked x lt =
       linked n head next (jn .head₁) (jn .next₁) (markOf ends (l .number * 2 + 1)) (l .number * 2) room (rw from-is (s .from-high))
-      (omega (arith, s .numbered)) (omega (arith, s .number)) (jn .along) (leaving sub) (λ y i. new-half y (l .number * 2) (omega arith) (omega arith) i)
+      (omega (arith, s .numbered)) (omega (arith, s .number)) (jn .along) (leaving sub)
+      (λ y i. new-half y (l .number * 2) (omega arith) (omega arith) i)
       (order .chain) x lt _ refl
 
   room₁ : RoomChains n (jn .head₁) (jn .next₁)
@@ -96,8 +100,10 @@ module _ (sub : List Line) (l : Line) {n : ℕ} {ends head next head′ next′ 
       let a : l .number * 2 ≡ 2 * l .number = omega arith in
       rw (← from-is, ← to-is, ← a)
       (linked n (jn .head₁) (jn .next₁) head′ next′ (markOf ends (l .number * 2)) (l .number * 2 + 1) room₁ (rw to-is (s .to-high))
-      (omega arith) (omega (arith, s .number)) (jn .against) (λ y. leftBy (eqb (markOf ends (l .number * 2 + 1)) y) (l .number * 2) (leaving sub y))
-      (λ y i. fresh y (of-leftBy (eqb (markOf ends (l .number * 2 + 1)) y) (l .number * 2) (l .number * 2 + 1) (leaving sub y) i)) from-linked x lt _ refl)
+      (omega arith) (omega (arith, s .number)) (jn .against)
+      (λ y. leftBy (eqb (markOf ends (l .number * 2 + 1)) y) (l .number * 2) (leaving sub y))
+      (λ y i. fresh y (of-leftBy (eqb (markOf ends (l .number * 2 + 1)) y) (l .number * 2) (l .number * 2 + 1) (leaving sub y) i))
+      from-linked x lt _ refl)
     where
       fresh : (y : ℕ) → (l .number * 2 + 1 ≡ l .number * 2) ⊎ List·Memᴰ (l .number * 2 + 1) (leaving sub y) → ⊥
       fresh y (inl e) = omega arith

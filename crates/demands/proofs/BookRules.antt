@@ -25,7 +25,8 @@ unfolding byRules
 past-rules [] c k e = none-in
 past-rules (q ∷ rest) c k e = go (q .applies) refl e (past-rules rest c k)
   where
-    go : (x : Bool) → q .applies ≡ x → cond x (Refused (q .gives)) (byRules rest Refused (Good c)) ≡ Good k → (byRules rest Refused (Good c) ≡ Good k → None rest) → None (q ∷ rest)
+    go : (x : Bool) → q .applies ≡ x → cond x (Refused (q .gives)) (byRules rest Refused (Good c)) ≡ Good k
+        → (byRules rest Refused (Good c) ≡ Good k → None rest) → None (q ∷ rest)
     go true a e ih = let z : _≡_ {A = ℕ} 0 1 = cc in absurd (omega arith)
     go false a e ih = none-and a (ih e)
 
@@ -37,7 +38,9 @@ on-the-test : {A : Type 0} (book : Lent) (on : Tested → A) (more : List Rule) 
     → on (testOf book) ≡ byRules (bookRules book more) refuse done
 unfolding testOf byRules bookFault
 on-the-test book on more refuse done f e =
-    go (torn heldWords (book .held)) (torn lineWords (book .lines)) (bookOut (book .b) (book .t) (heldCount (book .held)) (lineCount (book .lines))) (ltb 0 (firstBadHeld (book .b) (book .held))) (ltb 0 (firstBadLine (book .b) (book .lines)))
+    go (torn heldWords (book .held)) (torn lineWords (book .lines))
+    (bookOut (book .b) (book .t) (heldCount (book .held)) (lineCount (book .lines))) (ltb 0 (firstBadHeld (book .b) (book .held)))
+    (ltb 0 (firstBadLine (book .b) (book .lines)))
   where
     h : ℕ
     h = firstBadHeld (book .b) (book .held)
@@ -46,8 +49,10 @@ on-the-test book on more refuse done f e =
     l = firstBadLine (book .b) (book .lines)
 
     go : (x y z s q : Bool)
-        → on (cond x (refused 4 0) (cond y (refused 4 0) (cond z (refused 4 0) (cond s (refused 6 h) (cond q (refused 7 l) (Good (countsOf book)))))))
-        ≡ cond (x || y || z) (refuse (refusal 4 0)) (cond s (refuse (refusal 6 h)) (cond q (refuse (refusal 7 l)) (byRules more refuse done)))
+        → on (cond x (refused 4 0) (cond y (refused 4 0) (cond z (refused 4 0)
+        (cond s (refused 6 h) (cond q (refused 7 l) (Good (countsOf book)))))))
+        ≡ cond (x || y || z) (refuse (refusal 4 0)) (cond s (refuse (refusal 6 h))
+        (cond q (refuse (refusal 7 l)) (byRules more refuse done)))
     go true y z s q = f _
     go false true z s q = f _
     go false false true s q = f _

@@ -70,18 +70,21 @@ module _ (book : Lent) (number : ℤ) (i : ℕ) (stands : Stands (book .lines) n
   }
 
   -- a book with a line re-run inside the limit is good
-  pub rerun-stays-good : (difference : ℤ) → natAbs difference ≤ mostDifference → GoodBook k (withLines book (rerunLines (book .lines) number difference))
+  pub rerun-stays-good : (difference : ℤ) → natAbs difference ≤ mostDifference
+      → GoodBook k (withLines book (rerunLines (book .lines) number difference))
   unfolding rerunLines
   rerun-stays-good d small =
       rw (place-is stands differenceField)
-      (with-lines (place i differenceField) d (λ j g. rerun-good (k .marks) (book .lines) i differenceField d (omega (arith, has-line stands)) j g refl small))
+      (with-lines (place i differenceField) d (λ j g. rerun-good (k .marks) (book .lines) i differenceField d
+      (omega (arith, has-line stands)) j g refl small))
 
   -- a book with a line withdrawn is good
   pub withdrawal-stays-good : GoodBook k (withLines book (withdrawLines (book .lines) number))
   unfolding withdrawLines
   withdrawal-stays-good =
       rw (place-is stands standingField)
-      (with-lines (place i standingField) (pos 0) (λ j g. withdrawal-good (k .marks) (book .lines) i standingField (pos 0) (omega (arith, has-line stands)) j g refl refl))
+      (with-lines (place i standingField) (pos 0) (λ j g. withdrawal-good (k .marks) (book .lines) i standingField (pos 0)
+      (omega (arith, has-line stands)) j g refl refl))
 
 -- ---- the loops of the corrected book
 
@@ -92,7 +95,8 @@ report-length b t lines = rows-length t (loopsOf b lines)
 
 module _ (lines : List ℤ) (number : ℤ) (i : ℕ) (stands : Stands lines number i) where
   -- after a re-run the loops are the old ones, but for the difference of the line
-  pub rerun-loops : (b : ℕ) (difference : ℤ) → loopsOf b (rerunLines lines number difference) ≡ map (map (redonePass (suc i) difference)) (loopsOf b lines)
+  pub rerun-loops : (b : ℕ) (difference : ℤ)
+      → loopsOf b (rerunLines lines number difference) ≡ map (map (redonePass (suc i) difference)) (loopsOf b lines)
   unfolding loopsOf
   rerun-loops b d = ap (loops b) (rerun-is-redone lines number i stands d) ∙ rerun-keeps-loops (suc i) d b (standing lines)
 

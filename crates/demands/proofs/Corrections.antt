@@ -22,11 +22,13 @@ use Rattle.survey.specs.Report.{counted}
 use Rattle.survey.specs.Survey.{surveyed, surveyOf}
 use Rattle.survey.specs.Correction.{Corrected, corrected, placeOf, updated, rerunLines, withdrawLines, rerunOf, withdrawOf}
 use Rattle.demands.specs.Calls.{afresh, correctionDone}
-use Rattle.demands.specs.Corrections.{Step, rerun, withdraw, correct, correctedBook, Accepted, no-more, accepted, bookAfter, reportAfter, Acceptable, OnlyChange, KeptTrue}
+use Rattle.demands.specs.Corrections.{Step, rerun, withdraw, correct, correctedBook, Accepted, no-more, accepted, bookAfter}
+use Rattle.demands.specs.Corrections.{reportAfter, Acceptable, OnlyChange, KeptTrue}
 use Rattle.demands.proofs.Refusals.{survey-keeps-to-table, rerun-keeps-to-table, withdrawal-keeps-to-table}
 use Rattle.demands.proofs.Done.{survey-done-exactly-if, rerun-done-exactly-if, withdrawal-done-exactly-if}
 use Rattle.survey.proofs.Corrected.{place-is, has-line}
-use Rattle.demands.proofs.CorrectedBook.{set-changes, rerun-stays-good, withdrawal-stays-good, report-length, rerun-keeps-rows, withdrawal-adds-no-row}
+use Rattle.demands.proofs.CorrectedBook.{set-changes, rerun-stays-good, withdrawal-stays-good, report-length, rerun-keeps-rows}
+use Rattle.demands.proofs.CorrectedBook.{withdrawal-adds-no-row}
 
 -- ---- one correction
 
@@ -93,7 +95,8 @@ module _ (book : Lent) (report : List ℤ) where
   rerun-sets-one-number number difference z =
       let a = rerun-done-exactly-if book report number difference .0 z .1 in
       rw (rerun-keeps-to-table book report number difference .finished z)
-      (set-changes (book .lines) (placeOf number differenceField) difference (omega (arith, place-is (a .stands) differenceField, has-line (a .stands))))
+      (set-changes (book .lines) (placeOf number differenceField) difference
+      (omega (arith, place-is (a .stands) differenceField, has-line (a .stands))))
 
   -- a withdrawal sets its standing to 0, "and nothing else in the book changes"
   pub withdrawal-sets-one-number : (number : ℤ) → withdrawOf book report number .answer .refusal .number ≡ 0
@@ -102,11 +105,14 @@ module _ (book : Lent) (report : List ℤ) where
   withdrawal-sets-one-number number z =
       let a = withdrawal-done-exactly-if book report number .0 z in
       rw (withdrawal-keeps-to-table book report number .finished z)
-      (set-changes (book .lines) (placeOf number standingField) (pos 0) (omega (arith, place-is (a .stands) standingField, has-line (a .stands))))
+      (set-changes (book .lines) (placeOf number standingField) (pos 0)
+      (omega (arith, place-is (a .stands) standingField, has-line (a .stands))))
 
   -- a good book stays good: after an accepted correction no call refuses it for 4, 6 or 7
-  pub accepted-book-stays-good : (s : Step) → correct book report s .answer .refusal .number ≡ 0 → testOf (correctedBook book report s) ≡ testOf book
-  accepted-book-stays-good s z = let c = made book report s z in ap (λ (x : Corrected). testOf (withLines book (x .lines))) (c .done) ∙ passes-still c
+  pub accepted-book-stays-good : (s : Step) → correct book report s .answer .refusal .number ≡ 0
+      → testOf (correctedBook book report s) ≡ testOf book
+  accepted-book-stays-good s z =
+      let c = made book report s z in ap (λ (x : Corrected). testOf (withLines book (x .lines))) (c .done) ∙ passes-still c
 
   -- an accepted correction answers "the rows and pieces of the book as it then stands"
   pub accepted-counts-are-of-the-new-book : (s : Step) → correct book report s .answer .refusal .number ≡ 0
@@ -127,11 +133,13 @@ abbrev padded : ℕ → List ℤ → List ℤ → List ℤ
 padded m rows after = rows ++ replicate (m - length rows) (pos 0) ++ after
 
 -- a report brought up to date stays so
-padded-still : (report old new after : List ℤ) (m : ℕ) → length new ≤ length old → length old ≤ m → report ≡ padded m old after → updated report old new ≡ padded m new after
+padded-still : (report old new after : List ℤ) (m : ℕ) → length new ≤ length old → length old ≤ m → report ≡ padded m old after
+    → updated report old new ≡ padded m new after
 unfolding updated
 padded-still report old new after m h l e =
     let gone : drop (length old) report ≡ replicate (m - length old) (pos 0) ++ after =
-    ap (drop (length old)) (e ∙ append-assoc old (replicate (m - length old) (pos 0)) after) ∙ drop-append-seam old (replicate (m - length old) (pos 0) ++ after) in
+    ap (drop (length old)) (e ∙ append-assoc old (replicate (m - length old) (pos 0)) after)
+    ∙ drop-append-seam old (replicate (m - length old) (pos 0) ++ after) in
     let zeros : m - length new ≡ length old - length new + (m - length old) = omega arith in
     rw (gone, zeros, ← replicate-append-replicate (length old - length new) (m - length old) (pos 0)) (simp append-assoc)
 
@@ -156,22 +164,27 @@ module _ (first : Lent) (out : List ℤ) where
       })
 
   -- a refused one changes nothing
-  any-step-true : {book : Lent} {report : List ℤ} → Holds book report → (s : Step) → Holds (correctedBook book report s) (correct book report s .report)
+  any-step-true : {book : Lent} {report : List ℤ} → Holds book report → (s : Step)
+      → Holds (correctedBook book report s) (correct book report s .report)
   any-step-true {book = book} {report = report} w s = go s (ℕ-discrete (correct book report s .answer .refusal .number) 0)
     where
-      same : {x : Corrected} {r : Refusal} → x ≡ corrected (survey.refusedWith r) (book .lines) report → Holds (withLines book (x .lines)) (x .report)
+      same : {x : Corrected} {r : Refusal} → x ≡ corrected (survey.refusedWith r) (book .lines) report
+          → Holds (withLines book (x .lines)) (x .report)
       same e = subst (λ (x : Corrected). Holds (withLines book (x .lines)) (x .report)) (sym e) w
 
-      go : (s : Step) → Dec (correct book report s .answer .refusal .number ≡ 0) → Holds (correctedBook book report s) (correct book report s .report)
+      go : (s : Step) → Dec (correct book report s .answer .refusal .number ≡ 0)
+          → Holds (correctedBook book report s) (correct book report s .report)
       go s (yes z) = step-true w s z
       go (rerun number difference) (no h) = same (rerun-keeps-to-table book report number difference .refused h)
       go (withdraw number) (no h) = same (withdrawal-keeps-to-table book report number .refused h)
 
-  stays-true : {book book′ : Lent} {report report′ : List ℤ} {steps : List Step} → Holds book report → Accepted book report steps book′ report′ → Holds book′ report′
+  stays-true : {book book′ : Lent} {report report′ : List ℤ} {steps : List Step} → Holds book report
+      → Accepted book report steps book′ report′ → Holds book′ report′
   stays-true w no-more = w
   stays-true w (accepted {s = s} z more) = stays-true (step-true w s z) more
 
-  tries-true : {book : Lent} {report : List ℤ} → Holds book report → (steps : List Step) → Holds (bookAfter book report steps) (reportAfter book report steps)
+  tries-true : {book : Lent} {report : List ℤ} → Holds book report → (steps : List Step)
+      → Holds (bookAfter book report steps) (reportAfter book report steps)
   unfolding bookAfter reportAfter
   tries-true w [] = w
   tries-true w (s ∷ steps) = tries-true (any-step-true w s) steps
@@ -190,7 +203,14 @@ module _ (first : Lent) (out : List ℤ) where
     }
 
     kept-true : {book : Lent} {report : List ℤ} → Holds book report → KeptTrue first out book report
-    kept-true {book = book} {report = report} w = record { still-good = w .still-good; no-more-rows = w .no-more-rows; report-is = w .report-is; its-report-still = sym whole; surveyed-again = again }
+    kept-true {book = book} {report = report} w =
+        record {
+          still-good = w .still-good;
+          no-more-rows = w .no-more-rows;
+          report-is = w .report-is;
+          its-report-still = sym whole;
+          surveyed-again = again;
+        }
       where
         -- what follows the rows of today
         after : List ℤ
@@ -209,7 +229,8 @@ module _ (first : Lent) (out : List ℤ) where
             ∙ ap (surveyed (counted (natAbs (book .b)) (book .lines))) whole
 
     -- "After any sequence of accepted re-runs and withdrawals it equals the report worked out afresh from the corrected book."
-    pub kept-report-stays-true : {steps : List Step} {book′ : Lent} {report′ : List ℤ} → Accepted first (surveyOf first out .rows) steps book′ report′
+    pub kept-report-stays-true : {steps : List Step} {book′ : Lent} {report′ : List ℤ}
+        → Accepted first (surveyOf first out .rows) steps book′ report′
         → KeptTrue first out book′ report′
     kept-report-stays-true chain = kept-true (stays-true start chain)
 

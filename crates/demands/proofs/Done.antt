@@ -23,7 +23,8 @@ use Rattle.book.specs.declared.Book.{Book}
 use Rattle.book.specs.declared.Tested.the-variants.{Good}
 use Rattle.book.proofs.Goods.{tested-good}
 use Rattle.book.proofs.Passing.{good-passes}
-use Rattle.file.specs.Read.{statedLength, statedVersion, statedT, statedB, statedH, statedN, statedCounts, fileLength, heldOf, linesOf, bookIn, readOf}
+use Rattle.file.specs.Read.{statedLength, statedVersion, statedT, statedB, statedH, statedN, statedCounts, fileLength, heldOf, linesOf}
+use Rattle.file.specs.Read.{bookIn, readOf}
 use Rattle.file.proofs.Reading.{held-entries, line-entries}
 use Rattle.loops.specs.Row.{listings}
 use Rattle.loops.specs.Report.{loopsOf}
@@ -31,11 +32,14 @@ use Rattle.survey.specs.Survey.{surveyOf}
 use Rattle.lists.specs.Listing.{listingOf, listingsOf}
 use Rattle.lists.specs.NotChecked.{uncheckedOf, notCheckedOf}
 use Rattle.survey.specs.Correction.{rerunOf, withdrawOf}
-use Rattle.demands.specs.Tables.{bookFault, surveyRules, loopListing, listingRules, listingsRules, notCheckedRules, correctionRules, rerunRules, withdrawRules, fileRules}
+use Rattle.demands.specs.Tables.{bookFault, surveyRules, loopListing, listingRules, listingsRules, notCheckedRules, correctionRules}
+use Rattle.demands.specs.Tables.{rerunRules, withdrawRules, fileRules}
 use Rattle.demands.specs.Calls.{afresh, Readable}
 use Rattle.demands.specs.Corrections.{Acceptable}
 use Rattle.demands.proofs.Meanings.{line-exactly-if-stands, report-exactly-if-rows}
-use Rattle.demands.proofs.Refusals.{no-other-fault, survey-keeps-to-table, listing-keeps-to-table, listings-keeps-to-table, not-checked-keeps-to-table, reader-keeps-to-table, rerun-keeps-to-table, withdrawal-keeps-to-table}
+use Rattle.demands.proofs.Refusals.{no-other-fault, survey-keeps-to-table, listing-keeps-to-table, listings-keeps-to-table}
+use Rattle.demands.proofs.Refusals.{not-checked-keeps-to-table, reader-keeps-to-table, rerun-keeps-to-table}
+use Rattle.demands.proofs.Refusals.{withdrawal-keeps-to-table}
 use Rattle.demands.proofs.BookRules.{None, none-in, none-and, first-of, rest-of, passes-if, passes-only-if}
 
 module _ (book : Lent) where
@@ -45,21 +49,33 @@ module _ (book : Lent) where
   unfolding surveyRules
   survey-done-exactly-if out =
       let w = survey-keeps-to-table book out .table .done-exactly-if in (
-        λ z. let h = w .0 z in (_, passes-if book h, ltb-false (length out) (length (afresh book)) (first-of (rest-of (rest-of (rest-of h))))),
+        λ z. let h = w .0 z in (
+          _,
+          passes-if book h,
+          ltb-false (length out) (length (afresh book))
+              (first-of (rest-of (rest-of (rest-of h)))),
+        ),
         λ p. w .1 (passes-only-if book (p .0) (p .1) (none-and (le-ltb (length out) (length (afresh book)) (p .2)) none-in)),
       )
 
   -- a listing is done exactly if the book passes the test, the loop's number is one of the book's, and the listing has room
   pub listing-done-exactly-if : (loop : ℤ) (out : List ℤ) → (listingOf book loop out .answer .refusal .number ≡ 0)
-      ↔ ((k : Book) × (testOf book ≡ Good k) × Between 1 (length (loopsOf (natAbs (book .b)) (book .lines))) loop × (length (loopListing book loop) ≤ length out))
+      ↔ ((k : Book) × (testOf book ≡ Good k) × Between 1 (length (loopsOf (natAbs (book .b)) (book .lines))) loop
+      × (length (loopListing book loop) ≤ length out))
   unfolding listingRules
   listing-done-exactly-if loop out =
       let w = listing-keeps-to-table book loop out .table .done-exactly-if in (
         λ z.
             let h = w .0 z in
-            let own = rest-of (rest-of (rest-of h)) in
-            (_, passes-if book h, between 1 (length (loopsOf (natAbs (book .b)) (book .lines))) loop (first-of own), ltb-false (length out) (length (loopListing book loop)) (first-of (rest-of own))),
-        λ p. w .1 (passes-only-if book (p .0) (p .1) (none-and (between-inside (p .2)) (none-and (le-ltb (length out) (length (loopListing book loop)) (p .3)) none-in))),
+            let own = rest-of (rest-of (rest-of h)) in (
+              _,
+              passes-if book h,
+              between 1 (length (loopsOf (natAbs (book .b)) (book .lines))) loop (first-of own),
+              ltb-false
+                  (length out) (length (loopListing book loop)) (first-of (rest-of own)),
+            ),
+        λ p. w .1 (passes-only-if book (p .0) (p .1) (none-and (between-inside (p .2))
+            (none-and (le-ltb (length out) (length (loopListing book loop)) (p .3)) none-in))),
       )
 
   -- the lines of all loops are listed exactly if the book passes the test and they have room
@@ -75,12 +91,19 @@ module _ (book : Lent) where
 
   -- a not-checked list is done exactly if the book passes the test and the list has room
   pub not-checked-done-exactly-if : (out : List ℤ)
-      → (notCheckedOf book out .answer .refusal .number ≡ 0) ↔ ((k : Book) × (testOf book ≡ Good k) × (length (uncheckedOf (natAbs (book .b)) (book .lines)) ≤ length out))
+      → (notCheckedOf book out .answer .refusal .number ≡ 0)
+      ↔ ((k : Book) × (testOf book ≡ Good k) × (length (uncheckedOf (natAbs (book .b)) (book .lines)) ≤ length out))
   unfolding notCheckedRules
   not-checked-done-exactly-if out =
       let w = not-checked-keeps-to-table book out .table .done-exactly-if in (
-        λ z. let h = w .0 z in (_, passes-if book h, ltb-false (length out) (length (uncheckedOf (natAbs (book .b)) (book .lines))) (first-of (rest-of (rest-of (rest-of h))))),
-        λ p. w .1 (passes-only-if book (p .0) (p .1) (none-and (le-ltb (length out) (length (uncheckedOf (natAbs (book .b)) (book .lines))) (p .2)) none-in)),
+        λ z. let h = w .0 z in (
+          _,
+          passes-if book h,
+          ltb-false (length out) (length (uncheckedOf (natAbs (book .b)) (book .lines)))
+              (first-of (rest-of (rest-of (rest-of h)))),
+        ),
+        λ p. w .1 (passes-only-if book (p .0) (p .1) (none-and
+            (le-ltb (length out) (length (uncheckedOf (natAbs (book .b)) (book .lines))) (p .2)) none-in)),
       )
 
   -- what 8 and 9 leave
@@ -88,14 +111,23 @@ module _ (book : Lent) where
       → Acceptable book report number
   correction-only-if report number e h =
       let l = line-exactly-if-stands (book .lines) number .0 (first-of h) in
-      record { counts = _; passes = e; line = l .0; stands = l .1; its-report = report-exactly-if-rows report (afresh book) .0 (first-of (rest-of h)) }
+      record {
+        counts = _;
+        passes = e;
+        line = l .0;
+        stands = l .1;
+        its-report = report-exactly-if-rows report (afresh book) .0
+            (first-of (rest-of h));
+      }
 
   correction-if : (report : List ℤ) (number : ℤ) → Acceptable book report number → None (correctionRules book report number)
   correction-if report number a =
-      none-and (line-exactly-if-stands (book .lines) number .1 (a .line, a .stands)) (none-and (report-exactly-if-rows report (afresh book) .1 (a .its-report)) none-in)
+      none-and (line-exactly-if-stands (book .lines) number .1 (a .line, a .stands))
+      (none-and (report-exactly-if-rows report (afresh book) .1 (a .its-report)) none-in)
 
   -- a withdrawal is done exactly if it is acceptable
-  pub withdrawal-done-exactly-if : (report : List ℤ) (number : ℤ) → (withdrawOf book report number .answer .refusal .number ≡ 0) ↔ Acceptable book report number
+  pub withdrawal-done-exactly-if : (report : List ℤ) (number : ℤ)
+      → (withdrawOf book report number .answer .refusal .number ≡ 0) ↔ Acceptable book report number
   unfolding withdrawRules
   withdrawal-done-exactly-if report number =
       let w = withdrawal-keeps-to-table book report number .table .done-exactly-if in (
@@ -105,15 +137,19 @@ module _ (book : Lent) where
 
   -- a re-run is done exactly if it is acceptable and the new difference is inside its limit
   pub rerun-done-exactly-if : (report : List ℤ) (number difference : ℤ)
-      → (rerunOf book report number difference .answer .refusal .number ≡ 0) ↔ ((natAbs difference ≤ mostDifference) × Acceptable book report number)
+      → (rerunOf book report number difference .answer .refusal .number ≡ 0)
+      ↔ ((natAbs difference ≤ mostDifference) × Acceptable book report number)
   unfolding rerunRules differenceOut
   rerun-done-exactly-if report number difference =
       let w = rerun-keeps-to-table book report number difference .table .done-exactly-if in (
         λ z.
             let h = w .0 z in
             let four = first-of h in
-            let fault = or-right (differenceOut difference) (bookFault book) four in
-            (size-within mostDifference difference (or-left (differenceOut difference) (bookFault book) four), correction-only-if report number (passes-if book (none-and fault (rest-of h))) (rest-of (rest-of (rest-of h)))),
+            let fault = or-right (differenceOut difference) (bookFault book) four in (
+              size-within mostDifference difference (or-left (differenceOut difference) (bookFault book) four),
+              correction-only-if report
+                  number (passes-if book (none-and fault (rest-of h))) (rest-of (rest-of (rest-of h))),
+            ),
         λ p.
             let a = p .1 in
             let h = passes-only-if book (a .counts) (a .passes) (correction-if report number a) in
@@ -160,7 +196,9 @@ module _ (file : List ℕ) (held lines : List ℤ) where
           let r₈ = rest-of r₇ in
           let few-held = ltb (length held) (h * heldWords) in
           let few-lines = ltb (length lines) (n * lineWords) in
-          let passes = passes-if book {more = []} (none-and (no-other-fault file held lines (first-of r₄)) (none-and (first-of r₆) (none-and (first-of r₇) none-in))) in
+          let passes =
+          passes-if book {more = []} (none-and (no-other-fault file held lines (first-of r₄))
+          (none-and (first-of r₆) (none-and (first-of r₇) none-in))) in
           record {
             long-enough = ltb-false (length file) 13 (first-of r₁);
             its-length = eqb-true (statedLength file) (length file) (not-false (eqb (statedLength file) (length file)) (first-of r₂));
@@ -174,7 +212,9 @@ module _ (file : List ℕ) (held lines : List ℤ) where
       back : Readable file held lines → None (fileRules file held lines)
       back r =
           let rules = passes-only-if book (statedCounts file) (good-passes (statedCounts file) book (r .good)) {more = []} none-in in
-          let fault = or-right (torn heldWords (heldOf file h) || torn lineWords (linesOf file h n)) (bookOut b t (heldCount (heldOf file h)) (lineCount (linesOf file h n))) (first-of rules) in
+          let fault =
+          or-right (torn heldWords (heldOf file h) || torn lineWords (linesOf file h n))
+          (bookOut b t (heldCount (heldOf file h)) (lineCount (linesOf file h n))) (first-of rules) in
           none-and (le-ltb (length file) 13 (r .long-enough))
           (none-and (rw (eq-eqb (statedLength file) (length file) (r .its-length)))
           (none-and (rw (eq-eqb (statedVersion file) 1 (r .version-one)))
@@ -182,11 +222,16 @@ module _ (file : List ℕ) (held lines : List ℤ) where
           (none-and (rw (eq-eqb (length file) (fileLength h n) (r .whole)))
           (none-and (first-of (rest-of rules))
           (none-and (first-of (rest-of (rest-of rules)))
-          (none-and (rw (le-ltb (length held) (h * heldWords) (r .room-for-held), le-ltb (length lines) (n * lineWords) (r .room-for-lines))) none-in)))))))
+          (none-and (rw (
+            le-ltb (length held) (h * heldWords) (r .room-for-held),
+            le-ltb (length lines) (n * lineWords)
+                (r .room-for-lines),
+          )) none-in)))))))
 
   -- and the book that it leaves in the buffers passes the test of every call
   pub read-book-passes : let o = readOf file held lines in o .answer .refusal .number ≡ 0
-      → testOf (lent (pos (o .answer .b)) (pos (o .answer .t)) (take (o .answer .h * heldWords) (o .held)) (take (o .answer .n * lineWords) (o .lines)))
+      → testOf (lent (pos (o .answer .b)) (pos (o .answer .t)) (take (o .answer .h * heldWords) (o .held))
+      (take (o .answer .n * lineWords) (o .lines)))
       ≡ Good (record { marks = o .answer .b; tolerance = o .answer .t; held = o .answer .h; lines = o .answer .n })
   read-book-passes z =
       let good = read-exactly-if-readable .0 z .good in

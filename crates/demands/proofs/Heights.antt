@@ -45,7 +45,9 @@ use Rattle.adjust.specs.Call.{Given, adjusted, givenBy, adjustGood, adjustOf}
 use Rattle.adjust.proofs.Promises.{as-many, never-worse, best-at-every-mark, held-marks-keep}
 use Rattle.demands.specs.Tables.{bookFault}
 use Rattle.demands.specs.Rules.{LowestGiven}
-use Rattle.demands.specs.Heights.{sweepsOf, unheldMark, stillMoves, wentOutside, outsideMark, countOf, heightsOf, sweepRules, adjustRules, adjustDone, AdjustmentKeepsToTable, marksHeights, heightRules, rateRules, ExactFloat, rateDone, RateKeepsToTable}
+use Rattle.demands.specs.Heights.{sweepsOf, unheldMark, stillMoves, wentOutside, outsideMark, countOf, heightsOf, sweepRules}
+use Rattle.demands.specs.Heights.{adjustRules, adjustDone, AdjustmentKeepsToTable, marksHeights, heightRules, rateRules, ExactFloat}
+use Rattle.demands.specs.Heights.{rateDone, RateKeepsToTable}
 use Rattle.demands.proofs.Rules.{byRules, cond-or, keeps-to-table, lowest-is-given}
 use Rattle.demands.proofs.BookRules.{None, none-in, none-and, first-of, rest-of, by-the-test, passes-if, passes-only-if}
 
@@ -69,7 +71,14 @@ line-answered heights lines line i = go (eqZ (standingAt lines i) (pos 0))
     x = record { refusal = noRefusal; line = line; correction = pos 0; rate = Withdrawn }
 
     y : RateAnswer
-    y = record { refusal = noRefusal; line = line; correction = correctionAt heights lines i; rate = PerKm (quotient (correctionAt heights lines i) (lengthAt lines i)) }
+    y =
+        record {
+          refusal = noRefusal;
+          line = line;
+          correction = correctionAt heights lines i;
+          rate = PerKm
+              (quotient (correctionAt heights lines i) (lengthAt lines i));
+        }
 
     go : (t : Bool) → cond t x y .refusal ≡ noRefusal
     go true = refl
@@ -81,11 +90,16 @@ module _ (book : Lent) where
   unfolding adjustOf adjustRules sweepsOf unheldMark byRules
   adjustment-keeps-to-table out =
       keeps-to-table (λ r. refl) refl refl
-      (by-the-test book (λ k. adjustGood k (book .held) (book .lines) out) (sweepRules book out) (λ r. adjusted (adjust.refusedWith r) out) (adjustDone (sweepsOf (natAbs (book .b)) (book .held) (book .lines)) out)
-      (go (ltb (length out) (natAbs (book .b))) (unheldMark (natAbs (book .b)) (book .held) (book .lines)) (sweepsOf (natAbs (book .b)) (book .held) (book .lines))))
+      (by-the-test book (λ k. adjustGood k (book .held) (book .lines) out) (sweepRules book out)
+      (λ r. adjusted (adjust.refusedWith r) out) (adjustDone (sweepsOf (natAbs (book .b)) (book .held) (book .lines)) out)
+      (go (ltb (length out) (natAbs (book .b))) (unheldMark (natAbs (book .b)) (book .held) (book .lines))
+      (sweepsOf (natAbs (book .b)) (book .held) (book .lines))))
     where
-      go : (x : Bool) (u : ℕ) (s : Settled) → cond x (adjusted (adjust.refusedWith (refusal 10 0)) out) (givenBy out (unlessUnheld u (λ _. ended s)))
-          ≡ cond x (adjusted (adjust.refusedWith (refusal 10 0)) out) (cond (ltb 0 u) (adjusted (adjust.refusedWith (refusal 11 u)) out) (cond (stillMoves s) (adjusted (adjust.refusedWith (refusal 12 0)) out)
+      go : (x : Bool) (u : ℕ) (s : Settled)
+          → cond x (adjusted (adjust.refusedWith (refusal 10 0)) out) (givenBy out (unlessUnheld u (λ _. ended s)))
+          ≡ cond x (adjusted (adjust.refusedWith (refusal 10 0)) out)
+          (cond (ltb 0 u) (adjusted (adjust.refusedWith (refusal 11 u)) out)
+          (cond (stillMoves s) (adjusted (adjust.refusedWith (refusal 12 0)) out)
           (cond (wentOutside s) (adjusted (adjust.refusedWith (refusal 13 (outsideMark s))) out) (adjustDone s out))))
       go true u s = refl
       go false zero (settled n hs) = refl
@@ -98,9 +112,11 @@ module _ (book : Lent) where
   unfolding rateAnswer rateRules rates.refusedWith goodRate byRules
   rate-keeps-to-table heights line =
       keeps-to-table (λ r. refl) (line-answered heights (book .lines) (natAbs line) (natAbs line - 1)) refl
-      (cond-not (eqZ (pos (length heights)) (book .b)) (ifGood (testOf book) rates.refusedWith (λ k. goodRate heights (book .lines) k line)) (rates.refusedWith (refusal 4 0))
+      (cond-not (eqZ (pos (length heights)) (book .b)) (ifGood (testOf book) rates.refusedWith
+      (λ k. goodRate heights (book .lines) k line)) (rates.refusedWith (refusal 4 0))
       ∙ ap (cond (not (eqZ (pos (length heights)) (book .b))) (rates.refusedWith (refusal 4 0)))
-      (by-the-test book (λ k. goodRate heights (book .lines) k line) (heightRules book heights line) rates.refusedWith (rateDone book heights line) refl)
+      (by-the-test book (λ k. goodRate heights (book .lines) k line) (heightRules book heights line) rates.refusedWith
+      (rateDone book heights line) refl)
       ∙ cond-or (not (eqZ (pos (length heights)) (book .b))) (bookFault book) (rates.refusedWith (refusal 4 0)) _)
 
   -- "Where several apply, the lowest number is given": the numbers of both tables rise
@@ -108,12 +124,14 @@ module _ (book : Lent) where
   unfolding adjustRules
   adjustment-gives-the-lowest out = lowest-is-given refl (adjustment-keeps-to-table out .table)
 
-  pub rate-gives-the-lowest : (heights : List ℤ) (line : ℤ) → LowestGiven (rateRules book heights line) (rateAnswer book heights line .refusal)
+  pub rate-gives-the-lowest : (heights : List ℤ) (line : ℤ)
+      → LowestGiven (rateRules book heights line) (rateAnswer book heights line .refusal)
   unfolding rateRules
   rate-gives-the-lowest heights line = lowest-is-given refl (rate-keeps-to-table heights line .table)
 
   -- a refused adjustment: no sweeps, and the heights as they were
-  pub refused-adjustment-changes-nothing : (out : List ℤ) → let g = adjustOf book out in (g .answer .refusal .number ≡ 0 → ⊥) → (g .answer .sweeps ≡ 0) × (g .heights ≡ out)
+  pub refused-adjustment-changes-nothing : (out : List ℤ) → let g = adjustOf book out in (g .answer .refusal .number ≡ 0 → ⊥)
+      → (g .answer .sweeps ≡ 0) × (g .heights ≡ out)
   refused-adjustment-changes-nothing out h = let e = adjustment-keeps-to-table out .refused h in
       (ap (λ (g : Given). g .answer .sweeps) e, ap (λ (g : Given). g .heights) e)
 
@@ -137,7 +155,8 @@ module _ (book : Lent) where
     unfolding rateRules
     passed =
         let h = none-applies in
-        passes-if book {more = heightRules book heights line} (none-and (or-right (not (eqZ (pos (length heights)) (book .b))) (bookFault book) (first-of h)) (rest-of h))
+        passes-if book {more = heightRules book heights line}
+        (none-and (or-right (not (eqZ (pos (length heights)) (book .b))) (bookFault book) (first-of h)) (rest-of h))
 
     there : Between 1 (lineCount (book .lines)) line
     unfolding rateRules
@@ -147,7 +166,9 @@ module _ (book : Lent) where
     unfolding rateRules
     inside =
         let h = none-applies in
-        let many = not-false (eqZ (pos (length heights)) (book .b)) (or-left (not (eqZ (pos (length heights)) (book .b))) (bookFault book) (first-of h)) in
+        let many =
+        not-false (eqZ (pos (length heights)) (book .b))
+        (or-left (not (eqZ (pos (length heights)) (book .b))) (bookFault book) (first-of h)) in
         working-lent heights (natAbs (book .b)) (marks-of book (countsOf book) passed (length heights) many)
         (no-mark (firstHigh heights) (first-of (rest-of (rest-of (rest-of (rest-of h))))))
 
@@ -159,14 +180,30 @@ module _ (book : Lent) where
         let x = height heights (natAbs (toAt (book .lines) at)) in
         let y = height heights (natAbs (fromAt (book .lines) at)) in (
           there-and-back (x -ℤ y -ℤ differenceAt (book .lines) at)
-              (omega (arith, size-sub (x -ℤ y) (differenceAt (book .lines) at), size-sub x y, inside .inside (natAbs (toAt (book .lines) at) - 1), inside .inside (natAbs (fromAt (book .lines) at) - 1), g .difference)),
+              (omega (
+                arith,
+                size-sub (x -ℤ y) (differenceAt (book .lines) at),
+                size-sub x y,
+                inside .inside
+                    (natAbs (toAt (book .lines) at) - 1),
+                inside .inside (natAbs (fromAt (book .lines) at) - 1),
+                g .difference,
+              )),
           there-and-back (lengthAt (book .lines) at) (omega (arith, g .long .high)),
         )
 
     -- of a standing line: "adjusted minus observed difference", and the one rounded quotient of two whole numbers
-    pub rate-is-one-quotient : standingAt (book .lines) at ≡ pos 1 → let c = height heights (natAbs (toAt (book .lines) at)) -ℤ height heights (natAbs (fromAt (book .lines) at)) -ℤ differenceAt (book .lines) at in
+    pub rate-is-one-quotient : standingAt (book .lines) at ≡ pos 1
+        → let c = height heights (natAbs (toAt (book .lines) at)) -ℤ height heights (natAbs (fromAt (book .lines) at)) -ℤ differenceAt
+        (book .lines) at in
         rateAnswer book heights line
-        ≡ record { refusal = noRefusal; line = natAbs line; correction = c; rate = PerKm (div binary64 (ofInt binary64 c) (ofInt binary64 (lengthAt (book .lines) at))) }
+        ≡ record {
+          refusal = noRefusal;
+          line = natAbs line;
+          correction = c;
+          rate = PerKm
+              (div binary64 (ofInt binary64 c) (ofInt binary64 (lengthAt (book .lines) at)));
+        }
     unfolding lineRate correctionAt correctionOf quotient eqZ
     rate-is-one-quotient stands = rate-keeps-to-table heights line .finished given ∙ rw stands
 
@@ -184,9 +221,12 @@ module _ (book : Lent) where
   have-settled (Settled.outside m) x y = absurd (true≢false y)
   have-settled unsettled x y = absurd (true≢false x)
 
-  -- an adjustment is done exactly if the book passes the test, there is room for its heights, each piece has a held mark, and the sweeps settle
+  -- an adjustment is done exactly if the book passes the test, there is room for its heights, each piece has a held mark, and the sweeps
+  -- settle
   pub adjustment-done-exactly-if : (out : List ℤ) → (adjustOf book out .answer .refusal .number ≡ 0)
-      ↔ ((k : Book) × (testOf book ≡ Good k) × (natAbs (book .b) ≤ length out) × (unheldMark (natAbs (book .b)) (book .held) (book .lines) ≡ 0) × (n : ℕ) × (hs : List ℤ) × (sweepsOf (natAbs (book .b)) (book .held) (book .lines) ≡ settled n hs))
+      ↔ ((k : Book) × (testOf book ≡ Good k) × (natAbs (book .b) ≤ length out)
+      × (unheldMark (natAbs (book .b)) (book .held) (book .lines) ≡ 0) × (n : ℕ) × (hs : List ℤ)
+      × (sweepsOf (natAbs (book .b)) (book .held) (book .lines) ≡ settled n hs))
   unfolding adjustRules
   adjustment-done-exactly-if out =
       let w = adjustment-keeps-to-table out .table .done-exactly-if in (
@@ -202,7 +242,8 @@ module _ (book : Lent) where
               _,
               have-settled (sweepsOf (natAbs (book .b)) (book .held) (book .lines)) (first-of ends) (first-of (rest-of ends)),
             ),
-        λ p. w .1 (passes-only-if book (p .0) (p .1) (none-and (le-ltb (length out) (natAbs (book .b)) (p .2)) (none-and (ap (ltb 0) (p .3)) (none-and (ap stillMoves (p .6)) (none-and (ap wentOutside (p .6)) none-in))))),
+        λ p. w .1 (passes-only-if book (p .0) (p .1) (none-and (le-ltb (length out) (natAbs (book .b)) (p .2))
+            (none-and (ap (ltb 0) (p .3)) (none-and (ap stillMoves (p .6)) (none-and (ap wentOutside (p .6)) none-in))))),
       )
 
   module _ (out : List ℤ) (is-done : adjustOf book out .answer .refusal .number ≡ 0) where
@@ -216,13 +257,17 @@ module _ (book : Lent) where
     good : Lines (book .lines) (natAbs (book .b)) (lineCount (book .lines))
     good = lines-of book (countsOf book) passes
 
-    sweeps-are : sweepsOf (natAbs (book .b)) (book .held) (book .lines) ≡ settled (countOf (sweepsOf (natAbs (book .b)) (book .held) (book .lines))) (heightsOf (sweepsOf (natAbs (book .b)) (book .held) (book .lines)))
+    sweeps-are : sweepsOf (natAbs (book .b)) (book .held) (book .lines)
+        ≡ settled (countOf (sweepsOf (natAbs (book .b)) (book .held) (book .lines)))
+        (heightsOf (sweepsOf (natAbs (book .b)) (book .held) (book .lines)))
     unfolding adjustRules
     sweeps-are =
         let ends = rest-of (rest-of (rest-of (rest-of (rest-of (adjustment-keeps-to-table out .table .done-exactly-if .0 is-done))))) in
         have-settled (sweepsOf (natAbs (book .b)) (book .held) (book .lines)) (first-of ends) (first-of (rest-of ends))
 
-    outcome : adjustment (natAbs (book .b)) (book .held) (book .lines) ≡ done (countOf (sweepsOf (natAbs (book .b)) (book .held) (book .lines))) (heightsOf (sweepsOf (natAbs (book .b)) (book .held) (book .lines)))
+    outcome : adjustment (natAbs (book .b)) (book .held) (book .lines)
+        ≡ done (countOf (sweepsOf (natAbs (book .b)) (book .held) (book .lines)))
+        (heightsOf (sweepsOf (natAbs (book .b)) (book .held) (book .lines)))
     unfolding adjustment sweepsOf unheldMark
     outcome = rw (adjustment-done-exactly-if out .0 is-done .3) (ap ended sweeps-are)
 
@@ -234,39 +279,56 @@ module _ (book : Lent) where
 
     heights-are : marksHeights book given ≡ heightsOf (sweepsOf (natAbs (book .b)) (book .held) (book .lines))
     heights-are = ap (λ (g : Given). take (natAbs (book .b)) (g .heights)) finished
-        ∙ take-at (heightsOf (sweepsOf (natAbs (book .b)) (book .held) (book .lines))) (drop (length (heightsOf (sweepsOf (natAbs (book .b)) (book .held) (book .lines)))) out) (natAbs (book .b)) long
+        ∙ take-at (heightsOf (sweepsOf (natAbs (book .b)) (book .held) (book .lines)))
+        (drop (length (heightsOf (sweepsOf (natAbs (book .b)) (book .held) (book .lines)))) out) (natAbs (book .b)) long
 
     -- "Adjusted heights are those of document 01's sweeps", and so is their number
-    pub heights-are-of-the-sweeps : sweepsOf (natAbs (book .b)) (book .held) (book .lines) ≡ settled (given .answer .sweeps) (marksHeights book given)
+    pub heights-are-of-the-sweeps : sweepsOf (natAbs (book .b)) (book .held) (book .lines)
+        ≡ settled (given .answer .sweeps) (marksHeights book given)
     heights-are-of-the-sweeps =
-        sweeps-are ∙ ap (λ (n : ℕ). settled n (heightsOf (sweepsOf (natAbs (book .b)) (book .held) (book .lines)))) (sym (ap (λ (g : Given). g .answer .sweeps) finished))
+        sweeps-are ∙ ap (λ (n : ℕ). settled n (heightsOf (sweepsOf (natAbs (book .b)) (book .held) (book .lines))))
+        (sym (ap (λ (g : Given). g .answer .sweeps) finished))
         ∙ ap (settled (given .answer .sweeps)) (sym heights-are)
 
     -- one height to each mark, and "Output places past the answer stay unchanged"
     pub places-past-the-heights-stay : drop (natAbs (book .b)) (given .heights) ≡ drop (natAbs (book .b)) out
     places-past-the-heights-stay =
         ap (λ (g : Given). drop (natAbs (book .b)) (g .heights)) finished
-        ∙ drop-at (heightsOf (sweepsOf (natAbs (book .b)) (book .held) (book .lines))) (drop (length (heightsOf (sweepsOf (natAbs (book .b)) (book .held) (book .lines)))) out) (natAbs (book .b)) long ∙ ap (λ (n : ℕ). drop n out) long
+        ∙ drop-at (heightsOf (sweepsOf (natAbs (book .b)) (book .held) (book .lines)))
+        (drop (length (heightsOf (sweepsOf (natAbs (book .b)) (book .held) (book .lines)))) out) (natAbs (book .b)) long
+        ∙ ap (λ (n : ℕ). drop n out) long
 
-    its-outcome : adjustment (natAbs (book .b)) (book .held) (book .lines) ≡ done (countOf (sweepsOf (natAbs (book .b)) (book .held) (book .lines))) (marksHeights book given)
+    its-outcome : adjustment (natAbs (book .b)) (book .held) (book .lines)
+        ≡ done (countOf (sweepsOf (natAbs (book .b)) (book .held) (book .lines))) (marksHeights book given)
     its-outcome = outcome ∙ ap (done (countOf (sweepsOf (natAbs (book .b)) (book .held) (book .lines)))) (sym heights-are)
 
     -- held marks keep their heights
-    pub held-marks-keep-their-heights : (m : ℕ) (z : ℤ) → 0 < m → m ≤ natAbs (book .b) → heldHeight (book .held) m ≡ some z → height (marksHeights book given) m ≡ z
-    held-marks-keep-their-heights = held-marks-keep (natAbs (book .b)) (lineCount (book .lines)) (book .held) (book .lines) good _ (marksHeights book given) its-outcome
+    pub held-marks-keep-their-heights : (m : ℕ) (z : ℤ) → 0 < m → m ≤ natAbs (book .b) → heldHeight (book .held) m ≡ some z
+        → height (marksHeights book given) m ≡ z
+    held-marks-keep-their-heights =
+        held-marks-keep (natAbs (book .b)) (lineCount (book .lines)) (book .held) (book .lines) good _ (marksHeights book given)
+        its-outcome
 
     -- "Then no free mark can be moved by one micrometre, either way, so that the weighted sum of squared residuals falls"
-    pub settled-is-best-at-every-mark : (m : ℕ) → 0 < m → m ≤ natAbs (book .b) → isHeld (book .held) m ≡ false → let hs = marksHeights book given in
-        (squares (standing (book .lines)) hs ≤ squares (standing (book .lines)) (moveMark hs m (pos 1))) × (squares (standing (book .lines)) hs ≤ squares (standing (book .lines)) (moveMark hs m (negsuc 0)))
-    settled-is-best-at-every-mark = best-at-every-mark (natAbs (book .b)) (lineCount (book .lines)) (book .held) (book .lines) good _ (marksHeights book given) its-outcome
+    pub settled-is-best-at-every-mark : (m : ℕ) → 0 < m → m ≤ natAbs (book .b) → isHeld (book .held) m ≡ false
+        → let hs = marksHeights book given in
+        (squares (standing (book .lines)) hs ≤ squares (standing (book .lines)) (moveMark hs m (pos 1)))
+        × (squares (standing (book .lines)) hs ≤ squares (standing (book .lines)) (moveMark hs m (negsuc 0)))
+    settled-is-best-at-every-mark =
+        best-at-every-mark (natAbs (book .b)) (lineCount (book .lines)) (book .held) (book .lines) good _ (marksHeights book given)
+        its-outcome
 
     -- "and the sum is no greater than at the start"
-    pub never-worse-than-the-start : squares (standing (book .lines)) (marksHeights book given) ≤ squares (standing (book .lines)) (startHeights (natAbs (book .b)) (book .held) (book .lines))
-    never-worse-than-the-start = never-worse (natAbs (book .b)) (lineCount (book .lines)) (book .held) (book .lines) good _ (marksHeights book given) its-outcome
+    pub never-worse-than-the-start : squares (standing (book .lines)) (marksHeights book given) ≤ squares (standing (book .lines))
+        (startHeights (natAbs (book .b)) (book .held) (book .lines))
+    never-worse-than-the-start =
+        never-worse (natAbs (book .b)) (lineCount (book .lines)) (book .held) (book .lines) good _ (marksHeights book given) its-outcome
 
   -- no sweep raises it, from whatever heights it begins
   pub no-sweep-raises-the-sum : (k : Book) → testOf book ≡ Good k → (hs : List ℤ) → length hs ≡ k .marks
-      → Kept (λ gs. (length gs ≡ k .marks) × (squares (standing (book .lines)) gs ≤ squares (standing (book .lines)) hs)) (sweep (sightsOf (standing (book .lines))) (isHeld (book .held)) hs (k .marks))
+      → Kept (λ gs. (length gs ≡ k .marks) × (squares (standing (book .lines)) gs ≤ squares (standing (book .lines)) hs))
+      (sweep (sightsOf (standing (book .lines))) (isHeld (book .held)) hs (k .marks))
   no-sweep-raises-the-sum k e hs l =
       let g = lines-of book k e in
-      sweep-not-worse (k .marks) (standing (book .lines)) (fairs-sound (fair-lines (book .lines) (k .marks) (k .lines) g)) (isHeld (book .held)) hs l
+      sweep-not-worse (k .marks) (standing (book .lines)) (fairs-sound (fair-lines (book .lines) (k .marks) (k .lines) g))
+      (isHeld (book .held)) hs l

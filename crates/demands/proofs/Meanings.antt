@@ -34,7 +34,8 @@ passes-exactly-if-good k book = (tested-good book k, good-passes k book)
 pub held-exactly-if-good : (b : ℕ) (held : List ℤ) (i : ℕ) → (heldBad (pos b) held i ≡ false) ↔ GoodHeld b held i
 held-exactly-if-good b held i = (good-held b held i, held-passes b held i)
 
--- 7: a line has no fault exactly if its ends are two marks of the book, its difference and length are inside their limits, and its standing is 0 or 1
+-- 7: a line has no fault exactly if its ends are two marks of the book, its difference and length are inside their limits, and its
+-- standing is 0 or 1
 pub line-exactly-if-good : (b : ℕ) (lines : List ℤ) (i : ℕ) → (lineBad (pos b) lines i ≡ false) ↔ GoodLine b lines i
 line-exactly-if-good b lines i = (good-line b lines i, line-passes b lines i)
 
@@ -56,7 +57,9 @@ unfolding noLine
 line-exactly-if-stands lines number = (λ e. (natAbs number - 1, stands-of lines number e), λ w. back (w .0) (w .1))
   where
     back : (i : ℕ) → Stands lines number i → noLine lines number ≡ false
-    back i w = rw (w .its-number, inside 1 (lineCount lines) (suc i) (omega arith) (omega (arith, w .there))) (apart-eqZ (standingAt lines (suc i - 1)) (pos 0) (λ z. w .not-withdrawn (ap (standingAt lines) (omega arith) ∙ z)))
+    back i w =
+        rw (w .its-number, inside 1 (lineCount lines) (suc i) (omega arith) (omega (arith, w .there)))
+        (apart-eqZ (standingAt lines (suc i - 1)) (pos 0) (λ z. w .not-withdrawn (ap (standingAt lines) (omega arith) ∙ z)))
 
 same-if : (xs ys : List ℤ) → sameNumbers xs ys ≡ true → xs ≡ ys
 unfolding sameNumbers
@@ -82,7 +85,8 @@ report-exactly-if-rows report rows = (to, back)
     to : otherReport report rows ≡ false → report ≡ rows ++ drop (length rows) report
     to e =
         sym (take-append-drop (length rows) report)
-        ∙ ap (λ (xs : List ℤ). xs ++ drop (length rows) report) (same-if (take (length rows) report) rows (not-false (sameNumbers (take (length rows) report) rows) e))
+        ∙ ap (λ (xs : List ℤ). xs ++ drop (length rows) report)
+        (same-if (take (length rows) report) rows (not-false (sameNumbers (take (length rows) report) rows) e))
 
     back : report ≡ rows ++ drop (length rows) report → otherReport report rows ≡ false
     back e =

@@ -1,5 +1,5 @@
--- Demand 1, the inputs that it names: "a line from a mark to itself, a report that is not this book's"; and a faulty book at every call. (A damaged file: the
--- reader's table, Refusals.antt.) Assumes nothing.
+-- Demand 1, the inputs that it names: "a line from a mark to itself, a report that is not this book's"; and a faulty book at every call.
+-- (A damaged file: the reader's table, Refusals.antt.) Assumes nothing.
 use mathlib.Core.Path.{_≡_, refl, sym, _∙_}
 use mathlib.Core.Bool.{Bool, true, false, cond, _||_, true≢false}
 use mathlib.Core.List.{List, _++_}
@@ -57,7 +57,8 @@ faulty-book-same-at-every-call book r e = record {
 
 module _ (book : Lent) (no-four : bookFault book ≡ false) (no-six : firstBadHeld (book .b) (book .held) ≡ 0) where
   -- where 4 and 6 do not apply, a faulty line is refused with 7, at it or at a faulty line before it
-  pub faulty-line-is-refused : (i : ℕ) → i < lineCount (book .lines) → lineBad (book .b) (book .lines) i ≡ true → (j : ℕ) × (j ≤ i) × (testOf book ≡ refused 7 (suc j))
+  pub faulty-line-is-refused : (i : ℕ) → i < lineCount (book .lines) → lineBad (book .b) (book .lines) i ≡ true
+      → (j : ℕ) × (j ≤ i) × (testOf book ≡ refused 7 (suc j))
   unfolding firstBadLine byRules
   faulty-line-is-refused i there bad = go (firstBadLine (book .b) (book .lines)) refl
     where
@@ -70,12 +71,18 @@ module _ (book : Lent) (no-four : bookFault book ≡ false) (no-six : firstBadHe
           before (no h) = absurd (true≢false (sym bad ∙ line-place-is-first (book .b) (book .lines) j e .2 i (omega arith)))
 
   -- a line from a mark to itself is refused so
-  pub line-to-itself-is-refused : (i : ℕ) → i < lineCount (book .lines) → fromAt (book .lines) i ≡ toAt (book .lines) i → (j : ℕ) × (j ≤ i) × (testOf book ≡ refused 7 (suc j))
+  pub line-to-itself-is-refused : (i : ℕ) → i < lineCount (book .lines) → fromAt (book .lines) i ≡ toAt (book .lines) i
+      → (j : ℕ) × (j ≤ i) × (testOf book ≡ refused 7 (suc j))
   unfolding lineBad lineFault
-  line-to-itself-is-refused i there same = faulty-line-is-refused i there (rw same (go (outZ (pos 1) (book .b) (toAt (book .lines) i) || outZ (pos 1) (book .b) (toAt (book .lines) i))))
+  line-to-itself-is-refused i there same =
+      faulty-line-is-refused i there (rw same (go (outZ (pos 1) (book .b) (toAt (book .lines) i) || outZ (pos 1) (book .b)
+      (toAt (book .lines) i))))
     where
       rest : ℕ
-      rest = cond (differenceOut (differenceAt (book .lines) i)) 3 (cond (outZ (pos leastLength) (pos mostLength) (lengthAt (book .lines) i)) 4 (cond (outZ (pos 0) (pos 1) (standingAt (book .lines) i)) 5 0))
+      rest =
+          cond (differenceOut (differenceAt (book .lines) i)) 3
+          (cond (outZ (pos leastLength) (pos mostLength) (lengthAt (book .lines) i)) 4
+          (cond (outZ (pos 0) (pos 1) (standingAt (book .lines) i)) 5 0))
 
       go : (x : Bool) → ltb 0 (cond x 1 (cond (eqZ (toAt (book .lines) i) (toAt (book .lines) i)) 2 rest)) ≡ true
       go true = refl
@@ -83,8 +90,10 @@ module _ (book : Lent) (no-four : bookFault book ≡ false) (no-six : firstBadHe
 
 -- ---- a report that is not this book's
 
-module _ (book : Lent) (report : List ℤ) (k : Book) (passes : testOf book ≡ Good k) (number : ℤ) (i : ℕ) (stands : Stands (book .lines) number i)
-    (other : report ≡ reportOf (k .marks) (k .tolerance) (book .lines) ++ drop (length (reportOf (k .marks) (k .tolerance) (book .lines))) report → ⊥) where
+module _ (book : Lent) (report : List ℤ) (k : Book) (passes : testOf book ≡ Good k) (number : ℤ) (i : ℕ)
+    (stands : Stands (book .lines) number i)
+    (other : report ≡ reportOf (k .marks) (k .tolerance) (book .lines) ++ drop
+    (length (reportOf (k .marks) (k .tolerance) (book .lines))) report → ⊥) where
   differs : otherReport report (reportOf (k .marks) (k .tolerance) (book .lines)) ≡ true
   differs = go (otherReport report (reportOf (k .marks) (k .tolerance) (book .lines))) refl
     where
@@ -98,6 +107,8 @@ module _ (book : Lent) (report : List ℤ) (k : Book) (passes : testOf book ≡ 
   other-report-is-refused = rw (passes, line-exactly-if-stands (book .lines) number .1 (i, stands), differs)
 
   -- and so is a re-run
-  pub other-report-is-refused-in-rerun : (difference : ℤ) → natAbs difference ≤ mostDifference → rerunOf book report number difference ≡ corrected (survey.refusedWith (refusal 9 0)) (book .lines) report
+  pub other-report-is-refused-in-rerun : (difference : ℤ) → natAbs difference ≤ mostDifference
+      → rerunOf book report number difference ≡ corrected (survey.refusedWith (refusal 9 0)) (book .lines) report
   unfolding rerunOf correctOf correctGood differenceOut
-  other-report-is-refused-in-rerun difference small = rw (size-inside mostDifference difference small, passes, line-exactly-if-stands (book .lines) number .1 (i, stands), differs)
+  other-report-is-refused-in-rerun difference small =
+      rw (size-inside mostDifference difference small, passes, line-exactly-if-stands (book .lines) number .1 (i, stands), differs)

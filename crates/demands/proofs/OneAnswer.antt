@@ -1,4 +1,5 @@
--- "any two answers allowed are equal": each contract is an equation with a definition, or a text put by a definition, so that two answers that it allows are one.
+-- "any two answers allowed are equal": each contract is an equation with a definition, or a text put by a definition, so that two answers
+-- that it allows are one.
 -- Assumes nothing.
 use mathlib.Core.Path.{_≡_, sym, _∙_}
 use mathlib.Core.List.{List}
@@ -40,7 +41,8 @@ one-answer given x y e f = e ∙ sym f
 -- ---- the calls
 
 -- the reader: b, t, h and n, and both buffers
-pub reader-has-one-answer : (file : List ℕ) (held lines : List ℤ) (x y : Outcome) → x ≡ readOf file held lines → y ≡ readOf file held lines → x ≡ y
+pub reader-has-one-answer : (file : List ℕ) (held lines : List ℤ) (x y : Outcome) → x ≡ readOf file held lines
+    → y ≡ readOf file held lines → x ≡ y
 reader-has-one-answer file held lines = one-answer (readOf file held lines)
 
 -- the survey: answer and rows
@@ -130,7 +132,8 @@ pub report-has-one-text : (file out a b : List ℕ) (r s : ℕ) → Put out a 0 
 report-has-one-text file out a b r s p q = put-unique p q
 
 -- a row for printing
-pub row-has-one-answer : (line : ℕ) (correction : ℤ) (rate : Rate) (x y : RateRow) → x ≡ rowOf line correction rate → y ≡ rowOf line correction rate → x ≡ y
+pub row-has-one-answer : (line : ℕ) (correction : ℤ) (rate : Rate) (x y : RateRow) → x ≡ rowOf line correction rate
+    → y ≡ rowOf line correction rate → x ≡ y
 row-has-one-answer line correction rate = one-answer (rowOf line correction rate)
 
 -- ---- the test of a lent book, and the constructors

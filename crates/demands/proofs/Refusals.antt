@@ -1,4 +1,5 @@
--- Demand 1, "No input breaks it": every call gives the refusal that document 01's table and order name, and no other, and a refused call changes nothing.
+-- Demand 1, "No input breaks it": every call gives the refusal that document 01's table and order name, and no other, and a refused call
+-- changes nothing.
 -- Assumes nothing.
 use mathlib.Core.Path.{_≡_, refl, _∙_, ap, ap₂}
 use mathlib.Core.Bool.{Bool, true, false, not, cond, _||_}
@@ -16,7 +17,8 @@ use Rattle.book.specs.Test.{torn, bookOut, refusal}
 use Rattle.book.specs.declared.Book.{Book}
 use Rattle.book.specs.declared.Refusal.{Refusal}
 use Rattle.file.specs.Read as read
-use Rattle.file.specs.Read.{Outcome, answered, statedLength, statedVersion, statedT, statedB, statedH, statedN, statedCounts, fileLength, headOf, heldOf, linesOf, bookIn, roomOf, bodyOf, afterHead, readOf}
+use Rattle.file.specs.Read.{Outcome, answered, statedLength, statedVersion, statedT, statedB, statedH, statedN, statedCounts, fileLength}
+use Rattle.file.specs.Read.{headOf, heldOf, linesOf, bookIn, roomOf, bodyOf, afterHead, readOf}
 use Rattle.file.specs.declared.entry.Kind.the-variants as kind
 use Rattle.file.specs.declared.Head.the-variants as head
 use Rattle.file.proofs.Entries.{entries-length}
@@ -30,8 +32,12 @@ use Rattle.lists.specs.Listing.{Listing, listing, listOf, listingGood, listingO
 use Rattle.lists.specs.NotChecked.{uncheckedOf, notCheckedOf}
 use Rattle.survey.specs.Correction.{Corrected, corrected, correctGood, rerunLines, withdrawLines, rerunOf, withdrawOf}
 use Rattle.demands.specs.Rules.{LowestGiven}
-use Rattle.demands.specs.Calls.{afresh, surveyDone, listDone, correctionDone, readDone, SurveyKeepsToTable, ListingKeepsToTable, ListingsKeepsToTable, NotCheckedKeepsToTable, RerunKeepsToTable, WithdrawalKeepsToTable, ReaderKeepsToTable}
-use Rattle.demands.specs.Tables.{bookFault, heldRule, lineRule, roomRule, roomsRule, surveyRules, loopListing, loopRules, correctionRules, listingRules, listingsRules, notCheckedRules, rerunRules, withdrawRules, fileRules}
+use Rattle.demands.specs.Calls.{afresh, surveyDone, listDone, correctionDone, readDone, SurveyKeepsToTable, ListingKeepsToTable}
+use Rattle.demands.specs.Calls.{ListingsKeepsToTable, NotCheckedKeepsToTable, RerunKeepsToTable, WithdrawalKeepsToTable}
+use Rattle.demands.specs.Calls.{ReaderKeepsToTable}
+use Rattle.demands.specs.Tables.{bookFault, heldRule, lineRule, roomRule, roomsRule, surveyRules, loopListing, loopRules}
+use Rattle.demands.specs.Tables.{correctionRules, listingRules, listingsRules, notCheckedRules, rerunRules, withdrawRules}
+use Rattle.demands.specs.Tables.{fileRules}
 use Rattle.demands.proofs.Rules.{byRules, cond-or, keeps-to-table, lowest-is-given}
 use Rattle.demands.proofs.BookRules.{by-the-test}
 
@@ -41,7 +47,8 @@ module _ (book : Lent) where
   unfolding surveyOf surveyRules byRules counted
   survey-keeps-to-table out =
       keeps-to-table (λ r. refl) refl refl
-      (by-the-test book (λ k. surveyGood k (book .lines) out) (roomRule out (afresh book) ∷ []) (λ r. surveyed (survey.refusedWith r) out) (surveyDone book out) refl)
+      (by-the-test book (λ k. surveyGood k (book .lines) out) (roomRule out (afresh book) ∷ [])
+      (λ r. surveyed (survey.refusedWith r) out) (surveyDone book out) refl)
 
   -- the listing of a loop keeps to its table: 4, 6, 7, 8, 10
   pub listing-keeps-to-table : (number : ℤ) (out : List ℤ) → ListingKeepsToTable book number out (listingOf book number out)
@@ -56,7 +63,8 @@ module _ (book : Lent) where
   unfolding listingsOf listingsRules byRules
   listings-keeps-to-table out =
       keeps-to-table (λ r. refl) refl refl
-      (by-the-test book (λ k. listingsGood k (book .lines) out) (roomRule out (listings (loopsOf (natAbs (book .b)) (book .lines))) ∷ []) (λ r. listing (lists.refusedWith r) out)
+      (by-the-test book (λ k. listingsGood k (book .lines) out) (roomRule out (listings (loopsOf (natAbs (book .b)) (book .lines))) ∷ [])
+      (λ r. listing (lists.refusedWith r) out)
       (listDone (listings (loopsOf (natAbs (book .b)) (book .lines))) out) refl)
 
   -- the not-checked list keeps to its table: 4, 6, 7, 10
@@ -64,7 +72,8 @@ module _ (book : Lent) where
   unfolding notCheckedOf notCheckedRules byRules
   not-checked-keeps-to-table out =
       keeps-to-table (λ r. refl) refl refl
-      (by-the-test book (λ k. listOf (uncheckedOf (k .marks) (book .lines)) out) (roomRule out (uncheckedOf (natAbs (book .b)) (book .lines)) ∷ []) (λ r. listing (lists.refusedWith r) out)
+      (by-the-test book (λ k. listOf (uncheckedOf (k .marks) (book .lines)) out)
+      (roomRule out (uncheckedOf (natAbs (book .b)) (book .lines)) ∷ []) (λ r. listing (lists.refusedWith r) out)
       (listDone (uncheckedOf (natAbs (book .b)) (book .lines)) out) refl)
 
   -- withdrawal keeps to its table: 4, 6, 7, 8, 9
@@ -72,7 +81,8 @@ module _ (book : Lent) where
   unfolding withdrawOf withdrawRules byRules counted
   withdrawal-keeps-to-table report number =
       keeps-to-table (λ r. refl) refl refl
-      (by-the-test book (λ k. correctGood k (book .lines) report number (withdrawLines (book .lines) number)) (correctionRules book report number)
+      (by-the-test book (λ k. correctGood k (book .lines) report number (withdrawLines (book .lines) number))
+      (correctionRules book report number)
       (λ r. corrected (survey.refusedWith r) (book .lines) report) (correctionDone book report (withdrawLines (book .lines) number)) refl)
 
   -- re-run keeps to its table: 4, 6, 7, 8, 9
@@ -82,8 +92,10 @@ module _ (book : Lent) where
   rerun-keeps-to-table report number difference =
       keeps-to-table (λ r. refl) refl refl
       (ap (cond (differenceOut difference) (corrected (survey.refusedWith (refusal 4 0)) (book .lines) report))
-      (by-the-test book (λ k. correctGood k (book .lines) report number (rerunLines (book .lines) number difference)) (correctionRules book report number)
-      (λ r. corrected (survey.refusedWith r) (book .lines) report) (correctionDone book report (rerunLines (book .lines) number difference)) refl)
+      (by-the-test book (λ k. correctGood k (book .lines) report number (rerunLines (book .lines) number difference))
+      (correctionRules book report number)
+      (λ r. corrected (survey.refusedWith r) (book .lines) report)
+      (correctionDone book report (rerunLines (book .lines) number difference)) refl)
       ∙ cond-or (differenceOut difference) (bookFault book) (corrected (survey.refusedWith (refusal 4 0)) (book .lines) report) _)
 
   -- ---- "Where several apply, the lowest number is given": the numbers of each table rise
@@ -92,7 +104,8 @@ module _ (book : Lent) where
   unfolding surveyRules
   survey-gives-the-lowest out = lowest-is-given refl (survey-keeps-to-table out .table)
 
-  pub listing-gives-the-lowest : (number : ℤ) (out : List ℤ) → LowestGiven (listingRules book number out) (listingOf book number out .answer .refusal)
+  pub listing-gives-the-lowest : (number : ℤ) (out : List ℤ)
+      → LowestGiven (listingRules book number out) (listingOf book number out .answer .refusal)
   unfolding listingRules
   listing-gives-the-lowest number out = lowest-is-given refl (listing-keeps-to-table number out .table)
 
@@ -104,11 +117,13 @@ module _ (book : Lent) where
   unfolding notCheckedRules
   not-checked-gives-the-lowest out = lowest-is-given refl (not-checked-keeps-to-table out .table)
 
-  pub withdrawal-gives-the-lowest : (report : List ℤ) (number : ℤ) → LowestGiven (withdrawRules book report number) (withdrawOf book report number .answer .refusal)
+  pub withdrawal-gives-the-lowest : (report : List ℤ) (number : ℤ)
+      → LowestGiven (withdrawRules book report number) (withdrawOf book report number .answer .refusal)
   unfolding withdrawRules
   withdrawal-gives-the-lowest report number = lowest-is-given refl (withdrawal-keeps-to-table report number .table)
 
-  pub rerun-gives-the-lowest : (report : List ℤ) (number difference : ℤ) → LowestGiven (rerunRules book report number difference) (rerunOf book report number difference .answer .refusal)
+  pub rerun-gives-the-lowest : (report : List ℤ) (number difference : ℤ)
+      → LowestGiven (rerunRules book report number difference) (rerunOf book report number difference .answer .refusal)
   unfolding rerunRules
   rerun-gives-the-lowest report number difference = lowest-is-given refl (rerun-keeps-to-table report number difference .table)
 
@@ -121,7 +136,8 @@ module _ (book : Lent) where
       (ap (λ (s : Surveyed). s .answer .rows) e, ap (λ (s : Surveyed). s .answer .pieces) e, ap (λ (s : Surveyed). s .rows) e)
 
   -- a refused listing: no entries, and the output as it was
-  pub refused-listing-changes-nothing : (number : ℤ) (out : List ℤ) → let l = listingOf book number out in (l .answer .refusal .number ≡ 0 → ⊥)
+  pub refused-listing-changes-nothing : (number : ℤ) (out : List ℤ)
+      → let l = listingOf book number out in (l .answer .refusal .number ≡ 0 → ⊥)
       → (l .answer .entries ≡ 0) × (l .out ≡ out)
   refused-listing-changes-nothing number out h = let e = listing-keeps-to-table number out .refused h in
       (ap (λ (l : Listing). l .answer .entries) e, ap (λ (l : Listing). l .out) e)
@@ -139,16 +155,26 @@ module _ (book : Lent) where
       (ap (λ (l : Listing). l .answer .entries) e, ap (λ (l : Listing). l .out) e)
 
   -- a refused withdrawal: no rows, no pieces, and lines and report as they were
-  pub refused-withdrawal-changes-nothing : (report : List ℤ) (number : ℤ) → let c = withdrawOf book report number in (c .answer .refusal .number ≡ 0 → ⊥)
+  pub refused-withdrawal-changes-nothing : (report : List ℤ) (number : ℤ)
+      → let c = withdrawOf book report number in (c .answer .refusal .number ≡ 0 → ⊥)
       → (c .answer .rows ≡ 0) × (c .answer .pieces ≡ 0) × (c .lines ≡ (book .lines)) × (c .report ≡ report)
-  refused-withdrawal-changes-nothing report number h = let e = withdrawal-keeps-to-table report number .refused h in
-      (ap (λ (c : Corrected). c .answer .rows) e, ap (λ (c : Corrected). c .answer .pieces) e, ap (λ (c : Corrected). c .lines) e, ap (λ (c : Corrected). c .report) e)
+  refused-withdrawal-changes-nothing report number h = let e = withdrawal-keeps-to-table report number .refused h in (
+    ap (λ (c : Corrected). c .answer .rows) e,
+    ap (λ (c : Corrected). c .answer .pieces) e,
+    ap (λ (c : Corrected). c .lines) e,
+    ap (λ (c : Corrected). c .report) e,
+  )
 
   -- a refused re-run: no rows, no pieces, and lines and report as they were
-  pub refused-rerun-changes-nothing : (report : List ℤ) (number difference : ℤ) → let c = rerunOf book report number difference in (c .answer .refusal .number ≡ 0 → ⊥)
+  pub refused-rerun-changes-nothing : (report : List ℤ) (number difference : ℤ)
+      → let c = rerunOf book report number difference in (c .answer .refusal .number ≡ 0 → ⊥)
       → (c .answer .rows ≡ 0) × (c .answer .pieces ≡ 0) × (c .lines ≡ (book .lines)) × (c .report ≡ report)
-  refused-rerun-changes-nothing report number difference h = let e = rerun-keeps-to-table report number difference .refused h in
-      (ap (λ (c : Corrected). c .answer .rows) e, ap (λ (c : Corrected). c .answer .pieces) e, ap (λ (c : Corrected). c .lines) e, ap (λ (c : Corrected). c .report) e)
+  refused-rerun-changes-nothing report number difference h = let e = rerun-keeps-to-table report number difference .refused h in (
+    ap (λ (c : Corrected). c .answer .rows) e,
+    ap (λ (c : Corrected). c .answer .pieces) e,
+    ap (λ (c : Corrected). c .lines) e,
+    ap (λ (c : Corrected). c .report) e,
+  )
 
 -- ---- the file
 
@@ -160,7 +186,13 @@ module _ (file : List ℕ) (held lines : List ℤ) where
   no-other-fault e =
       let h = entries-length kind.Held file 13 (statedH file) in
       let n = entries-length kind.Line file (13 + statedH file * 10) (statedN file) in
-      rw (h, n, eq-eqb (statedH file * heldWords % heldWords) 0 (omega arith), eq-eqb (statedN file * lineWords % lineWords) 0 (omega arith)) (ap₂ (bookOut (pos (statedB file)) (pos (statedT file))) (omega arith) (omega arith) ∙ e)
+      rw (
+        h,
+        n,
+        eq-eqb (statedH file * heldWords % heldWords) 0 (omega arith),
+        eq-eqb (statedN file * lineWords % lineWords) 0
+            (omega arith),
+      ) (ap₂ (bookOut (pos (statedB file)) (pos (statedT file))) (omega arith) (omega arith) ∙ e)
 
   refuse : Refusal → Outcome
   refuse r = answered held lines (read.refusedWith r)
@@ -178,7 +210,8 @@ module _ (file : List ℕ) (held lines : List ℤ) where
   -- 6 and 7, then 10
   body : bookOut (pos (statedB file)) (pos (statedT file)) (statedH file) (statedN file) ≡ false
       → bodyOf file (statedCounts file) held lines
-      ≡ byRules (heldRule (bookIn file (statedCounts file)) ∷ lineRule (bookIn file (statedCounts file)) ∷ roomsRule file held lines ∷ []) refuse (readDone file held lines)
+      ≡ byRules (heldRule (bookIn file (statedCounts file)) ∷ lineRule (bookIn file (statedCounts file)) ∷ roomsRule file held lines
+      ∷ []) refuse (readDone file held lines)
   unfolding bodyOf byRules refuse
   body e =
       by-the-test (bookIn file (statedCounts file))
@@ -192,17 +225,22 @@ module _ (file : List ℕ) (held lines : List ℤ) where
   reader-keeps-to-table =
       keeps-to-table (λ r. refl) refl refl
       (go (ltb (length file) 13) (not (eqb (statedLength file) (length file))) (not (eqb (statedVersion file) 1))
-      (bookOut (pos (statedB file)) (pos (statedT file)) (statedH file) (statedN file)) refl (not (eqb (length file) (fileLength (statedH file) (statedN file)))))
+      (bookOut (pos (statedB file)) (pos (statedT file)) (statedH file) (statedN file)) refl
+      (not (eqb (length file) (fileLength (statedH file) (statedN file)))))
     where
       k : Book
       k = statedCounts file
 
       rest : Outcome
-      rest = byRules (heldRule (bookIn file (statedCounts file)) ∷ lineRule (bookIn file (statedCounts file)) ∷ roomsRule file held lines ∷ []) refuse (readDone file held lines)
+      rest =
+          byRules (heldRule (bookIn file (statedCounts file)) ∷ lineRule (bookIn file (statedCounts file)) ∷ roomsRule file held lines
+          ∷ []) refuse (readDone file held lines)
 
       go : (x y z f : Bool) → bookOut (pos (statedB file)) (pos (statedT file)) (statedH file) (statedN file) ≡ f → (w : Bool)
-          → afterHead file held lines (cond x (head.Refused 1) (cond y (head.Refused 2) (cond z (head.Refused 3) (cond f (head.Refused 4) (cond w (head.Refused 5) (head.States k))))))
-          ≡ cond x (refuse (refusal 1 0)) (cond y (refuse (refusal 2 0)) (cond z (refuse (refusal 3 0)) (cond f (refuse (refusal 4 0)) (cond w (refuse (refusal 5 0)) rest))))
+          → afterHead file held lines (cond x (head.Refused 1)
+          (cond y (head.Refused 2) (cond z (head.Refused 3) (cond f (head.Refused 4) (cond w (head.Refused 5) (head.States k))))))
+          ≡ cond x (refuse (refusal 1 0)) (cond y (refuse (refusal 2 0))
+          (cond z (refuse (refusal 3 0)) (cond f (refuse (refusal 4 0)) (cond w (refuse (refusal 5 0)) rest))))
       go true y z f e w = refl
       go false true z f e w = refl
       go false false true f e w = refl
@@ -217,5 +255,11 @@ module _ (file : List ℕ) (held lines : List ℤ) where
   -- a refused file: b, t, h and n are 0, and both buffers are as they were
   pub refused-reader-changes-nothing : let o = readOf file held lines in (o .answer .refusal .number ≡ 0 → ⊥)
       → (o .answer .b ≡ 0) × (o .answer .t ≡ 0) × (o .answer .h ≡ 0) × (o .answer .n ≡ 0) × (o .held ≡ held) × (o .lines ≡ lines)
-  refused-reader-changes-nothing h = let e = reader-keeps-to-table .refused h in
-      (ap (λ (o : Outcome). o .answer .b) e, ap (λ (o : Outcome). o .answer .t) e, ap (λ (o : Outcome). o .answer .h) e, ap (λ (o : Outcome). o .answer .n) e, ap (λ (o : Outcome). o .held) e, ap (λ (o : Outcome). o .lines) e)
+  refused-reader-changes-nothing h = let e = reader-keeps-to-table .refused h in (
+    ap (λ (o : Outcome). o .answer .b) e,
+    ap (λ (o : Outcome). o .answer .t) e,
+    ap (λ (o : Outcome). o .answer .h) e,
+    ap (λ (o : Outcome). o .answer .n) e,
+    ap (λ (o : Outcome). o .held) e,
+    ap (λ (o : Outcome). o .lines) e,
+  )

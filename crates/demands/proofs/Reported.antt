@@ -35,7 +35,8 @@ use Rattle.loops.proofs.Sounding.{lines-sound}
 use Rattle.demands.specs.Calls.{listDone}
 use Rattle.demands.specs.Tables.{loopListing, listingRules}
 use Rattle.demands.specs.TheLoops.{inRow, countsBefore, Within, Over, RowOf, LoopIs, ListedIn}
-use Rattle.demands.proofs.Refusals.{survey-keeps-to-table, listing-keeps-to-table, listings-keeps-to-table, not-checked-keeps-to-table}
+use Rattle.demands.proofs.Refusals.{survey-keeps-to-table, listing-keeps-to-table, listings-keeps-to-table}
+use Rattle.demands.proofs.Refusals.{not-checked-keeps-to-table}
 use Rattle.demands.proofs.TheLoops as the
 
 -- ---- a row
@@ -49,7 +50,8 @@ over-exactly-if t lp = (λ e. go e (decLe _ _), over-else t lp)
     go e (no h) = omega arith
 
 -- numbers that are a loop's row in its place
-row-of : (t : ℕ) (report : List ℤ) (i : ℕ) (lp : Loop) → ((j : ℕ) → j < rowWords → inRow j report i ≡ getD (row t lp) j (pos 0)) → RowOf t report i lp
+row-of : (t : ℕ) (report : List ℤ) (i : ℕ) (lp : Loop) → ((j : ℕ) → j < rowWords → inRow j report i ≡ getD (row t lp) j (pos 0))
+    → RowOf t report i lp
 unfolding row
 row-of t report i lp h = record {
   closing-line = h 0 (omega arith);
@@ -61,11 +63,13 @@ row-of t report i lp h = record {
 }
 
 -- row i of a report is the row of loop i
-pub report-row : (b t : ℕ) (lines rest : List ℤ) (i : ℕ) → i < length (loopsOf b lines) → RowOf t (reportOf b t lines ++ rest) i (loopAt (loopsOf b lines) i)
+pub report-row : (b t : ℕ) (lines rest : List ℤ) (i : ℕ) → i < length (loopsOf b lines)
+    → RowOf t (reportOf b t lines ++ rest) i (loopAt (loopsOf b lines) i)
 unfolding reportOf
 report-row b t lines rest i h =
     row-of t (reportOf b t lines ++ rest) i (loopAt (loopsOf b lines) i) (λ j l.
-    List·getD-append (reportOf b t lines) rest (pos 0) (5 * i + j) (omega (arith, rows-length t (loopsOf b lines))) ∙ row-at t (loopsOf b lines) i h j l)
+    List·getD-append (reportOf b t lines) rest (pos 0) (5 * i + j) (omega (arith, rows-length t (loopsOf b lines)))
+    ∙ row-at t (loopsOf b lines) i h j l)
 
 -- a list that is done
 in-first-places : (list out : List ℤ) → ListedIn list out (listDone list out)
@@ -86,16 +90,20 @@ module _ (book : Lent) (k : Book) (passes : testOf book ≡ Good k) where
 
   module _ (out : List ℤ) (done : surveyOf book out .answer .refusal .number ≡ 0) where
     -- the rows and pieces answered are those of the book
-    pub survey-counts : (surveyOf book out .answer .rows ≡ length (loopsOf (k .marks) (book .lines))) × (surveyOf book out .answer .pieces ≡ piecesOf (k .marks) (book .lines))
+    pub survey-counts : (surveyOf book out .answer .rows ≡ length (loopsOf (k .marks) (book .lines)))
+        × (surveyOf book out .answer .pieces ≡ piecesOf (k .marks) (book .lines))
     unfolding counted
     survey-counts = rw (survey-keeps-to-table book out .finished done, marks-are) (refl, refl)
 
     -- "lines minus marks plus pieces in all"
-    pub rows-are-lines-less-marks-plus-pieces : surveyOf book out .answer .rows + k .marks ≡ length (standing (book .lines)) + surveyOf book out .answer .pieces
-    rows-are-lines-less-marks-plus-pieces = omega (arith, survey-counts .0, survey-counts .1, the.loops-are-lines-less-marks-plus-pieces book k passes)
+    pub rows-are-lines-less-marks-plus-pieces : surveyOf book out .answer .rows + k .marks
+        ≡ length (standing (book .lines)) + surveyOf book out .answer .pieces
+    rows-are-lines-less-marks-plus-pieces =
+        omega (arith, survey-counts .0, survey-counts .1, the.loops-are-lines-less-marks-plus-pieces book k passes)
 
     -- the report stands in the first places of the output, and all places past it are as they were
-    pub report-in-first-places : surveyOf book out .rows ≡ reportOf (k .marks) (k .tolerance) (book .lines) ++ drop (length (reportOf (k .marks) (k .tolerance) (book .lines))) out
+    pub report-in-first-places : surveyOf book out .rows ≡ reportOf (k .marks) (k .tolerance) (book .lines) ++ drop
+        (length (reportOf (k .marks) (k .tolerance) (book .lines))) out
     report-in-first-places = rw (survey-keeps-to-table book out .finished done, marks-are, tolerance-is)
 
     -- row i is the row of loop i: closing line, count, the sum of the lengths, the signed sum of the differences, and the exact verdict
@@ -116,18 +124,22 @@ module _ (book : Lent) (k : Book) (passes : testOf book ≡ Good k) where
 
   -- the listing of loop i, numbered i + 1, is its lines in the order in which they are run, each with its sense
   pub listing-is-the-loop : (i : ℕ) (out : List ℤ) → listingOf book (pos (suc i)) out .answer .refusal .number ≡ 0
-      → (i < length (loopsOf (k .marks) (book .lines))) × ListedIn (map listed (loopAt (loopsOf (k .marks) (book .lines)) i)) out (listingOf book (pos (suc i)) out)
+      → (i < length (loopsOf (k .marks) (book .lines))) × ListedIn (map listed (loopAt (loopsOf (k .marks) (book .lines)) i)) out
+      (listingOf book (pos (suc i)) out)
   unfolding listingRules loopListing
   listing-is-the-loop i out done =
       let w = listing-keeps-to-table book (pos (suc i)) out in
-      let there = between 1 (length (loopsOf (natAbs (book .b)) (book .lines))) (pos (suc i)) (w .table .done-exactly-if .0 done _ (List·Memᴰ·tail (List·Memᴰ·tail (List·Memᴰ·tail (List·Memᴰ·head refl))))) in
+      let there =
+      between 1 (length (loopsOf (natAbs (book .b)) (book .lines))) (pos (suc i))
+      (w .table .done-exactly-if .0 done _ (List·Memᴰ·tail (List·Memᴰ·tail (List·Memᴰ·tail (List·Memᴰ·head refl))))) in
       let at : suc i - 1 ≡ i = omega arith in (
         rw (← marks-are) (omega (arith, there .high)),
         rw (w .finished done, ← marks-are, at) (in-first-places (map listed (loopAt (loopsOf (natAbs (book .b)) (book .lines)) i)) out),
       )
 
   -- and begins with its closing line, positive
-  pub listing-begins-with-closing-line : (i : ℕ) (h : i < length (loopsOf (k .marks) (book .lines))) → let loop = the.each-loop-is-so book k passes i h in
+  pub listing-begins-with-closing-line : (i : ℕ) (h : i < length (loopsOf (k .marks) (book .lines)))
+      → let loop = the.each-loop-is-so book k passes i h in
       map listed (loopAt (loopsOf (k .marks) (book .lines)) i) ≡ pos (loop .closing-line .number) ∷ map listed (loop .path)
   listing-begins-with-closing-line i h = ap (map listed) (the.each-loop-is-so book k passes i h .closing-line-first)
 
@@ -136,7 +148,8 @@ module _ (book : Lent) (k : Book) (passes : testOf book ≡ Good k) where
   pub listings-in-first-places : (out : List ℤ) → listingsOf book out .answer .refusal .number ≡ 0
       → ListedIn (listings (loopsOf (k .marks) (book .lines))) out (listingsOf book out)
   listings-in-first-places out done =
-      rw (listings-keeps-to-table book out .finished done, ← marks-are) (in-first-places (listings (loopsOf (natAbs (book .b)) (book .lines))) out)
+      rw (listings-keeps-to-table book out .finished done, ← marks-are)
+      (in-first-places (listings (loopsOf (natAbs (book .b)) (book .lines))) out)
 
   -- "at most 65,792 entries in all": with so many places the lines of all loops are never refused with 10
   pub listings-are-few : length (listings (loopsOf (k .marks) (book .lines))) ≤ mostLinesInAll
@@ -146,11 +159,13 @@ module _ (book : Lent) (k : Book) (passes : testOf book ≡ Good k) where
       omega (
         arith,
         listings-length (loops (k .marks) (standing (book .lines))),
-        lines-in-all-at-most (k .marks) (standing (book .lines)) (lines-sound k (book .lines) good) (omega (arith, few-standing (book .lines), good .whole, good .few)),
+        lines-in-all-at-most (k .marks) (standing (book .lines)) (lines-sound k (book .lines) good)
+            (omega (arith, few-standing (book .lines), good .good .whole, good .good .few)),
       )
 
   -- "each loop's count is the second number of its row": the lines of loop i stand after as many places as the rows before it count
-  module _ (rows out : List ℤ) (surveyed : surveyOf book rows .answer .refusal .number ≡ 0) (done : listingsOf book out .answer .refusal .number ≡ 0) where
+  module _ (rows out : List ℤ) (surveyed : surveyOf book rows .answer .refusal .number ≡ 0)
+      (done : listingsOf book out .answer .refusal .number ≡ 0) where
     abbrev ls : List Loop
     ls = loopsOf (k .marks) (book .lines)
 
@@ -166,7 +181,8 @@ module _ (book : Lent) (k : Book) (passes : testOf book ≡ Good k) where
     counts-are (suc i) h = omega (arith, counts-are i (omega arith), count-is i (omega arith), lines-more ls i (omega arith))
 
     pub listings-go-by-rows : (i : ℕ) → i < surveyOf book rows .answer .rows
-        → take (natAbs (inRow rowCount report i)) (drop (countsBefore report i) (listingsOf book out .out)) ≡ map listed (loopAt (loopsOf (k .marks) (book .lines)) i)
+        → take (natAbs (inRow rowCount report i)) (drop (countsBefore report i) (listingsOf book out .out))
+        ≡ map listed (loopAt (loopsOf (k .marks) (book .lines)) i)
     listings-go-by-rows i h =
         let l : i < length (loopsOf (k .marks) (book .lines)) = omega (arith, survey-counts rows surveyed .0) in
         rw (count-is i l, counts-are i (omega arith), listings-keeps-to-table book out .finished done, marks-are)
@@ -179,7 +195,8 @@ module _ (book : Lent) (k : Book) (passes : testOf book ≡ Good k) where
       → ListedIn (map pos (notChecked (loopsOf (k .marks) (book .lines)) (standing (book .lines)))) out (notCheckedOf book out)
   unfolding uncheckedOf
   not-checked-in-first-places out done =
-      rw (not-checked-keeps-to-table book out .finished done, ← marks-are) (in-first-places (map pos (notChecked (loopsOf (natAbs (book .b)) (book .lines)) (standing (book .lines)))) out)
+      rw (not-checked-keeps-to-table book out .finished done, ← marks-are)
+      (in-first-places (map pos (notChecked (loopsOf (natAbs (book .b)) (book .lines)) (standing (book .lines)))) out)
 
   -- a number is in them exactly if it is that of a standing line through which no circuit passes
   pub listed-exactly-if-no-circuit : (out : List ℤ) → notCheckedOf book out .answer .refusal .number ≡ 0 → (n : ℕ)
@@ -189,6 +206,8 @@ module _ (book : Lent) (k : Book) (passes : testOf book ≡ Good k) where
       let w = not-checked-in-first-places out done in
       let means = the.not-checked-exactly-if-no-circuit book k passes n in
       rw (w .entries, w .first-places) (
-        λ i. let m = Memᴰ·of-map pos (notChecked (loopsOf (k .marks) (book .lines)) (standing (book .lines))) i in means .0 (subst (λ (x : ℕ). List·Memᴰ x (notChecked (loopsOf (k .marks) (book .lines)) (standing (book .lines)))) (ap natAbs (m .2)) (m .1)),
+        λ i. let m = Memᴰ·of-map pos (notChecked (loopsOf (k .marks) (book .lines)) (standing (book .lines))) i in means .0
+            (subst (λ (x : ℕ). List·Memᴰ x (notChecked (loopsOf (k .marks) (book .lines)) (standing (book .lines)))) (ap natAbs (m .2))
+            (m .1)),
         λ p. Memᴰ·map pos (means .1 p),
       )

@@ -73,7 +73,8 @@ module _ {A : Type 0} (refuse : Refusal → A) (done : A) where
   by-none [] n = refl
   by-none (q ∷ rs) n = rw (first-of n) (by-none rs (rest-of n))
 
-  by-split : (before after : List Rule) (r : Rule) → None before → r .applies ≡ true → byRules (before ++ r ∷ after) refuse done ≡ refuse (r .gives)
+  by-split : (before after : List Rule) (r : Rule) → None before → r .applies ≡ true
+      → byRules (before ++ r ∷ after) refuse done ≡ refuse (r .gives)
   unfolding byRules
   by-split [] after r n e = rw e
   by-split (q ∷ before) after r n e = rw (first-of n) (by-split before after r (rest-of n) e)
@@ -105,7 +106,8 @@ has-number (q ∷ rs) h r i = go (ltb 0 (q .gives .number)) refl h i (λ m. has-
 pub keeps-to-table : {A : Type 0} {refusalOf : A → Refusal} {rules : List Rule} {refuse : Refusal → A} {done given : A}
     → ((r : Refusal) → refusalOf (refuse r) ≡ r) → refusalOf done ≡ noRefusal → named rules ≡ true → given ≡ byRules rules refuse done
     → KeepsToTable refusalOf rules refuse done given
-keeps-to-table {refusalOf = refusalOf} {rules = rules} {refuse = refuse} {done = done} {given = given} of-refused of-done h e = go (first-or-none rules)
+keeps-to-table {refusalOf = refusalOf} {rules = rules} {refuse = refuse} {done = done} {given = given} of-refused of-done h e =
+    go (first-or-none rules)
   where
     go : None rules ⊎ ((r : Rule) × First rules r) → KeepsToTable refusalOf rules refuse done given
     go (inl n) =
@@ -139,7 +141,8 @@ keeps-to-table {refusalOf = refusalOf} {rules = rules} {refuse = refuse} {done =
 -- the table settles the answer: two answers that keep to it are equal
 pub table-settles-answer : {A : Type 0} {refusalOf : A → Refusal} {rules : List Rule} {refuse : Refusal → A} {done a c : A}
     → KeepsToTable refusalOf rules refuse done a → KeepsToTable refusalOf rules refuse done c → a ≡ c
-table-settles-answer {refusalOf = refusalOf} {rules = rules} {refuse = refuse} {a = a} {c = c} x y = go (ℕ-discrete (refusalOf a .number) 0) (x .table .no-other)
+table-settles-answer {refusalOf = refusalOf} {rules = rules} {refuse = refuse} {a = a} {c = c} x y =
+    go (ℕ-discrete (refusalOf a .number) 0) (x .table .no-other)
   where
     go : Dec (refusalOf a .number ≡ 0) → (refusalOf a ≡ noRefusal) ⊎ ((r : Rule) × First rules r × (refusalOf a ≡ r .gives)) → a ≡ c
     go (yes z) w = x .finished z ∙ sym (y .finished (y .table .done-exactly-if .1 (x .table .done-exactly-if .0 z)))
@@ -171,10 +174,13 @@ above (numbered h n) r (List·Memᴰ·tail i) = omega (arith, h, above n r i)
 above all-numbered r i = absurd (List·Memᴰ·not-nil i)
 
 -- each number stands once
-once-each : {low : ℕ} {rs : List Rule} → Numbered low rs → (q r : Rule) → List·Memᴰ q rs → List·Memᴰ r rs → q .gives .number ≡ r .gives .number → q ≡ r
+once-each : {low : ℕ} {rs : List Rule} → Numbered low rs → (q r : Rule) → List·Memᴰ q rs → List·Memᴰ r rs
+    → q .gives .number ≡ r .gives .number → q ≡ r
 once-each (numbered h n) q r (List·Memᴰ·head e) (List·Memᴰ·head f) z = e ∙ sym f
-once-each (numbered h n) q r (List·Memᴰ·head e) (List·Memᴰ·tail j) z = absurd (omega (arith, above n r j, z, ap (λ (x : Rule). x .gives .number) e))
-once-each (numbered h n) q r (List·Memᴰ·tail i) (List·Memᴰ·head f) z = absurd (omega (arith, above n q i, z, ap (λ (x : Rule). x .gives .number) f))
+once-each (numbered h n) q r (List·Memᴰ·head e) (List·Memᴰ·tail j) z =
+    absurd (omega (arith, above n r j, z, ap (λ (x : Rule). x .gives .number) e))
+once-each (numbered h n) q r (List·Memᴰ·tail i) (List·Memᴰ·head f) z =
+    absurd (omega (arith, above n q i, z, ap (λ (x : Rule). x .gives .number) f))
 once-each (numbered h n) q r (List·Memᴰ·tail i) (List·Memᴰ·tail j) z = once-each n q r i j z
 once-each all-numbered q r i j z = absurd (List·Memᴰ·not-nil i)
 
@@ -228,7 +234,8 @@ lowest-is-given {rules = rules} {given = given} h t = go (t .no-other)
         }
       where
         -- two rules that are the lowest have one number
-        same : (s : Rule) → List·Memᴰ s rules → Lowest rules s → (r : Rule) → List·Memᴰ r rules → Lowest rules r → Dec (r .gives .number < s .gives .number)
+        same : (s : Rule) → List·Memᴰ s rules → Lowest rules s → (r : Rule) → List·Memᴰ r rules → Lowest rules r
+            → Dec (r .gives .number < s .gives .number)
             → Dec (s .gives .number < r .gives .number) → s .gives .number ≡ r .gives .number
         same s i w r j v (yes l) b = absurd (true≢false (sym (v .applies) ∙ w .none-lower r j l))
         same s i w r j v (no a) (yes l) = absurd (true≢false (sym (w .applies) ∙ v .none-lower s i l))

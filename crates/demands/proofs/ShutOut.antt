@@ -37,7 +37,8 @@ use Rattle.demands.proofs.Corrections.{rerun-sets-one-number}
 use Rattle.demands.proofs.Reported.{each-row-is-of-its-loop, listed-exactly-if-no-circuit}
 
 -- "a survey that always refuses": a book inside every limit, with room for its report, is answered
-pub good-book-is-surveyed : (k : Book) (book : Lent) (out : List ℤ) → GoodBook k book → length (reportOf (natAbs (book .b)) (natAbs (book .t)) (book .lines)) ≤ length out
+pub good-book-is-surveyed : (k : Book) (book : Lent) (out : List ℤ) → GoodBook k book
+    → length (reportOf (natAbs (book .b)) (natAbs (book .t)) (book .lines)) ≤ length out
     → surveyOf book out .answer .refusal .number ≡ 0
 good-book-is-surveyed k book out good room = survey-done-exactly-if book out .1 (k, good-passes k book good, room)
 
@@ -61,26 +62,31 @@ unfolding surveyOf outZ outN eqZ firstFrom firstBad anyBelow
 two-lines-surveyed = refl
 
 -- "one fixed report": no one count of rows fits every book
-pub no-one-report-fits : (n : ℕ) → ((book : Lent) (out : List ℤ) → surveyOf book out .answer .refusal .number ≡ 0 → surveyOf book out .answer .rows ≡ n) → ⊥
+pub no-one-report-fits : (n : ℕ)
+    → ((book : Lent) (out : List ℤ) → surveyOf book out .answer .refusal .number ≡ 0 → surveyOf book out .answer .rows ≡ n) → ⊥
 no-one-report-fits n h =
     let none : 0 ≡ n = rw no-line-surveyed at (h (lent (pos 1) (pos 1) [] noLines) [] (rw no-line-surveyed)) in
     let one : 1 ≡ n = rw two-lines-surveyed at (h (lent (pos 2) (pos 1) [] twoLines) (replicate 5 (pos 0)) (rw two-lines-surveyed)) in
     omega arith
 
 -- "a re-run that does nothing": an accepted re-run to another difference changes the book
-pub rerun-does-something : (book : Lent) (report : List ℤ) (number difference : ℤ) → rerunOf book report number difference .answer .refusal .number ≡ 0
+pub rerun-does-something : (book : Lent) (report : List ℤ) (number difference : ℤ)
+    → rerunOf book report number difference .answer .refusal .number ≡ 0
     → (difference ≡ differenceAt (book .lines) (natAbs number - 1) → ⊥) → rerunOf book report number difference .lines ≡ book .lines → ⊥
 rerun-does-something book report number difference z other same =
-    other (sym (rerun-sets-one-number book report number difference z .changed) ∙ ap (λ (x : List ℤ). getD x (placeOf number differenceField) (pos 0)) same)
+    other (sym (rerun-sets-one-number book report number difference z .changed)
+    ∙ ap (λ (x : List ℤ). getD x (placeOf number differenceField) (pos 0)) same)
 
 -- and moves the report: of two lines between two marks line 2 is re-run from 7 to 8
 pub rerun-moves-the-report : rerunOf (lent (pos 2) (pos 1) [] twoLines) (pos 2 ∷ pos 2 ∷ pos 20 ∷ pos 7 ∷ pos 0 ∷ []) (pos 2) (pos 8)
-    ≡ corrected (record { refusal = noRefusal; rows = 1; pieces = 1 }) (line (pos 1) (pos 2) (pos 0) ++ line (pos 1) (pos 2) (pos 8)) (pos 2 ∷ pos 2 ∷ pos 20 ∷ pos 8 ∷ pos 0 ∷ [])
+    ≡ corrected (record { refusal = noRefusal; rows = 1; pieces = 1 }) (line (pos 1) (pos 2) (pos 0) ++ line (pos 1) (pos 2) (pos 8))
+    (pos 2 ∷ pos 2 ∷ pos 20 ∷ pos 8 ∷ pos 0 ∷ [])
 unfolding rerunOf outZ outN eqZ firstFrom firstBad anyBelow
 rerun-moves-the-report = refl
 
 -- "row 1 and .. the rest with zeros": no row that is answered begins with 0
-pub no-row-of-zeros : (book : Lent) (k : Book) (passes : testOf book ≡ Good k) (out : List ℤ) → surveyOf book out .answer .refusal .number ≡ 0
+pub no-row-of-zeros : (book : Lent) (k : Book) (passes : testOf book ≡ Good k) (out : List ℤ)
+    → surveyOf book out .answer .refusal .number ≡ 0
     → (i : ℕ) → i < surveyOf book out .answer .rows → inRow rowClosing (surveyOf book out .rows) i ≡ pos 0 → ⊥
 unfolding standing
 no-row-of-zeros book k passes out done i h e =
@@ -91,7 +97,8 @@ no-row-of-zeros book k passes out done i h e =
 
 -- "an empty not-checked list": where a standing line is on no circuit, the list is not empty
 pub not-checked-list-is-not-empty : (book : Lent) (k : Book) → testOf book ≡ Good k → (out : List ℤ)
-    → notCheckedOf book out .answer .refusal .number ≡ 0 → (l : Line) → List·Memᴰ l (standing (book .lines)) → (Circuit (standing (book .lines)) (l .number) → ⊥)
+    → notCheckedOf book out .answer .refusal .number ≡ 0 → (l : Line) → List·Memᴰ l (standing (book .lines))
+    → (Circuit (standing (book .lines)) (l .number) → ⊥)
     → notCheckedOf book out .answer .entries ≡ 0 → ⊥
 not-checked-list-is-not-empty book k passes out done l stands none empty =
     let i = listed-exactly-if-no-circuit book k passes out done (l .number) .1 (l, stands, refl, none) in
@@ -103,8 +110,10 @@ pub one-line-is-not-checked : notCheckedOf (lent (pos 2) (pos 1) [] (line (pos 1
 unfolding notCheckedOf outZ outN eqZ firstFrom firstBad anyBelow
 one-line-is-not-checked = refl
 
--- two lines between a held mark and a free one say 0 and 7: the mark starts at 0, one sweep moves it to 3, half of 7 toward zero, and the second moves nothing
-two-lines-adjusted : adjustOf (lent (pos 2) (pos 1) (pos 1 ∷ pos 0 ∷ []) twoLines) (replicate 3 (pos 9)) ≡ adjusted (settledAt 2) (pos 0 ∷ pos 3 ∷ pos 9 ∷ [])
+-- two lines between a held mark and a free one say 0 and 7: the mark starts at 0, one sweep moves it to 3, half of 7 toward zero, and the
+-- second moves nothing
+two-lines-adjusted : adjustOf (lent (pos 2) (pos 1) (pos 1 ∷ pos 0 ∷ []) twoLines) (replicate 3 (pos 9))
+    ≡ adjusted (settledAt 2) (pos 0 ∷ pos 3 ∷ pos 9 ∷ [])
 unfolding adjustOf outZ outN eqZ firstFrom firstBad anyBelow workHeightOut tree standing rootedBy heldHeight isHeld sightsOf
 two-lines-adjusted = refl
 
@@ -121,13 +130,18 @@ one-mark-adjusted = refl
 pub adjustment-is-not-its-start : ((book : Lent) (out : List ℤ) → adjustOf book out .answer .refusal .number ≡ 0
     → marksHeights book (adjustOf book out) ≡ startHeights (natAbs (book .b)) (book .held) (book .lines)) → ⊥
 adjustment-is-not-its-start h =
-    let e : pos 0 ∷ pos 3 ∷ [] ≡ pos 0 ∷ pos 0 ∷ [] = rw (two-lines-adjusted, two-lines-start) at (h (lent (pos 2) (pos 1) (pos 1 ∷ pos 0 ∷ []) twoLines) (replicate 3 (pos 9)) (rw two-lines-adjusted)) in
+    let e : pos 0 ∷ pos 3 ∷ [] ≡ pos 0 ∷ pos 0 ∷ [] =
+    rw (two-lines-adjusted, two-lines-start) at (h (lent (pos 2) (pos 1) (pos 1 ∷ pos 0 ∷ []) twoLines) (replicate 3 (pos 9))
+    (rw two-lines-adjusted)) in
     let z : _≡_ {A = ℕ} 3 0 = ap (λ (l : List ℤ). natAbs (getD l 1 (pos 0))) e in
     omega arith
 
 -- "or a sweep number made up": no one number of sweeps fits every book
-pub no-one-number-of-sweeps : (n : ℕ) → ((book : Lent) (out : List ℤ) → adjustOf book out .answer .refusal .number ≡ 0 → adjustOf book out .answer .sweeps ≡ n) → ⊥
+pub no-one-number-of-sweeps : (n : ℕ)
+    → ((book : Lent) (out : List ℤ) → adjustOf book out .answer .refusal .number ≡ 0 → adjustOf book out .answer .sweeps ≡ n) → ⊥
 no-one-number-of-sweeps n h =
-    let one : 1 ≡ n = rw one-mark-adjusted at (h (lent (pos 1) (pos 1) (pos 1 ∷ pos 5 ∷ []) noLines) (replicate 1 (pos 9)) (rw one-mark-adjusted)) in
-    let two : 2 ≡ n = rw two-lines-adjusted at (h (lent (pos 2) (pos 1) (pos 1 ∷ pos 0 ∷ []) twoLines) (replicate 3 (pos 9)) (rw two-lines-adjusted)) in
+    let one : 1 ≡ n =
+    rw one-mark-adjusted at (h (lent (pos 1) (pos 1) (pos 1 ∷ pos 5 ∷ []) noLines) (replicate 1 (pos 9)) (rw one-mark-adjusted)) in
+    let two : 2 ≡ n =
+    rw two-lines-adjusted at (h (lent (pos 2) (pos 1) (pos 1 ∷ pos 0 ∷ []) twoLines) (replicate 3 (pos 9)) (rw two-lines-adjusted)) in
     omega arith

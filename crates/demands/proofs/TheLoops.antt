@@ -64,7 +64,8 @@ module _ (book : Lent) (k : Book) (passes : testOf book ≡ Good k) where
   tree-grows-by-rule = tree-grows (k .marks) (standing (book .lines)) sound
 
   -- and no other tree of as many marks grows so
-  pub no-other-tree : {es : Tree} → Growth (k .marks) (standing (book .lines)) es → length es ≡ k .marks → es ≡ treeOf (k .marks) (book .lines)
+  pub no-other-tree : {es : Tree} → Growth (k .marks) (standing (book .lines)) es → length es ≡ k .marks
+      → es ≡ treeOf (k .marks) (book .lines)
   no-other-tree g n = only-tree (k .marks) (standing (book .lines)) sound g n
 
   -- each mark enters exactly once
@@ -72,13 +73,15 @@ module _ (book : Lent) (k : Book) (passes : testOf book ≡ Good k) where
   each-mark-once = each-mark-enters-once (k .marks) (standing (book .lines)) sound
 
   -- "the distance falls at each step", by the tree line's length, at least 10
-  pub distance-falls : (e : Entry) → List·Memᴰ e (treeOf (k .marks) (book .lines)) → (l : Line) → e .by ≡ some l → LeadsNearer (treeOf (k .marks) (book .lines)) e l × (leastLength ≤ l .length)
+  pub distance-falls : (e : Entry) → List·Memᴰ e (treeOf (k .marks) (book .lines)) → (l : Line) → e .by ≡ some l
+      → LeadsNearer (treeOf (k .marks) (book .lines)) e l × (leastLength ≤ l .length)
   distance-falls = tree-line-leads-nearer (k .marks) (standing (book .lines)) sound
 
   -- ---- pieces and closing lines
 
   -- a mark is a root exactly if it is the lowest of its piece
-  pub roots-are-lowest : (m : ℕ) → 0 < m → m ≤ k .marks → (rootAt (treeOf (k .marks) (book .lines)) m ≡ true) ↔ LowestOfPiece (standing (book .lines)) m
+  pub roots-are-lowest : (m : ℕ) → 0 < m → m ≤ k .marks
+      → (rootAt (treeOf (k .marks) (book .lines)) m ≡ true) ↔ LowestOfPiece (standing (book .lines)) m
   roots-are-lowest = root-exactly-if-lowest (k .marks) (standing (book .lines)) sound
 
   -- so the pieces answered are as many as the marks that are the lowest of their piece
@@ -97,27 +100,32 @@ module _ (book : Lent) (k : Book) (passes : testOf book ≡ Good k) where
   never-both = closings.never-tree-line-and-closing-line (k .marks) (standing (book .lines)) sound
 
   -- the closing lines are in document 01's order, "several at one new mark go by score, then number"
-  pub closing-lines-in-order : ClosingOrder (standing (book .lines)) (treeOf (k .marks) (book .lines)) (closingLinesOf (k .marks) (book .lines))
+  pub closing-lines-in-order : ClosingOrder (standing (book .lines)) (treeOf (k .marks) (book .lines))
+      (closingLinesOf (k .marks) (book .lines))
   closing-lines-in-order = closings.closing-lines-in-order (k .marks) (standing (book .lines)) sound
 
   -- and no other list of lines is in that order
-  pub no-other-order : {cs : List Line} → ClosingOrder (standing (book .lines)) (treeOf (k .marks) (book .lines)) cs → cs ≡ closingLinesOf (k .marks) (book .lines)
+  pub no-other-order : {cs : List Line} → ClosingOrder (standing (book .lines)) (treeOf (k .marks) (book .lines)) cs
+      → cs ≡ closingLinesOf (k .marks) (book .lines)
   no-other-order = closings.only-closing-order (k .marks) (standing (book .lines)) sound
 
   -- ---- the loops
 
   -- "lines minus marks plus pieces in all"
-  pub loops-are-lines-less-marks-plus-pieces : length (loopsOf (k .marks) (book .lines)) + k .marks ≡ length (standing (book .lines)) + piecesOf (k .marks) (book .lines)
+  pub loops-are-lines-less-marks-plus-pieces : length (loopsOf (k .marks) (book .lines)) + k .marks
+      ≡ length (standing (book .lines)) + piecesOf (k .marks) (book .lines)
   unfolding loopsOf piecesOf
   loops-are-lines-less-marks-plus-pieces = loops-are-counted (k .marks) (standing (book .lines)) sound
 
   -- "one loop for each line beyond a tree": to each closing line its loop, in their order
-  pub one-loop-to-each-closing-line : OneToOne (IsLoopOf (standing (book .lines))) (closingLinesOf (k .marks) (book .lines)) (loopsOf (k .marks) (book .lines))
+  pub one-loop-to-each-closing-line : OneToOne (IsLoopOf (standing (book .lines))) (closingLinesOf (k .marks) (book .lines))
+      (loopsOf (k .marks) (book .lines))
   unfolding loopsOf
   one-loop-to-each-closing-line = each-loop-is (k .marks) (standing (book .lines)) sound
 
   -- the loops as one list: each runs its closing line, then the shortest path over the tree and all closing lines before it
-  pub loops-by-rule : LoopsOf (standing (book .lines)) (numbers (treeLinesOf (k .marks) (book .lines))) (closingLinesOf (k .marks) (book .lines)) (loopsOf (k .marks) (book .lines))
+  pub loops-by-rule : LoopsOf (standing (book .lines)) (numbers (treeLinesOf (k .marks) (book .lines)))
+      (closingLinesOf (k .marks) (book .lines)) (loopsOf (k .marks) (book .lines))
   unfolding loopsOf
   loops-by-rule = all.loops-are (k .marks) (standing (book .lines)) sound
 
@@ -132,12 +140,15 @@ module _ (book : Lent) (k : Book) (passes : testOf book ≡ Good k) where
   unfolding loopsOf
   not-added-changes-no-loop = all.not-added-never-matters (k .marks) (standing (book .lines)) sound
 
-  -- "A loop runs its closing line .. then back by the shortest path", ties by line numbers: what the loop at each place is, and that it is the only one
+  -- "A loop runs its closing line .. then back by the shortest path", ties by line numbers: what the loop at each place is, and that it
+  -- is the only one
   pub each-loop-is-so : (i : ℕ) → i < length (loopsOf (k .marks) (book .lines)) → LoopIs (k .marks) (book .lines) i
   unfolding subgraph loopsOf
   each-loop-is-so i h =
       let w = loop-at loops-by-rule (treeLinesOf (k .marks) (book .lines)) (λ n. refl) i h in
-      let whole = loop-has-closing-line (k .marks) (standing (book .lines)) sound (loopAt (loopsOf (k .marks) (book .lines)) i) (loop-at-is (loopsOf (k .marks) (book .lines)) i h) .2 in
+      let whole =
+      loop-has-closing-line (k .marks) (standing (book .lines)) sound (loopAt (loopsOf (k .marks) (book .lines)) i)
+      (loop-at-is (loopsOf (k .marks) (book .lines)) i h) .2 in
       record {
         closing-line = w .line;
         path = w .path;
@@ -156,7 +167,8 @@ module _ (book : Lent) (k : Book) (passes : testOf book ≡ Good k) where
   -- ---- circuits
 
   -- a standing line is run in some loop exactly if a closed circuit that uses each line at most once passes through it
-  pub checked-exactly-if-circuit : (l : Line) → List·Memᴰ l (standing (book .lines)) → (checked (l .number) (loopsOf (k .marks) (book .lines)) ≡ true) ↔ Circuit (standing (book .lines)) (l .number)
+  pub checked-exactly-if-circuit : (l : Line) → List·Memᴰ l (standing (book .lines))
+      → (checked (l .number) (loopsOf (k .marks) (book .lines)) ≡ true) ↔ Circuit (standing (book .lines)) (l .number)
   unfolding loopsOf
   checked-exactly-if-circuit = checks.checked-iff-circuit (k .marks) (standing (book .lines)) sound
 
@@ -175,18 +187,21 @@ module _ (book : Lent) (k : Book) (passes : testOf book ≡ Good k) where
 
   -- every closed walk is a sum of whole multiples of the loops, and only one such
   pub closed-walk-is-sum-of-loops : (r : ℕ) {w : List Pass} → Walk (standing (book .lines)) r r w
-      → (ks : List ℤ) × SumOf (standing (book .lines)) (loopsOf (k .marks) (book .lines)) w ks × ((js : List ℤ) → SumOf (standing (book .lines)) (loopsOf (k .marks) (book .lines)) w js → js ≡ ks)
+      → (ks : List ℤ) × SumOf (standing (book .lines)) (loopsOf (k .marks) (book .lines)) w ks
+      × ((js : List ℤ) → SumOf (standing (book .lines)) (loopsOf (k .marks) (book .lines)) w js → js ≡ ks)
   unfolding loopsOf
   closed-walk-is-sum-of-loops r x = basis (k .marks) (standing (book .lines)) sound r x
 
   -- and its misclosure is the same sum of theirs
-  pub misclosure-is-sum-of-loops : (r : ℕ) {w : List Pass} → Walk (standing (book .lines)) r r w → (ks : List ℤ) → SumOf (standing (book .lines)) (loopsOf (k .marks) (book .lines)) w ks
+  pub misclosure-is-sum-of-loops : (r : ℕ) {w : List Pass} → Walk (standing (book .lines)) r r w → (ks : List ℤ)
+      → SumOf (standing (book .lines)) (loopsOf (k .marks) (book .lines)) w ks
       → misclosure w ≡ combineMisclosures ks (loopsOf (k .marks) (book .lines))
   unfolding loopsOf
   misclosure-is-sum-of-loops r x ks s = misclosure-is-sum (k .marks) (standing (book .lines)) sound r x ks s
 
   -- so where every loop closes, every closed walk does
-  pub all-loops-close-then-all-walks : ((lp : Loop) → List·Memᴰ lp (loopsOf (k .marks) (book .lines)) → misclosure lp ≡ pos 0) → (r : ℕ) {w : List Pass}
+  pub all-loops-close-then-all-walks : ((lp : Loop) → List·Memᴰ lp (loopsOf (k .marks) (book .lines)) → misclosure lp ≡ pos 0)
+      → (r : ℕ) {w : List Pass}
       → Walk (standing (book .lines)) r r w → misclosure w ≡ pos 0
   unfolding loopsOf
   all-loops-close-then-all-walks h r x = all-close (k .marks) (standing (book .lines)) sound h r x

@@ -1,4 +1,5 @@
--- What each call owes: a refusal by its table, all counts 0 and every lent buffer as it was; or, done, the whole answer, with places past it as they were.
+-- What each call owes: a refusal by its table, all counts 0 and every lent buffer as it was; or, done, the whole answer, with places past
+-- it as they were.
 -- Assumes nothing.
 use mathlib.Core.Path.{_≡_}
 use mathlib.Core.List.{List, _++_}
@@ -13,7 +14,8 @@ use Rattle.book.specs.Line.{lineWords}
 use Rattle.book.specs.Good.{GoodBook}
 use Rattle.book.specs.declared.Refusal.{Refusal}
 use Rattle.file.specs.Read as read
-use Rattle.file.specs.Read.{Outcome, answered, done, statedLength, statedVersion, fileLength, statedH, statedN, statedCounts, heldOf, linesOf, bookIn}
+use Rattle.file.specs.Read.{Outcome, answered, done, statedLength, statedVersion, fileLength, statedH, statedN, statedCounts, heldOf}
+use Rattle.file.specs.Read.{linesOf, bookIn}
 use Rattle.loops.specs.Row.{listings}
 use Rattle.loops.specs.Report.{loopsOf}
 use Rattle.survey.specs.Report as survey
@@ -29,7 +31,8 @@ use Rattle.adjust.specs.Answers as adjust
 use Rattle.adjust.specs.Call.{adjusted, adjustOf}
 use Rattle.demands.specs.Rules.{Rule, KeepsToTable}
 pub use Rattle.demands.specs.Tables.{afresh}
-use Rattle.demands.specs.Tables.{surveyRules, loopListing, listingRules, listingsRules, notCheckedRules, rerunRules, withdrawRules, fileRules}
+use Rattle.demands.specs.Tables.{surveyRules, loopListing, listingRules, listingsRules, notCheckedRules, rerunRules, withdrawRules}
+use Rattle.demands.specs.Tables.{fileRules}
 
 -- the survey: rows and pieces of the book, and its report in the first places of the output
 abbrev pub surveyDone : Lent → List ℤ → Surveyed
@@ -61,7 +64,8 @@ ListingsKeepsToTable book out given =
 abbrev pub NotCheckedKeepsToTable : Lent → List ℤ → Listing → Type 0
 NotCheckedKeepsToTable book out given = ListKeepsToTable (notCheckedRules book out) (uncheckedOf (natAbs (book .b)) (book .lines)) out given
 
--- a correction that makes the book's lines new: rows and pieces of the book as it then stands, its lines, and its kept report brought up to date
+-- a correction that makes the book's lines new: rows and pieces of the book as it then stands, its lines, and its kept report brought up
+-- to date
 abbrev pub correctionDone : Lent → List ℤ → List ℤ → Corrected
 correctionDone book report new = corrected (counted (natAbs (book .b)) new) new (updated report (afresh book) (afresh (withLines book new)))
 
@@ -94,8 +98,8 @@ ReaderKeepsToTable file held lines given =
     KeepsToTable (λ (o : Outcome). o .answer .refusal) (fileRules file held lines)
     (λ r. answered held lines (read.refusedWith r)) (readDone file held lines) given
 
--- "Each call tests all that it is lent": a faulty book gets the same refusal from every call, and nothing is changed (a re-run is refused with 4
--- already where its new difference is outside the limit, and a rate where its heights are not b in number)
+-- "Each call tests all that it is lent": a faulty book gets the same refusal from every call, and nothing is changed (a re-run is refused
+-- with 4 already where its new difference is outside the limit, and a rate where its heights are not b in number)
 pub record SameAtEveryCall (book : Lent) (r : Refusal) : Type 0 where
   pub survey-of : (out : List ℤ) → surveyOf book out ≡ surveyed (survey.refusedWith r) out
   pub listing-of : (loop : ℤ) (out : List ℤ) → listingOf book loop out ≡ listing (lists.refusedWith r) out
@@ -107,7 +111,8 @@ pub record SameAtEveryCall (book : Lent) (r : Refusal) : Type 0 where
   pub adjustment : (out : List ℤ) → adjustOf book out ≡ adjusted (adjust.refusedWith r) out
   pub rate : (heights : List ℤ) (line : ℤ) → pos (length heights) ≡ book .b → rateAnswer book heights line ≡ rates.refusedWith r
 
--- a file that is read: it has 13 bytes or more, its stated length, version 1, a good book of the stated counts and nothing more, and there is room for its entries
+-- a file that is read: it has 13 bytes or more, its stated length, version 1, a good book of the stated counts and nothing more, and
+-- there is room for its entries
 pub record Readable (file : List ℕ) (held lines : List ℤ) : Type 0 where
   pub long-enough : 13 ≤ length file
   pub its-length : statedLength file ≡ length file

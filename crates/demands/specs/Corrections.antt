@@ -15,7 +15,8 @@ use Rattle.survey.specs.Correction.{Corrected, rerunOf, withdrawOf}
 pub use Rattle.survey.specs.Stands.{Stands}
 use Rattle.demands.specs.Calls.{afresh}
 
--- a correction of the line of this number is acceptable: the lent book passes the test, the line stands, and the lent report begins with the book's rows
+-- a correction of the line of this number is acceptable: the lent book passes the test, the line stands, and the lent report begins with
+-- the book's rows
 pub record Acceptable (book : Lent) (report : List ℤ) (number : ℤ) : Type 0 where
   pub counts : Book
   pub passes : testOf book ≡ Good counts
@@ -43,10 +44,12 @@ correct book report (withdraw line) = withdrawOf book report line
 abbrev pub correctedBook : Lent → List ℤ → Step → Lent
 correctedBook book report s = withLines book (correct book report s .lines)
 
--- corrections one after the other, each accepted (its number is 0) and made from the book and the report that the one before left; the last leaves book′ and report′
+-- corrections one after the other, each accepted (its number is 0) and made from the book and the report that the one before left; the
+-- last leaves book′ and report′
 pub data Accepted : Lent → List ℤ → List Step → Lent → List ℤ → Type 0 where
   no-more : {book : Lent} {report : List ℤ} → Accepted book report [] book report
-  accepted : {book book′ : Lent} {report report′ : List ℤ} {s : Step} {steps : List Step} → correct book report s .answer .refusal .number ≡ 0
+  accepted : {book book′ : Lent} {report report′ : List ℤ} {s : Step} {steps : List Step}
+      → correct book report s .answer .refusal .number ≡ 0
       → Accepted (correctedBook book report s) (correct book report s .report) steps book′ report′
       → Accepted book report (s ∷ steps) book′ report′
 
@@ -59,9 +62,9 @@ unfoldable pub reportAfter : Lent → List ℤ → List Step → List ℤ
 reportAfter book report [] = report
 reportAfter book report (s ∷ steps) = reportAfter (correctedBook book report s) (correct book report s .report) steps
 
--- the kept report is true after corrections that made `book` into book′, where `out` was lent to the first survey: it begins with the report of the corrected book
--- worked out afresh, then come zeros in the vacated rows, and all places past the first survey's rows are as they were; so 9 cannot refuse the next correction, and
--- a survey of the corrected book into it changes nothing
+-- the kept report is true after corrections that made `book` into book′, where `out` was lent to the first survey: it begins with the
+-- report of the corrected book worked out afresh, then come zeros in the vacated rows, and all places past the first survey's rows are as
+-- they were; so 9 cannot refuse the next correction, and a survey of the corrected book into it changes nothing
 pub record KeptTrue (book : Lent) (out : List ℤ) (book′ : Lent) (report′ : List ℤ) : Type 0 where
   pub still-good : testOf book′ ≡ testOf book
   pub no-more-rows : length (afresh book′) ≤ length (afresh book)

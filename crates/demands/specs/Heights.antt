@@ -139,12 +139,14 @@ pub record UnheldAt (b : ℕ) (held lines : List ℤ) (m : ℕ) : Type 0 where
   pub lowest-of-piece : LowestOfPiece (standing lines) m
   pub lowest-of-all : (k : ℕ) → 0 < k → k < m → PieceHeld b held lines k
 
--- "Start: in each piece the lowest held mark has its held height, the others follow along the tree; then every held mark is set to its own."
+-- "Start: in each piece the lowest held mark has its held height, the others follow along the tree; then every held mark is set to its
+-- own."
 pub record StartIs (b : ℕ) (held lines : List ℤ) : Type 0 where
   pub followed : ℕ → ℤ
   pub lowest-held-has-its-own : (k : ℕ) (z : ℤ) → 0 < k → k ≤ b → heldHeight held k ≡ some z
       → ((j : ℕ) → 0 < j → j < k → Joined lines j k → heldHeight held j ≡ none) → followed k ≡ z
-  pub others-follow-the-tree : (l : Line) → List·Memᴰ l (treeLines (tree b (standing lines))) → followed (l .to) ≡ followed (l .from) +ℤ l .difference
+  pub others-follow-the-tree : (l : Line) → List·Memᴰ l (treeLines (tree b (standing lines)))
+      → followed (l .to) ≡ followed (l .from) +ℤ l .difference
   pub one-to-each-mark : length (startHeights b held lines) ≡ b
   pub held-set-to-its-own : (m : ℕ) (z : ℤ) → 0 < m → m ≤ b → heldHeight held m ≡ some z → height (startHeights b held lines) m ≡ z
   pub free-stays : (m : ℕ) → 0 < m → m ≤ b → heldHeight held m ≡ none → height (startHeights b held lines) m ≡ followed m

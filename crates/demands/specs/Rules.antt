@@ -1,5 +1,5 @@
--- Document 01, "Refusal numbers": a table is a list of rules in the order in which they are tried, and the first that applies is given. Where the numbers of
--- a table rise, that is "the lowest number is given".
+-- Document 01, "Refusal numbers": a table is a list of rules in the order in which they are tried, and the first that applies is given.
+-- Where the numbers of a table rise, that is "the lowest number is given".
 -- Assumes nothing.
 use mathlib.Core.Path.{_≡_}
 use mathlib.Core.Logic.{_⊎_, _↔_}
@@ -55,8 +55,8 @@ pub record LowestGiven (rules : List Rule) (given : Refusal) : Type 0 where
   pub done-place : given .number ≡ 0 → given .place ≡ 0
   pub its-place : (r : Rule) → List·Memᴰ r rules → given .number ≡ r .gives .number → given .place ≡ r .gives .place
 
--- what a call has given keeps to the table: `refuse r` is the refusal r with all counts 0 and every lent buffer as it was, `done` is the whole answer.
--- "After a refusal the counts are 0 and no lent buffer has changed."
+-- what a call has given keeps to the table: `refuse r` is the refusal r with all counts 0 and every lent buffer as it was, `done` is the
+-- whole answer. "After a refusal the counts are 0 and no lent buffer has changed."
 pub record KeepsToTable {A : Type 0} (refusalOf : A → Refusal) (rules : List Rule) (refuse : Refusal → A) (done given : A) : Type 0 where
   pub table : ByTable rules (refusalOf given)
   pub refused : (refusalOf given .number ≡ 0 → ⊥) → given ≡ refuse (refusalOf given)

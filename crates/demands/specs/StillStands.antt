@@ -19,11 +19,13 @@ pub record SameLoop (t : ℕ) (before after : Loop) : Type 0 where
   pub lines-and-sense : map listed after ≡ map listed before
   pub whole-row : row t after ≡ row t before
 
--- of the old loops only that of closing line n may be gone; the others stay in their order, each with its closing line, and each that does not run line n as it was
+-- of the old loops only that of closing line n may be gone; the others stay in their order, each with its closing line, and each that
+-- does not run line n as it was
 pub data StillStand (t n : ℕ) : List Loop → List Loop → Type 0 where
   none-left : StillStand t n [] []
   gone : {lp : Loop} {old new : List Loop} → closingNumber lp ≡ n → StillStand t n old new → StillStand t n (lp ∷ old) new
-  stays : {lp now : Loop} {old new : List Loop} → closingNumber now ≡ closingNumber lp → (runs n lp ≡ false → SameLoop t lp now) → StillStand t n old new
+  stays : {lp now : Loop} {old new : List Loop} → closingNumber now ≡ closingNumber lp → (runs n lp ≡ false → SameLoop t lp now)
+      → StillStand t n old new
       → StillStand t n (lp ∷ old) (now ∷ new)
 
 -- what a re-run leaves of any loop, also of one that runs the line

@@ -1,4 +1,5 @@
--- Document 01's table of refusals as it stands for each call: its rules in the order in which they are tried, each a number, its condition and its place.
+-- Document 01's table of refusals as it stands for each call: its rules in the order in which they are tried, each a number, its
+-- condition and its place.
 -- Assumes nothing.
 use mathlib.Core.Bool.{Bool, not, _||_}
 use mathlib.Core.List.{List, [], _∷_, map}
@@ -11,7 +12,8 @@ use Rattle.book.specs.Lent.{Lent}
 use Rattle.book.specs.Held.{heldWords, heldCount, firstBadHeld}
 use Rattle.book.specs.Line.{lineWords, lineCount, differenceOut, firstBadLine}
 use Rattle.book.specs.Test.{torn, bookOut}
-use Rattle.file.specs.Read.{statedLength, statedVersion, statedT, statedB, statedH, statedN, statedCounts, fileLength, heldOf, linesOf, bookIn}
+use Rattle.file.specs.Read.{statedLength, statedVersion, statedT, statedB, statedH, statedN, statedCounts, fileLength, heldOf, linesOf}
+use Rattle.file.specs.Read.{bookIn}
 use Rattle.loops.specs.Loops.{loopAt}
 use Rattle.loops.specs.Row.{listed, listings}
 use Rattle.loops.specs.Report.{loopsOf, reportOf}

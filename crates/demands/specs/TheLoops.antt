@@ -53,13 +53,14 @@ treeLinesOf b lines = treeLines (treeOf b lines)
 abbrev pub closingLinesOf : ℕ → List ℤ → List Line
 closingLinesOf b lines = closing (standing lines) (treeOf b lines)
 
--- "the tree with the closing lines added so far": all lines of the tree, and all closing lines before that of loop i. Those that document 01 does not add are
--- among them: that they change no loop is the theorem `not-added-changes-no-loop`
+-- "the tree with the closing lines added so far": all lines of the tree, and all closing lines before that of loop i. Those that document
+-- 01 does not add are among them: that they change no loop is the theorem `not-added-changes-no-loop`
 unfoldable pub subgraph : ℕ → List ℤ → ℕ → List Line
 unfolding standing tree treeLines closing only
 subgraph b lines i = only (numbers (treeLinesOf b lines ++ take i (closingLinesOf b lines))) (standing lines)
 
--- loop i of a book of b marks, loops counted from 0: "A loop runs its closing line from its from end to its to end, then back by the shortest path in the subgraph"
+-- loop i of a book of b marks, loops counted from 0: "A loop runs its closing line from its from end to its to end, then back by the
+-- shortest path in the subgraph"
 pub record LoopIs (b : ℕ) (lines : List ℤ) (i : ℕ) : Type 0 where
   pub closing-line : Line
   pub path : List Pass

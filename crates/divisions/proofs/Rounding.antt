@@ -1,7 +1,8 @@
 -- "to the nearest whole number, halves toward zero": what the definition picks, and that only one number is it.
 -- Assumes nothing.
 use Prim.Native.Nat.{ℕ, zero, suc, _+_, _*_, _/_, _%_, _≤_, _<_, zero-le}
-use native.Mathlib.Nat.{div-add-mod', mod-lt, mul-le-mul-left, mul-le-mul-right, mul-comm, mul-assoc, mul-one, zero-div, zero-mod, eq-zero-or-pos}
+use native.Mathlib.Nat.{div-add-mod', mod-lt, mul-le-mul-left, mul-le-mul-right, mul-comm, mul-assoc, mul-one, zero-div, zero-mod}
+use native.Mathlib.Nat.{eq-zero-or-pos}
 use native.Mathlib.Omega.{arith}
 use mathlib.Core.Path.{_≡_, refl, sym, _∙_, ap}
 use mathlib.Core.Logic.{⊎-elim}
@@ -98,7 +99,8 @@ of-size (negsuc a) d e = ap (λ (q : ℕ). negℤ (pos q)) e
 pub half-stays : (g : ℤ) (d : ℕ) → (d ≡ 0 → natAbs g ≡ 0) → natAbs g ≤ d / 2 → nearest g d ≡ pos 0
 half-stays g d z h =
     ⊎-elim (λ (e : d ≡ 0). of-size g d (rw (z e) (zero-size d)))
-    (λ (p : 0 < d). of-size g d (nearest-only (natAbs g) d (nearestSize (natAbs g) d) 0 (nearest-is (natAbs g) d p) (record { above = omega arith; below = omega arith }))) (eq-zero-or-pos d)
+    (λ (p : 0 < d). of-size g d (nearest-only (natAbs g) d (nearestSize (natAbs g) d) 0 (nearest-is (natAbs g) d p)
+    (record { above = omega arith; below = omega arith }))) (eq-zero-or-pos d)
   where
     zero-size : (d : ℕ) → nearestSize 0 d ≡ 0
     zero-size d = sym (nearest-size (pos 0) d) ∙ ap natAbs (nearest-none d)

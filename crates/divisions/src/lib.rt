@@ -15,7 +15,9 @@ pub fn weight(length: usize) -> usize
 
 // g / d to the nearest whole number, halves toward zero.
 pub fn move_by(g: i64, d: usize) -> i64
-    requires { ⌜ (d ≡ 0 → natAbs g ≡ 0) ⌝ ∗ ⌜ d < 2 ^ 62 ⌝ ∗ ⌜ natAbs g < 2 ^ 63 ⌝ }
+    requires { ⌜ (d ≡ 0 → natAbs g ≡ 0) ⌝
+        ∗ ⌜ d < 2 ^ 62 ⌝
+        ∗ ⌜ natAbs g < 2 ^ 63 ⌝ }
     ensures { λ r. ⌜ r ≡ nearest g d ⌝ }
 {
     let a = signed::magnitude(g);
@@ -28,7 +30,8 @@ pub fn move_by(g: i64, d: usize) -> i64
 
 // The same of sizes: the one division of the moves. Twice a may not fit, so the remainder decides.
 fn nearest_size(a: usize, d: usize) -> usize
-    requires { ⌜ 0 < d ⌝ ∗ ⌜ d < 2 ^ 62 ⌝ }
+    requires { ⌜ 0 < d ⌝
+        ∗ ⌜ d < 2 ^ 62 ⌝ }
     ensures { λ r. ⌜ r ≡ nearestSize a d ⌝ }
 {
     let q = a / d;

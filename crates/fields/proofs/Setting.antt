@@ -11,7 +11,8 @@ pub place : (v : ℕ) → suc v - 1 ≡ v
 place v = omega arith
 
 -- what holds of every element, and of one that is stored, holds of every element after the store
-pub set-all : {A : Type 0} (P : A → Type 0) (l : List A) (i : ℕ) (v d : A) → P v → ((j : ℕ) → P (getD l j d)) → (j : ℕ) → P (getD (set l i v) j d)
+pub set-all : {A : Type 0} (P : A → Type 0) (l : List A) (i : ℕ) (v d : A) → P v → ((j : ℕ) → P (getD l j d)) → (j : ℕ)
+    → P (getD (set l i v) j d)
 set-all P [] i v d p h j = h j
 set-all P (x ∷ xs) zero v d p h zero = p
 set-all P (x ∷ xs) zero v d p h (suc j) = h (suc j)

@@ -39,7 +39,8 @@ module _ (kind : Kind) (file : List ℕ) (a : ℕ) where
 
   -- One turn of the loop that reads entries: the part that was lent holds the numbers of entry i.
   module _ (k w : ℕ) (bytes : k ≡ entryBytes kind) (words : w ≡ entryWords kind) (l₀ out vs : List ℤ) (i : ℕ) where
-    pub entries-pour : out ≡ entries kind file a i ++ drop (i * w) l₀ → vs ≡ numbers kind (take (a + i * k + k - (a + i * k)) (drop (a + i * k) file))
+    pub entries-pour : out ≡ entries kind file a i ++ drop (i * w) l₀
+        → vs ≡ numbers kind (take (a + i * k + k - (a + i * k)) (drop (a + i * k) file))
         → putMid (i * w) (i * w + w - i * w) out vs ≡ entries kind file a (i + 1) ++ drop ((i + 1) * w) l₀
     entries-pour h e =
         pour (entries kind file a i) vs l₀ out i w (rw words (entries-length i)) h

@@ -32,9 +32,20 @@ module _ (file : List ℕ) (held lines : List ℤ) where
   abbrev pub ReadOrRefused : Outcome → Type 0
   ReadOrRefused o = BookRead file held lines o ⊎ FileRefused held lines o
 
-  refuses : (number place : ℕ) → 0 < number → number ≤ 10 → place ≤ mostLines → ReadOrRefused (answered held lines (refusedWith (refusal number place)))
+  refuses : (number place : ℕ) → 0 < number → number ≤ 10 → place ≤ mostLines
+      → ReadOrRefused (answered held lines (refusedWith (refusal number place)))
   refuses number place low high near =
-      inr (record { number = number; place = place; low = low; high = high; near = near; answer = refl; held-kept = refl; lines-kept = refl })
+      inr (record {
+        number = number;
+        place = place;
+        low = low;
+        high = high;
+        near = near;
+        answer = refl;
+        held-kept = refl;
+        lines-kept
+            = refl;
+      })
 
   GoodFile : Book → Type 0
   GoodFile k = GoodBook k (bookIn file k)
@@ -52,11 +63,13 @@ module _ (file : List ℕ) (held lines : List ℤ) where
   unfolding roomOf GoodFile
   room-or-ten k good = go (ltb (length held) (k .held * heldWords)) (ltb (length lines) (k .lines * lineWords))
     where
-      go : (s t : Bool) → ReadOrRefused (cond s (answered held lines (refusedWith (refusal 10 0))) (cond t (answered held lines (refusedWith (refusal 10 0))) (record {
-        answer = done k;
-        held = heldOf file (k .held) ++ drop (k .held * heldWords) held;
-        lines = linesOf file (k .held) (k .lines) ++ drop (k .lines * lineWords) lines;
-      })))
+      go : (s t : Bool)
+          → ReadOrRefused (cond s (answered held lines (refusedWith (refusal 10 0)))
+          (cond t (answered held lines (refusedWith (refusal 10 0))) (record {
+            answer = done k;
+            held = heldOf file (k .held) ++ drop (k .held * heldWords) held;
+            lines = linesOf file (k .held) (k .lines) ++ drop (k .lines * lineWords) lines;
+          })))
       go true t = refuses 10 0 (omega arith) (omega arith) (omega arith)
       go false true = refuses 10 0 (omega arith) (omega arith) (omega arith)
       go false false = inl (record { book = k; answer = refl; good = good; held-now = refl; lines-now = refl })
@@ -79,7 +92,8 @@ module _ (file : List ℕ) (held lines : List ℤ) where
   read-or-refused = go (headOf file) refl
     where
       go : (o : Head) → headOf file ≡ o → ReadOrRefused (afterHead file held lines o)
-      go (head.the-variants.Refused number) e = let w = head-numbered file number e in refuses number 0 (w .0) (omega (arith, w .1)) (omega arith)
+      go (head.the-variants.Refused number) e =
+          let w = head-numbered file number e in refuses number 0 (w .0) (omega (arith, w .1)) (omega arith)
       go (head.the-variants.States k) e = body k
 
   -- the answer 0 says which

@@ -1,4 +1,5 @@
--- What the reader of a book file answers, and what it leaves in the buffers that it is lent: document 01, refusals 1 to 7 and 10, lowest first.
+-- What the reader of a book file answers, and what it leaves in the buffers that it is lent: document 01, refusals 1 to 7 and 10, lowest
+-- first.
 -- Assumes nothing.
 use mathlib.Core.Bool.{not, cond}
 use mathlib.Core.List.{List, _++_}

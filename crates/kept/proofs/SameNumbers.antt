@@ -50,11 +50,17 @@ module _ (report rows : List ℤ) where
 
   module _ (long : length rows ≤ length report) (i : ℕ) (h : i < length rows) (s : Compared i) where
     one-more : sameNumbers (drop i (take (length rows) report)) (drop i rows)
-        ≡ cond (eqZ (getD report i (pos 0)) (getD rows i (pos 0))) (sameNumbers (drop (i + 1) (take (length rows) report)) (drop (i + 1) rows)) false
+        ≡ cond (eqZ (getD report i (pos 0)) (getD rows i (pos 0)))
+        (sameNumbers (drop (i + 1) (take (length rows) report)) (drop (i + 1) rows)) false
     unfolding sameNumbers
     one-more =
         let k : i < length (take (length rows) report) = simp length-take (omega arith) in
-        rw (drop-cons (take (length rows) report) i (pos 0) k, drop-cons rows i (pos 0) h, getD-take (length rows) report i (pos 0) h, add-one i)
+        rw (
+          drop-cons (take (length rows) report) i (pos 0) k,
+          drop-cons rows i (pos 0) h,
+          getD-take (length rows) report i (pos 0) h,
+          add-one i,
+        )
 
     pub compare-next : eqZ (getD report i (pos 0)) (getD rows i (pos 0)) ≡ true → Compared (i + 1)
     compare-next e = record { most = omega arith; rest = s .rest ∙ ap not (rw e at one-more) }

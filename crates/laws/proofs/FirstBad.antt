@@ -32,7 +32,8 @@ module _ (bad : ℕ → Bool) where
   first-from i zero m e = absurd (omega arith)
   first-from i (suc k) m e = go (bad i) refl e (first-from (suc i) k m)
     where
-      go : (t : Bool) → bad i ≡ t → cond t (suc i) (firstFrom bad (suc i) k) ≡ suc m → (firstFrom bad (suc i) k ≡ suc m → IsFirst (suc i) k m) → IsFirst i (suc k) m
+      go : (t : Bool) → bad i ≡ t → cond t (suc i) (firstFrom bad (suc i) k) ≡ suc m
+          → (firstFrom bad (suc i) k ≡ suc m → IsFirst (suc i) k m) → IsFirst i (suc k) m
       go true b e ih = let z : i ≡ m = omega arith in record {
         below = omega arith;
         from-on = omega arith;

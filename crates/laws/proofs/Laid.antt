@@ -5,7 +5,8 @@ use native.Mathlib.Numerals.{add-one}
 use native.Mathlib.Omega.{arith}
 use mathlib.Core.Path.{_≡_, refl, sym, _∙_, ap}
 use mathlib.Core.List.{List, _++_}
-use lib.ListN.{length, take, drop, getD, set, replicate, length-set, length-append, length-take, length-replicate, getD-replicate, take-append-drop}
+use lib.ListN.{length, take, drop, getD, set, replicate, length-set, length-append, length-take, length-replicate, getD-replicate}
+use lib.ListN.{take-append-drop}
 use lib.Seq.{take-suc, take-suc-set, drop-set-lt, drop-drop, take-all, take-append-le, getD-append-add}
 
 -- the first i places of l are those of vs, the others as they were in l₀
@@ -19,7 +20,8 @@ module _ {A : Type 0} (vs l₀ : List A) where
   pub laid-start : Laid vs l₀ l₀ 0
   laid-start = record { most = omega arith; as-long = refl; front = refl; back = refl }
 
-  pub laid-next : (l : List A) (i : ℕ) (v d : A) → length vs ≤ length l₀ → i < length vs → v ≡ getD vs i d → Laid vs l₀ l i → Laid vs l₀ (set l i v) (i + 1)
+  pub laid-next : (l : List A) (i : ℕ) (v d : A) → length vs ≤ length l₀ → i < length vs → v ≡ getD vs i d → Laid vs l₀ l i
+      → Laid vs l₀ (set l i v) (i + 1)
   laid-next l i v d room h e s =
       let k : i < length l = omega (arith, s .as-long) in
       record {
@@ -49,7 +51,8 @@ module _ {A : Type 0} (z : A) (l₀ : List A) (a e : ℕ) (order : a ≤ e) (roo
   zeroed-start = record {
     most = omega (arith, zeroed-length);
     as-long = refl;
-    front = sym (take-append-le a (take a l₀) (replicate (e - a) z) (simp length-take (omega arith)) ∙ take-all a (take a l₀) (simp length-take (omega arith)));
+    front = sym (take-append-le a (take a l₀) (replicate (e - a) z) (simp length-take (omega arith))
+        ∙ take-all a (take a l₀) (simp length-take (omega arith)));
     back = refl;
   }
 
@@ -57,4 +60,5 @@ module _ {A : Type 0} (z : A) (l₀ : List A) (a e : ℕ) (order : a ≤ e) (roo
   zeroed-at i d h k =
       let n : length (take a l₀) ≡ a = simp length-take (omega arith) in
       let j : i ≡ length (take a l₀) + (i - a) = omega (arith, n) in
-      sym (ap (λ (x : ℕ). getD zeroed x d) j ∙ getD-append-add (take a l₀) (replicate (e - a) z) (i - a) d ∙ getD-replicate (e - a) (i - a) z d (omega arith))
+      sym (ap (λ (x : ℕ). getD zeroed x d) j ∙ getD-append-add (take a l₀) (replicate (e - a) z) (i - a) d
+      ∙ getD-replicate (e - a) (i - a) z d (omega arith))

@@ -56,7 +56,8 @@ module _ (p : ℕ → Bool) where
   unfolding anyBelow
   any-found zero j l e = absurd (omega arith)
   any-found (suc i) j l e =
-      ⊎-elim (λ (q : j ≡ i). or-true (anyBelow p i) (p i) (rw q at e)) (λ (m : j < i). rw (any-found i j m e)) (eq-or-lt-of-le (le-of-suc-le-suc l))
+      ⊎-elim (λ (q : j ≡ i). or-true (anyBelow p i) (p i) (rw q at e)) (λ (m : j < i). rw (any-found i j m e))
+      (eq-or-lt-of-le (le-of-suc-le-suc l))
 
   -- where the test holds of no place below i, it fails at each
   pub none-below : (i : ℕ) → anyBelow p i ≡ false → (j : ℕ) → j < i → p j ≡ false
@@ -77,7 +78,8 @@ module _ (bad : ℕ → Bool) where
   none-from i zero e j l = absurd (omega arith)
   none-from i (suc k) e zero l = rw (add-zero i) (cond-zero (bad i) i (firstFrom bad (suc i) k) e .0)
   none-from i (suc k) e (suc j) l =
-      rw (add-suc i j) (rw (suc-add i j) at (none-from (suc i) k (cond-zero (bad i) i (firstFrom bad (suc i) k) e .1) j (le-of-suc-le-suc l)))
+      rw (add-suc i j) (rw (suc-add i j) at (none-from (suc i) k (cond-zero (bad i) i (firstFrom bad (suc i) k) e .1) j
+      (le-of-suc-le-suc l)))
 
   pub none-bad : (n : ℕ) → firstBad bad n ≡ 0 → (i : ℕ) → i < n → bad i ≡ false
   unfolding firstBad

@@ -18,7 +18,8 @@ use Rattle.book.proofs.IfGood.{either-way}
 use Rattle.book.proofs.Goods.{tested-good, tested-numbered}
 use Rattle.fields.specs.Heights.{height}
 use Rattle.sights.specs.Sights.{Sight, sightsOf}
-use Rattle.sweeps.specs.Sweeps.{moveOf, Swept, still, moved, outside, placed, visited, hasMoved, visit, sweep, Settled, settled, unsettled, onward, settleFrom, settle}
+use Rattle.sweeps.specs.Sweeps.{moveOf, Swept, still, moved, outside, placed, visited, hasMoved, visit, sweep, Settled, settled}
+use Rattle.sweeps.specs.Sweeps.{unsettled, onward, settleFrom, settle}
 use Rattle.network.specs.Standing.{standing}
 use Rattle.network.specs.Tree.{tree}
 use Rattle.start.specs.Start.{heldHeight, isHeld, rootedBy, unheldPiece, startHeights}
@@ -67,14 +68,16 @@ module _ (sights : ℕ → List Sight) (isHeld : ℕ → Bool) (b : ℕ) where
   sweep-near : (hs : List ℤ) (k : ℕ) → k ≤ b → Near b (sweep sights isHeld hs k)
   unfolding sweep
   sweep-near hs zero h = tt
-  sweep-near hs (suc k) h = visit-near b (isHeld (suc k)) (sights (suc k)) (suc k) (sweep sights isHeld hs k) h (sweep-near hs k (omega arith))
+  sweep-near hs (suc k) h =
+      visit-near b (isHeld (suc k)) (sights (suc k)) (suc k) (sweep sights isHeld hs k) h (sweep-near hs k (omega arith))
 
   settled-few : (k n : ℕ) (hs : List ℤ) → n + k ≤ 10000 → Few b (settleFrom sights isHeld b k n hs)
   unfolding settleFrom
   settled-few zero n hs h = tt
   settled-few (suc k) n hs h = go (sweep sights isHeld hs b) (sweep-near hs b (omega arith)) (λ gs. settled-few k (suc n) gs (omega arith))
     where
-      go : (s : Swept) → Near b s → ((gs : List ℤ) → Few b (settleFrom sights isHeld b k (suc n) gs)) → Few b (onward s n (λ gs. settleFrom sights isHeld b k (suc n) gs))
+      go : (s : Swept) → Near b s → ((gs : List ℤ) → Few b (settleFrom sights isHeld b k (suc n) gs))
+          → Few b (onward s n (λ gs. settleFrom sights isHeld b k (suc n) gs))
       go (still gs) near more = omega arith
       go (moved gs) near more = more gs
       go (outside m) near more = near
@@ -102,9 +105,11 @@ outcome-small : (b : ℕ) (held lines : List ℤ) → SmallOutcome b (adjustment
 unfolding adjustment settle
 outcome-small b held lines =
     unless-small b (unheldPiece (rootedBy (tree b (standing lines))) (heldHeight held) b) _ (unheld-few b held lines)
-    (ends b (settle (sightsOf (standing lines)) (isHeld held) b (startHeights b held lines)) (settled-few (sightsOf (standing lines)) (isHeld held) b 10000 0 (startHeights b held lines) (omega arith)))
+    (ends b (settle (sightsOf (standing lines)) (isHeld held) b (startHeights b held lines))
+    (settled-few (sightsOf (standing lines)) (isHeld held) b 10000 0 (startHeights b held lines) (omega arith)))
 
-answer-small : (number place sweeps : ℕ) → number ≤ 13 → place ≤ mostLines → sweeps ≤ 10000 → SmallAdjusted (record { refusal = refusal number place; sweeps = sweeps })
+answer-small : (number place sweeps : ℕ) → number ≤ 13 → place ≤ mostLines → sweeps ≤ 10000
+    → SmallAdjusted (record { refusal = refusal number place; sweeps = sweeps })
 answer-small number place sweeps n p s = record { refusal = record { number = omega arith; place = omega arith }; sweeps = omega arith }
 
 given-small : (b : ℕ) (out : List ℤ) (o : Outcome) → b ≤ mostMarks → SmallOutcome b o → SmallAdjusted (givenBy out o .answer)
@@ -119,4 +124,5 @@ adjust-small book heights =
     (λ k e.
     cond-ind (λ (o : Given). SmallAdjusted (o .answer)) (ltb (length heights) (k .marks)) _ _
     (λ _. answer-small 10 0 0 (omega arith) (omega arith) (omega arith))
-    (λ _. given-small (k .marks) heights (adjustment (k .marks) (book .held) (book .lines)) (tested-good book k e .few-marks) (outcome-small (k .marks) (book .held) (book .lines))))
+    (λ _. given-small (k .marks) heights (adjustment (k .marks) (book .held) (book .lines)) (tested-good book k e .few-marks)
+    (outcome-small (k .marks) (book .held) (book .lines))))

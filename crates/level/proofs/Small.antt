@@ -72,7 +72,8 @@ read-small file held lines = go (read-or-refused file held lines)
         })
 
 refusal-small : (number place : ℕ) → number ≤ 13 → place ≤ mostLines → SmallAnswer (survey.refusedWith (refusal number place))
-refusal-small number place high near = record { refusal = record { number = omega arith; place = omega arith }; rows = omega arith; pieces = omega arith }
+refusal-small number place high near =
+    record { refusal = record { number = omega arith; place = omega arith }; rows = omega arith; pieces = omega arith }
 
 -- no more rows than lines, and no more pieces than marks
 counted-small : (k : Book) (lines : List ℤ) → GoodLines k lines → SmallAnswer (counted (k .marks) lines)
@@ -93,7 +94,8 @@ unfolding listOf
 list-small list out small =
     cond-ind (λ (o : Listing). SmallListed (o .answer)) (ltb (length out) (length list)) _ _
     (λ _. unlisted-small 10 0 (omega arith) (omega arith))
-    (λ fits. let f = ltb-false (length out) (length list) fits in record { refusal = record { number = omega arith; place = omega arith }; entries = omega arith })
+    (λ fits. let f = ltb-false (length out) (length list) fits in record
+    { refusal = record { number = omega arith; place = omega arith }; entries = omega arith })
 
 module _ (book : Lent) where
   -- the test's own refusals
@@ -107,7 +109,8 @@ module _ (book : Lent) where
   unfolding surveyOf surveyGood
   survey-small rows =
       either-way book _ _ (λ (s : Surveyed). SmallAnswer (s .answer)) tested-small (λ k e.
-      cond-ind (λ (s : Surveyed). SmallAnswer (s .answer)) (ltb (length rows) (length (reportOf (k .marks) (k .tolerance) (book .lines)))) _ _
+      cond-ind (λ (s : Surveyed). SmallAnswer (s .answer)) (ltb (length rows)
+      (length (reportOf (k .marks) (k .tolerance) (book .lines)))) _ _
       (λ _. refusal-small 10 0 (omega arith) (omega arith))
       (λ _. counted-small k (book .lines) (good-of k e)))
 
@@ -131,11 +134,15 @@ module _ (book : Lent) where
         cond-ind (λ (s : Corrected). SmallAnswer (s .answer)) (differenceOut difference) _ _
         (λ _. refusal-small 4 0 (omega arith) (omega arith))
         (λ inside. corrected-small (rerunLines (book .lines) number difference)
-        (λ k e stands. rerun-lines-good k (book .lines) (good-of k e) number (natAbs number - 1) (stands-of (book .lines) number stands) difference (size-within mostDifference difference inside)))
+        (λ k e stands. rerun-lines-good k (book .lines) (good-of k e) number (natAbs number - 1) (stands-of (book .lines) number stands)
+        difference (size-within mostDifference difference inside)))
 
     pub withdraw-small : SmallAnswer (withdrawOf book report number .answer)
     unfolding withdrawOf
-    withdraw-small = corrected-small (withdrawLines (book .lines) number) (λ k e stands. withdrawn-lines-good k (book .lines) (good-of k e) number (natAbs number - 1) (stands-of (book .lines) number stands))
+    withdraw-small =
+        corrected-small (withdrawLines (book .lines) number)
+        (λ k e stands. withdrawn-lines-good k (book .lines) (good-of k e) number (natAbs number - 1)
+        (stands-of (book .lines) number stands))
 
   module _ (out : List ℤ) (small : Small (length out)) where
     untested-small : (r : Refusal) → testOf book ≡ Refused r → SmallListed (lists.refusedWith r)
@@ -152,17 +159,20 @@ module _ (book : Lent) where
     pub listings-small : SmallListed (listingsOf book out .answer)
     unfolding listingsOf listingsGood
     listings-small =
-        either-way book _ _ (λ (o : Listing). SmallListed (o .answer)) untested-small (λ k e. list-small (listings (loopsOf (k .marks) (book .lines))) out small)
+        either-way book _ _ (λ (o : Listing). SmallListed (o .answer)) untested-small
+        (λ k e. list-small (listings (loopsOf (k .marks) (book .lines))) out small)
 
     pub not-checked-small : SmallListed (notCheckedOf book out .answer)
     unfolding notCheckedOf
     not-checked-small =
-        either-way book _ _ (λ (o : Listing). SmallListed (o .answer)) untested-small (λ k e. list-small (uncheckedOf (k .marks) (book .lines)) out small)
+        either-way book _ _ (λ (o : Listing). SmallListed (o .answer)) untested-small
+        (λ k e. list-small (uncheckedOf (k .marks) (book .lines)) out small)
 
   module _ (heights : List ℤ) (line : ℤ) where
     rate-refusal-small : (number place : ℕ) → number ≤ 13 → place ≤ mostLines → SmallRate (rates.refusedWith (refusal number place))
     unfolding rates.refusedWith
-    rate-refusal-small number place high near = record { refusal = record { number = omega arith; place = omega arith }; line = omega arith }
+    rate-refusal-small number place high near =
+        record { refusal = record { number = omega arith; place = omega arith }; line = omega arith }
 
     -- the line itself is one of the book's
     line-small : (i : ℕ) → natAbs line ≤ mostLines → SmallRate (lineRate heights (book .lines) (natAbs line) i)
@@ -179,7 +189,8 @@ module _ (book : Lent) where
         (λ _. rate-refusal-small 8 0 (omega arith) (omega arith))
         (λ inside.
         cond-ind SmallRate (ltb 0 (firstHigh heights)) _ _
-        (λ _. rate-refusal-small 13 (firstHigh heights) (omega arith) (omega (arith, first-most (λ i. workHeightOut (getD heights i (pos 0))) (length heights))))
+        (λ _. rate-refusal-small 13 (firstHigh heights) (omega arith)
+        (omega (arith, first-most (λ i. workHeightOut (getD heights i (pos 0))) (length heights))))
         (λ _. line-small (natAbs line - 1) (omega (arith, between 1 (k .lines) line inside .high))))
 
     pub rate-small : SmallRate (rateAnswer book heights line)
@@ -189,5 +200,6 @@ module _ (book : Lent) where
         (λ same.
         either-way book _ _ SmallRate
         (λ r e. let n = tested-numbered book r e in rate-refusal-small (r .number) (r .place) (omega (arith, n .high)) (n .near))
-        (λ k e. let g = tested-good book k e in good-small k (g .lines-good .few) (omega (arith, marks-of book k e (length heights) same, g .few-marks))))
+        (λ k e. let g = tested-good book k e in good-small k (g .lines-good .few)
+        (omega (arith, marks-of book k e (length heights) same, g .few-marks))))
         (λ _. rate-refusal-small 4 0 (omega arith) (omega arith))

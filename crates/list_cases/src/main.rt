@@ -1,6 +1,7 @@
-// Lists the loops of many books, one by one and all at once, and the lines that are not checked, withdraws a line and lists again, spoils the book number by
-// number, and prints every answer and what the output then holds. A case on standard input (cases::case) has two numbers: how many places
-// of output are lent, and its file's length. tests/list_cases.py makes the cases and, on its own, what is printed of them.
+// Lists the loops of many books, one by one and all at once, and the lines that are not checked, withdraws a line and lists again, spoils
+// the book number by number, and prints every answer and what the output then holds. A case on standard input (cases::case) has two
+// numbers: how many places of output are lent, and its file's length. tests/list_cases.py makes the cases and, on its own, what is
+// printed of them.
 ghost use Prim.Native.Nat.{_≤_};
 use book::Book;
 use book::held::Held;

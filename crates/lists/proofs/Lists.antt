@@ -12,6 +12,7 @@ pub list-ten : (list out : List ℤ) → length out < length list → listing (r
 unfolding listOf
 list-ten list out h = rw (lt-ltb (length out) (length list) h)
 
-pub list-whole : (list out : List ℤ) → length list ≤ length out → listing (entered (length list)) (list ++ drop (length list) out) ≡ listOf list out
+pub list-whole : (list out : List ℤ) → length list ≤ length out
+    → listing (entered (length list)) (list ++ drop (length list) out) ≡ listOf list out
 unfolding listOf
 list-whole list out h = rw (le-ltb (length out) (length list) h)

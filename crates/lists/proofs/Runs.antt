@@ -72,7 +72,8 @@ module _ (k : Book) (lines : List ℤ) (good : GoodLines k lines) where
   pub loop-coded : (lp : Loop) → List·Memᴰ lp (loopsOf (k .marks) lines) → Coded (codes lp)
   unfolding loopsOf
   loop-coded lp m =
-      codes-small lp (λ p i. line-limits k lines good (p .line) (loop-runs-lines (k .marks) (standing lines) (lines-sound k lines good) lp m p i) .number)
+      codes-small lp (λ p i. line-limits k lines good (p .line)
+      (loop-runs-lines (k .marks) (standing lines) (lines-sound k lines good) lp m p i) .number)
 
   -- ---- what is read off the table
 
@@ -81,12 +82,14 @@ module _ (k : Book) (lines : List ℤ) (good : GoodLines k lines) where
     ls = loopsOf (k .marks) lines
 
     -- there is no such loop
-    pub eight-is : (number : ℤ) (out : List ℤ) → outZ (pos 1) (pos count) number ≡ true → listing (refusedWith (refusal 8 0)) out ≡ listingGood k lines number out
+    pub eight-is : (number : ℤ) (out : List ℤ) → outZ (pos 1) (pos count) number ≡ true
+        → listing (refusedWith (refusal 8 0)) out ≡ listingGood k lines number out
     unfolding listingGood
     eight-is number out e = rw (← (tb .counted), e)
 
     -- the loop's place
-    pub place-of : (number : ℤ) → outZ (pos 1) (pos count) number ≡ false → (0 < natAbs number) × (natAbs number - 1 < length (loopsOf (k .marks) lines))
+    pub place-of : (number : ℤ) → outZ (pos 1) (pos count) number ≡ false
+        → (0 < natAbs number) × (natAbs number - 1 < length (loopsOf (k .marks) lines))
     place-of number e = let b = between 1 count number e in (omega (arith, b .low), omega (arith, b .low, b .high, tb .counted))
 
     module _ (i : ℕ) (lt : i < length (loopsOf (k .marks) lines)) where

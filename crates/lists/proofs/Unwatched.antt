@@ -26,7 +26,8 @@ unfolding notChecked
 few-unchecked lps [] = omega arith
 few-unchecked lps (l ∷ rest) = go (checked (l .number) lps) (few-unchecked lps rest)
   where
-    go : (t : Bool) → length (notChecked lps rest) ≤ length rest → length (cond t (notChecked lps rest) (l .number ∷ notChecked lps rest)) ≤ suc (length rest)
+    go : (t : Bool) → length (notChecked lps rest) ≤ length rest
+        → length (cond t (notChecked lps rest) (l .number ∷ notChecked lps rest)) ≤ suc (length rest)
     go true h = omega arith
     go false h = omega arith
 
@@ -34,7 +35,8 @@ few-unchecked lps (l ∷ rest) = go (checked (l .number) lps) (few-unchecked lps
 abbrev Low : ℕ → List ℕ → Type 0
 Low q xs = (i : ℕ) → i < length xs → getD xs i 0 < q
 
-low-unchecked : (q : ℕ) (lps : List Loop) (lines : List Line) → ((l : Line) → List·Memᴰ l lines → l .number < q) → Low q (notChecked lps lines)
+low-unchecked : (q : ℕ) (lps : List Loop) (lines : List Line) → ((l : Line) → List·Memᴰ l lines → l .number < q)
+    → Low q (notChecked lps lines)
 unfolding notChecked
 low-unchecked q lps [] f = λ i h. absurd (omega arith)
 low-unchecked q lps (l ∷ rest) f = go (checked (l .number) lps) (low-unchecked q lps rest (λ j m. f j (List·Memᴰ·tail m)))
@@ -52,14 +54,22 @@ module _ (k : Book) (ls : List ℤ) (g : GoodLines k ls) where
   unfolding uncheckedOf
   few-listed =
       let open-lines = notChecked (loopsOf (k .marks) ls) (standing ls) in
-      omega (arith, length-map open-lines pos, few-unchecked (loopsOf (k .marks) ls) (standing ls), few-standing ls, g .good .whole, g .good .few)
+      omega (
+        arith,
+        length-map open-lines pos,
+        few-unchecked (loopsOf (k .marks) ls) (standing ls),
+        few-standing ls,
+        g .good .whole,
+        g .good .few,
+      )
 
   -- each entry is the number of a line
   pub listed-numbers : (i : ℕ) → i < length (uncheckedOf (k .marks) ls) → natAbs (getD (uncheckedOf (k .marks) ls) i (pos 0)) ≤ mostLines
   unfolding uncheckedOf
   listed-numbers i h =
       let open-lines = notChecked (loopsOf (k .marks) ls) (standing ls) in
-      let low = low-unchecked (suc mostLines) (loopsOf (k .marks) ls) (standing ls) (λ l m. omega (arith, line-limits k ls g l m .number)) in
+      let low =
+      low-unchecked (suc mostLines) (loopsOf (k .marks) ls) (standing ls) (λ l m. omega (arith, line-limits k ls g l m .number)) in
       rw (List·getD-map pos open-lines i 0) (omega (arith, low i (omega (arith, length-map open-lines pos))))
 
   module _ {list list′ : List ℕ} {a : ℕ} (room : mostLines ≤ length list) (put : BookListed (k .marks) ls list list′ a) where

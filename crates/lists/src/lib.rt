@@ -51,8 +51,8 @@ pub fn listing(b: i64, t: i64, held: &[i64], lines: &[i64], number: i64, out: &m
     }
 }
 
-// The lines of all loops of the book, one loop after the other, each as its listing has them; the count of a loop's lines is the second number of
-// its row. A refusal leaves the output as it was.
+// The lines of all loops of the book, one loop after the other, each as its listing has them; the count of a loop's lines is the second
+// number of its row. A refusal leaves the output as it was.
 pub fn listings(b: i64, t: i64, held: &[i64], lines: &[i64], out: &mut [i64]) -> Listed
     ensures { λ r. ⌜ listing r (now (out .exit)) ≡ listingsOf (lent b t (now (held .entry)) (now (lines .entry))) (now (out .entry)) ⌝ }
 {

@@ -21,7 +21,8 @@ fn listed_by(code: u16) -> i64
 
 // The lines of a run, from place 0 of out on.
 pub fn list_run(run: &[u16], out: &mut [i64])
-    requires { ⌜ Coded (now run) ⌝ ∗ ⌜ length (now run) ≤ length (now out) ⌝ }
+    requires { ⌜ Coded (now run) ⌝
+        ∗ ⌜ length (now run) ≤ length (now out) ⌝ }
     ensures { λ _. ⌜ now (out .exit) ≡ map listedBy (now (run .entry)) ++ drop (length (now (run .entry))) (now (out .entry)) ⌝ }
 {
     let mut i = 0;

@@ -1,4 +1,5 @@
--- The rule "not added" never changes a loop: every loop's path is the shortest over the tree and all closing lines before its own. Assumes nothing.
+-- The rule "not added" never changes a loop: every loop's path is the shortest over the tree and all closing lines before its own.
+-- Assumes nothing.
 use Prim.Native.Nat.{ℕ}
 use mathlib.Core.Path.{_≡_, refl, ap₂, subst}
 use mathlib.Core.Logic.{_⊎_, inl, inr}
@@ -45,7 +46,8 @@ sound-only {lines = lines} sound ns = record {
 -- ---- there is only one list of loops
 
 -- two lists of loops of the same closing lines, each path the shortest, are one
-pub loops-of-unique : {lines : List Line} {sub : List ℕ} {cs : List Line} {ls ms : List Loop} → LoopsOf lines sub cs ls → LoopsOf lines sub cs ms → ls ≡ ms
+pub loops-of-unique : {lines : List Line} {sub : List ℕ} {cs : List Line} {ls ms : List Loop} → LoopsOf lines sub cs ls
+    → LoopsOf lines sub cs ms → ls ≡ ms
 loops-of-unique no-loop no-loop = refl
 loops-of-unique (loop-then {c = c} x p) (loop-then y q) =
     ap₂ (λ (path : List Pass) (ls : List Loop). (pass c true ∷ path) ∷ ls) (shortest-unique x y) (loops-of-unique p q)
@@ -76,7 +78,8 @@ abbrev pub Within : List ℕ → List ℕ → Type 0
 Within ns ms = (n : ℕ) → isIn n ns ≡ true → isIn n ms ≡ true
 
 -- so the subgraph's lines are among the lines of a larger one
-pub only-wider : (lines : List Line) (ns ms : List ℕ) → Within ns ms → (l : Line) → List·Memᴰ l (only ns lines) → List·Memᴰ l (only ms lines)
+pub only-wider : (lines : List Line) (ns ms : List ℕ) → Within ns ms → (l : Line) → List·Memᴰ l (only ns lines)
+    → List·Memᴰ l (only ms lines)
 only-wider lines ns ms h l m = let o = of-only ns lines l m in in-only ms lines l (o .0) (h (l .number) (o .1))
 
 module _ (b : ℕ) (lines : List Line) (sound : Sound b lines) where
@@ -100,7 +103,8 @@ module _ (b : ℕ) (lines : List Line) (sound : Sound b lines) where
   all-loops-from [] sub j = no-loop
   all-loops-from (c ∷ cs) sub j =
       let k = j c (List·Memᴰ·head refl) in
-      loop-then (path-back sub c (k .0) (k .1)) (all-loops-from cs (c .number ∷ sub) (joins-more sub (c .number ∷ sub) c cs (λ n h. in-more (c .number) n sub h) j))
+      loop-then (path-back sub c (k .0) (k .1)) (all-loops-from cs (c .number ∷ sub)
+      (joins-more sub (c .number ∷ sub) c cs (λ n h. in-more (c .number) n sub h) j))
 
   -- ---- the rule "not added"
 
@@ -120,7 +124,8 @@ module _ (b : ℕ) (lines : List Line) (sound : Sound b lines) where
       let k = w .joins c (List·Memᴰ·head refl) in
       shortest-of-more (only sub lines) (only full lines) (only-wider lines sub full (w .kept)) better (path-back sub c (k .0) (k .1))
     where
-      better : (d : Line) → List·Memᴰ d (only full lines) → List·Memᴰ d (only sub lines) ⊎ ((y : Line) × List·Memᴰ y (only sub lines) × Parallel y d × Lower y d)
+      better : (d : Line) → List·Memᴰ d (only full lines)
+          → List·Memᴰ d (only sub lines) ⊎ ((y : Line) × List·Memᴰ y (only sub lines) × Parallel y d × Lower y d)
       better d m = let o = of-only full lines d m in go (o .0) (w .better d (o .0) (o .1))
         where
           go : List·Memᴰ d lines → (isIn (d .number) sub ≡ true) ⊎ ((y : Line) × List·Memᴰ y (only sub lines) × Parallel y d × Lower y d)
@@ -129,7 +134,8 @@ module _ (b : ℕ) (lines : List Line) (sound : Sound b lines) where
           go i (inr h) = inr h
 
   -- the closing line is added
-  with-it : {sub full : List ℕ} (c : Line) {cs : List Line} → NotMissed sub full (c ∷ cs) → NotMissed (c .number ∷ sub) (c .number ∷ full) cs
+  with-it : {sub full : List ℕ} (c : Line) {cs : List Line} → NotMissed sub full (c ∷ cs)
+      → NotMissed (c .number ∷ sub) (c .number ∷ full) cs
   with-it {sub = sub} {full = full} c {cs = cs} w = record {
     kept = λ n h. kept n (first-or-in (c .number) n sub h);
     better = λ d m h. better d m (first-or-in (c .number) (d .number) full h);
@@ -143,18 +149,22 @@ module _ (b : ℕ) (lines : List Line) (sound : Sound b lines) where
       kept n (inr h) = in-more (c .number) n full (w .kept n h)
 
       better : (d : Line) → List·Memᴰ d lines → (c .number ≡ d .number) ⊎ (isIn (d .number) full ≡ true)
-          → (isIn (d .number) (c .number ∷ sub) ≡ true) ⊎ ((y : Line) × List·Memᴰ y (only (c .number ∷ sub) lines) × Parallel y d × Lower y d)
+          → (isIn (d .number) (c .number ∷ sub) ≡ true) ⊎ ((y : Line) × List·Memᴰ y (only (c .number ∷ sub) lines) × Parallel y d
+          × Lower y d)
       better d m (inl e) = inl (in-first (c .number) (d .number) sub e)
       better d m (inr h) = old (w .better d m h)
         where
           old : (isIn (d .number) sub ≡ true) ⊎ ((y : Line) × List·Memᴰ y (only sub lines) × Parallel y d × Lower y d)
-              → (isIn (d .number) (c .number ∷ sub) ≡ true) ⊎ ((y : Line) × List·Memᴰ y (only (c .number ∷ sub) lines) × Parallel y d × Lower y d)
+              → (isIn (d .number) (c .number ∷ sub) ≡ true)
+              ⊎ ((y : Line) × List·Memᴰ y (only (c .number ∷ sub) lines) × Parallel y d × Lower y d)
           old (inl h) = inl (in-more (c .number) (d .number) sub h)
           old (inr (y, i, q, z)) = inr (y, only-wider lines sub (c .number ∷ sub) (λ n h. in-more (c .number) n sub h) y i, q, z)
 
-      first : (d : Line) → List·Memᴰ d cs → (y : Line) → List·Memᴰ y lines → (c .number ≡ y .number) ⊎ (isIn (y .number) sub ≡ true) → Parallel y d → Lower y d
+      first : (d : Line) → List·Memᴰ d cs → (y : Line) → List·Memᴰ y lines → (c .number ≡ y .number) ⊎ (isIn (y .number) sub ≡ true)
+          → Parallel y d → Lower y d
       first d i y m (inl e) =
-          subst (λ (k : Line). Parallel k d → Lower k d) (unique lines (sound .rising) c y (w .joins c (List·Memᴰ·head refl) .0) m e) (pairwise-first (w .order) d i)
+          subst (λ (k : Line). Parallel k d → Lower k d) (unique lines (sound .rising) c y (w .joins c (List·Memᴰ·head refl) .0) m e)
+          (pairwise-first (w .order) d i)
       first d i y m (inr h) = w .first d (List·Memᴰ·tail i) y m h
 
   -- its path is one line: it is not added
@@ -177,13 +187,20 @@ module _ (b : ℕ) (lines : List Line) (sound : Sound b lines) where
       better d i (inl z) =
           subst (λ (k : Line). (isIn (k .number) sub ≡ true) ⊎ ((y : Line) × List·Memᴰ y (only sub lines) × Parallel y k × Lower y k))
           (unique lines (sound .rising) c d (w .joins c (List·Memᴰ·head refl) .0) i z)
-          (inr (p .line, m, one-line, w .first c (List·Memᴰ·head refl) (p .line) (of-only sub lines (p .line) m .0) (of-only sub lines (p .line) m .1) one-line))
+          (inr (
+            p .line,
+            m,
+            one-line,
+            w .first c (List·Memᴰ·head refl) (p .line) (of-only sub lines (p .line) m .0)
+                (of-only sub lines (p .line) m .1) one-line,
+          ))
       better d i (inr h) = w .better d i h
 
   loops-from : (cs : List Line) (sub full : List ℕ) → NotMissed sub full cs → LoopsOf lines full cs (loopsFrom b lines cs sub)
   unfolding loopsFrom
   loops-from [] sub full w = no-loop
-  loops-from (c ∷ cs) sub full w = loop-then (path-is w) (loops-from cs (added (c .number) path sub) (c .number ∷ full) (next path (path-walk)))
+  loops-from (c ∷ cs) sub full w =
+      loop-then (path-is w) (loops-from cs (added (c .number) path sub) (c .number ∷ full) (next path (path-walk)))
     where
       path : List Pass
       path = shortest b (only sub lines) (c .to) (c .from)
@@ -199,12 +216,17 @@ module _ (b : ℕ) (lines : List Line) (sound : Sound b lines) where
   -- ---- the theorems
 
   tree-joins : Joins (numbers (treeLines (tree b lines))) (closing lines (tree b lines))
-  tree-joins c m = (closing-line-stands b lines sound c m, joined lines (only (numbers (treeLines (tree b lines))) lines) (grows b lines (sound .placed)) holds c m)
+  tree-joins c m = (
+    closing-line-stands b lines sound c m,
+    joined lines (only (numbers (treeLines (tree b lines))) lines)
+        (grows b lines (sound .placed)) holds c m,
+  )
     where
       holds : (l : Line) → InTree (tree b lines) l → List·Memᴰ l (only (numbers (treeLines (tree b lines))) lines)
       holds l t =
           let i = in-treeLines (tree b lines) l t in
-          in-only (numbers (treeLines (tree b lines))) lines l (tree-line-stands b lines sound l i) (nos-isIn (treeLines (tree b lines)) l i)
+          in-only (numbers (treeLines (tree b lines))) lines l (tree-line-stands b lines sound l i)
+          (nos-isIn (treeLines (tree b lines)) l i)
 
   -- were every closing line added, each path would be the shortest over the tree and all closing lines before it
   pub all-loops-are : LoopsOf lines (numbers (treeLines (tree b lines))) (closing lines (tree b lines)) (allLoops b lines)
@@ -225,11 +247,13 @@ module _ (b : ℕ) (lines : List Line) (sound : Sound b lines) where
       sub : List ℕ
       sub = numbers (treeLines (tree b lines))
 
-      first : (c : Line) → List·Memᴰ c (closing lines (tree b lines)) → (y : Line) → List·Memᴰ y lines → isIn (y .number) sub ≡ true → Parallel y c → Lower y c
+      first : (c : Line) → List·Memᴰ c (closing lines (tree b lines)) → (y : Line) → List·Memᴰ y lines → isIn (y .number) sub ≡ true
+          → Parallel y c → Lower y c
       first c i y m h =
           let k = isIn-numbers (treeLines (tree b lines)) (y .number) h in
           let is : k .0 ≡ y = unique lines (sound .rising) (k .0) y (tree-line-stands b lines sound (k .0) (k .1)) m (k .2) in
-          entered-is-lower lines (sound .rising) (sound .apart) (tree-grows b lines sound) y c (subst (λ (l : Line). InTree (tree b lines) l) is (of-treeLines (tree b lines) (k .0) (k .1))) i
+          entered-is-lower lines (sound .rising) (sound .apart) (tree-grows b lines sound) y c
+          (subst (λ (l : Line). InTree (tree b lines) l) is (of-treeLines (tree b lines) (k .0) (k .1))) i
 
   -- the rule "A closing line whose path has one line is not added" never changes a loop
   pub not-added-never-matters : loops b lines ≡ allLoops b lines

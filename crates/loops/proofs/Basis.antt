@@ -34,7 +34,8 @@ abbrev pub AllClosed : List Line → List Loop → Type 0
 AllClosed lines ls = (lp : Loop) → List·Memᴰ lp ls → (r : ℕ) × Walk lines r r lp
 
 -- a sum of multiples of closed walks comes to every mark as often as it leaves it
-pub at-combine : (lines : List Line) → Rising lines → (m : ℕ) (ks : List ℤ) (ls : List Loop) → AllClosed lines ls → at (combine ks ls) m lines ≡ pos 0
+pub at-combine : (lines : List Line) → Rising lines → (m : ℕ) (ks : List ℤ) (ls : List Loop) → AllClosed lines ls
+    → at (combine ks ls) m lines ≡ pos 0
 unfolding combine
 at-combine lines rs m [] ls c = at-zero m lines
 at-combine lines rs m (k ∷ ks) [] c = at-zero m lines
@@ -76,7 +77,8 @@ pub data Triangular : List Line → List Loop → Type 0 where
       → ((d : Line) → List·Memᴰ d cs → passes lp (d .number) ≡ pos 0) → Triangular cs ls → Triangular (c ∷ cs) (lp ∷ ls)
 
 -- the loops are so: a path runs only over lines that are in the subgraph by then
-pub triangular : {lines : List Line} {sub : List ℕ} {cs : List Line} {ls : List Loop} → ToCome lines sub cs → LoopsOf lines sub cs ls → Triangular cs ls
+pub triangular : {lines : List Line} {sub : List ℕ} {cs : List Line} {ls : List Loop} → ToCome lines sub cs → LoopsOf lines sub cs ls
+    → Triangular cs ls
 unfolding passes once
 triangular t no-loop = no-more-loops
 triangular {lines = lines} t (loop-then {sub = sub} {c = c} {cs = cs} {path = path} x p) = own-then own later (triangular (come-next t) p)
@@ -91,11 +93,13 @@ triangular {lines = lines} t (loop-then {sub = sub} {c = c} {cs = cs} {path = pa
     later d i = rw (ne-eqb (c .number) (d .number) (pairwise-first (t .differ) d i), off d (List·Memᴰ·tail i))
 
 -- at a later closing line the first loop adds nothing; at its own it adds its multiple
-first-adds-nothing : (k : ℤ) (ks : List ℤ) (lp : Loop) (ls : List Loop) (n : ℕ) → passes lp n ≡ pos 0 → combine (k ∷ ks) (lp ∷ ls) n ≡ combine ks ls n
+first-adds-nothing : (k : ℤ) (ks : List ℤ) (lp : Loop) (ls : List Loop) (n : ℕ) → passes lp n ≡ pos 0
+    → combine (k ∷ ks) (lp ∷ ls) n ≡ combine ks ls n
 unfolding combine
 first-adds-nothing k ks lp ls n h = rw (h, *ℤ-zero k, +ℤ-idl)
 
-first-adds-itself : (k : ℤ) (ks : List ℤ) (lp : Loop) (ls : List Loop) (n : ℕ) → passes lp n ≡ pos 1 → combine (k ∷ ks) (lp ∷ ls) n ≡ k +ℤ combine ks ls n
+first-adds-itself : (k : ℤ) (ks : List ℤ) (lp : Loop) (ls : List Loop) (n : ℕ) → passes lp n ≡ pos 1
+    → combine (k ∷ ks) (lp ∷ ls) n ≡ k +ℤ combine ks ls n
 unfolding combine one
 first-adds-itself k ks lp ls n h = rw (h, *ℤ-one k)
 
@@ -106,7 +110,8 @@ multiples f no-more-loops = ([], refl, λ c m. absurd (List·Memᴰ·not-nil m))
 multiples f (own-then {c = c} {cs = cs} {lp = lp} {ls = ls} own later t) = go (multiples f t)
   where
     go : (ks : List ℤ) × (length ks ≡ length ls) × ((d : Line) → List·Memᴰ d cs → f (d .number) ≡ combine ks ls (d .number))
-        → (ks : List ℤ) × (length ks ≡ suc (length ls)) × ((d : Line) → List·Memᴰ d (c ∷ cs) → f (d .number) ≡ combine ks (lp ∷ ls) (d .number))
+        → (ks : List ℤ) × (length ks ≡ suc (length ls)) × ((d : Line) → List·Memᴰ d (c ∷ cs) → f (d .number)
+        ≡ combine ks (lp ∷ ls) (d .number))
     go (ks, n, g) = (k ∷ ks, ap suc n, at-each)
       where
         k : ℤ
@@ -119,7 +124,8 @@ multiples f (own-then {c = c} {cs = cs} {lp = lp} {ls = ls} own later t) = go (m
         at-each d (List·Memᴰ·tail i) = g d i ∙ sym (first-adds-nothing k ks lp ls (d .number) (later d i))
 
 -- and in one way only
-pub multiples-unique : {cs : List Line} {ls : List Loop} → Triangular cs ls → (ks js : List ℤ) → length ks ≡ length ls → length js ≡ length ls
+pub multiples-unique : {cs : List Line} {ls : List Loop} → Triangular cs ls → (ks js : List ℤ) → length ks ≡ length ls
+    → length js ≡ length ls
     → ((c : Line) → List·Memᴰ c cs → combine ks ls (c .number) ≡ combine js ls (c .number)) → ks ≡ js
 multiples-unique no-more-loops [] [] p q h = refl
 multiples-unique no-more-loops [] (j ∷ js) p q h = absurd (omega (arith, q))
@@ -128,7 +134,8 @@ multiples-unique (own-then own later t) [] js p q h = absurd (omega (arith, p))
 multiples-unique (own-then own later t) (k ∷ ks) [] p q h = absurd (omega (arith, q))
 multiples-unique (own-then {c = c} {cs = cs} {lp = lp} {ls = ls} own later t) (k ∷ ks) (j ∷ js) p q h =
     go (multiples-unique t ks js (omega (arith, p)) (omega (arith, q)) (λ d i.
-    sym (first-adds-nothing k ks lp ls (d .number) (later d i)) ∙ h d (List·Memᴰ·tail i) ∙ first-adds-nothing j js lp ls (d .number) (later d i)))
+    sym (first-adds-nothing k ks lp ls (d .number) (later d i)) ∙ h d (List·Memᴰ·tail i)
+    ∙ first-adds-nothing j js lp ls (d .number) (later d i)))
   where
     go : ks ≡ js → _≡_ {A = List ℤ} (k ∷ ks) (j ∷ js)
     go rest = ap₂ _∷_ firsts rest
@@ -148,12 +155,14 @@ module _ (b : ℕ) (lines : List Line) (sound : Sound b lines) where
   pub all-closed : AllClosed lines (loops b lines)
   all-closed lp i = let k = loop-has-closing-line b lines sound lp i in (k .0 .from, k .2 .closed)
 
-  -- a closed walk that agrees with a sum of loops over the closing lines agrees with it over every line: the rest is balanced and runs in the tree only
+  -- a closed walk that agrees with a sum of loops over the closing lines agrees with it over every line: the rest is balanced and runs in
+  -- the tree only
   agrees : (r : ℕ) {w : List Pass} → Walk lines r r w → (ks : List ℤ)
       → ((c : Line) → List·Memᴰ c (closing lines (tree b lines)) → passes w (c .number) ≡ combine ks (loops b lines) (c .number))
       → (l : Line) → List·Memᴰ l lines → passes w (l .number) ≡ combine ks (loops b lines) (l .number)
   agrees r {w = w} x ks h l m =
-      diff-zero (passes w (l .number)) (combine ks (loops b lines) (l .number)) (tree-zero lines (sound .rising) rest balanced (grows b lines (sound .placed)) off l m)
+      diff-zero (passes w (l .number)) (combine ks (loops b lines) (l .number))
+      (tree-zero lines (sound .rising) rest balanced (grows b lines (sound .placed)) off l m)
     where
       rest : ℕ → ℤ
       rest n = passes w n +ℤ negsuc 0 *ℤ combine ks (loops b lines) n
@@ -162,7 +171,8 @@ module _ (b : ℕ) (lines : List Line) (sound : Sound b lines) where
       balanced m =
           at-add (passes w) (λ n. negsuc 0 *ℤ combine ks (loops b lines) n) m lines
           ∙ ap₂ (λ (a c : ℤ). a +ℤ c) (at-closed lines (sound .rising) r m x)
-          (at-mul (negsuc 0) (combine ks (loops b lines)) m lines ∙ ap (λ (z : ℤ). negsuc 0 *ℤ z) (at-combine lines (sound .rising) m ks (loops b lines) all-closed))
+          (at-mul (negsuc 0) (combine ks (loops b lines)) m lines
+          ∙ ap (λ (z : ℤ). negsuc 0 *ℤ z) (at-combine lines (sound .rising) m ks (loops b lines) all-closed))
 
       off : (l : Line) → List·Memᴰ l lines → NotTree (tree b lines) l → rest (l .number) ≡ pos 0
       off l m n = hit (tree-line-or-closing-line b lines sound l m)
@@ -171,12 +181,14 @@ module _ (b : ℕ) (lines : List Line) (sound : Sound b lines) where
           hit (inl i) = let t = of-treeLines (tree b lines) l i in absurd (n (t .0) (t .1) (t .2))
           hit (inr c) = zero-diff (passes w (l .number)) (combine ks (loops b lines) (l .number)) (h l c)
 
-  -- for every closed walk along standing lines there are whole numbers, one to each loop, such that it is the sum of these multiples of the loops; and no others
+  -- for every closed walk along standing lines there are whole numbers, one to each loop, such that it is the sum of these multiples of
+  -- the loops; and no others
   pub basis : (r : ℕ) {w : List Pass} → Walk lines r r w
       → (ks : List ℤ) × SumOf lines (loops b lines) w ks × ((js : List ℤ) → SumOf lines (loops b lines) w js → js ≡ ks)
   basis r {w = w} x = go (multiples (passes w) loops-triangular)
     where
-      go : (ks : List ℤ) × (length ks ≡ length (loops b lines)) × ((c : Line) → List·Memᴰ c (closing lines (tree b lines)) → passes w (c .number) ≡ combine ks (loops b lines) (c .number))
+      go : (ks : List ℤ) × (length ks ≡ length (loops b lines))
+          × ((c : Line) → List·Memᴰ c (closing lines (tree b lines)) → passes w (c .number) ≡ combine ks (loops b lines) (c .number))
           → (ks : List ℤ) × SumOf lines (loops b lines) w ks × ((js : List ℤ) → SumOf lines (loops b lines) w js → js ≡ ks)
       go (ks, n, h) = (
         ks,

@@ -26,7 +26,8 @@ use Rattle.loops.proofs.Basis.{passes-none, basis}
 passes-one : {w : List Pass} → OnlyOnce w → (n : ℕ) → runs n w ≡ true → (passes w n ≡ pos 1) ⊎ (passes w n ≡ negsuc 0)
 unfolding passes once runs
 passes-one no-pair n h = absurd (false≢true h)
-passes-one (pairs {a = p} {rest = ps} f o) n h = go (eqb (p .line .number) n) refl (or-true (eqb (p .line .number) n) (runs n ps) h) (passes-one o n)
+passes-one (pairs {a = p} {rest = ps} f o) n h =
+    go (eqb (p .line .number) n) refl (or-true (eqb (p .line .number) n) (runs n ps) h) (passes-one o n)
   where
     sign : (s : Bool) (z : ℤ) → z ≡ pos 0 → (sense s +ℤ z ≡ pos 1) ⊎ (sense s +ℤ z ≡ negsuc 0)
     sign true z e = inl (ap (λ (x : ℤ). pos 1 +ℤ x) e)
@@ -78,10 +79,12 @@ checked-by n (l ∷ ls) h = go (or-true (runs n l) (checked n ls) h) (checked-by
 pub in-notChecked : (ls : List Loop) (lines : List Line) (l : Line) → List·Memᴰ l lines → checked (l .number) ls ≡ false
     → List·Memᴰ (l .number) (notChecked ls lines)
 unfolding notChecked
-in-notChecked ls (k ∷ rest) l (List·Memᴰ·head e) h = rw (ap (λ (x : Line). checked (x .number) ls) (sym e) ∙ h) (List·Memᴰ·head (ap (λ (x : Line). x .number) e))
+in-notChecked ls (k ∷ rest) l (List·Memᴰ·head e) h =
+    rw (ap (λ (x : Line). checked (x .number) ls) (sym e) ∙ h) (List·Memᴰ·head (ap (λ (x : Line). x .number) e))
 in-notChecked ls (k ∷ rest) l (List·Memᴰ·tail m) h = go (checked (k .number) ls) (in-notChecked ls rest l m h)
   where
-    go : (t : Bool) → List·Memᴰ (l .number) (notChecked ls rest) → List·Memᴰ (l .number) (cond t (notChecked ls rest) (k .number ∷ notChecked ls rest))
+    go : (t : Bool) → List·Memᴰ (l .number) (notChecked ls rest)
+        → List·Memᴰ (l .number) (cond t (notChecked ls rest) (k .number ∷ notChecked ls rest))
     go true i = i
     go false i = List·Memᴰ·tail i
 
@@ -152,7 +155,8 @@ module _ (b : ℕ) (lines : List Line) (sound : Sound b lines) where
 
       back : (l : Line) × List·Memᴰ l lines × (n ≡ l .number) × (Circuit lines n → ⊥) → List·Memᴰ n (notChecked (loops b lines) lines)
       back (l, m, e, f) =
-          Memᴰ·cast e (in-notChecked (loops b lines) lines l m (not-in (checked (l .number) (loops b lines)) (λ h. f (subst (Circuit lines) (sym e) (checked-iff-circuit l m .0 h)))))
+          Memᴰ·cast e (in-notChecked (loops b lines) lines l m
+          (not-in (checked (l .number) (loops b lines)) (λ h. f (subst (Circuit lines) (sym e) (checked-iff-circuit l m .0 h)))))
 
   -- "The not-checked list goes by rising line number."
   pub not-checked-rises : Pairwise (λ (m n : ℕ). m < n) (notChecked (loops b lines) lines)

@@ -12,13 +12,20 @@ use Rattle.network.specs.Sound.{Rising, Placed, Apart}
 use Rattle.network.proofs.Count.{closing-count}
 use Rattle.loops.specs.Loops.{loops, loopsFrom}
 
-module _ (b : ℕ) (lines : List Line) (placed : (l : Line) → List·Memᴰ l lines → Placed b l) (rising : Rising lines) (apart : Apart lines) where
-  -- each closing line has one loop
-  pub each-loop : (cs : List Line) (sub : List ℕ) → length (loopsFrom b lines cs sub) ≡ length cs
-  unfolding loopsFrom
-  each-loop [] sub = refl
-  each-loop (c ∷ cs) sub = ap suc (each-loop cs _)
+module _ (b : ℕ) (lines : List Line) (placed : (l : Line) → List·Memᴰ l lines → Placed b l) (rising : Rising lines) (apart : Apart lines)
+  where
+    -- each closing line has one loop
+    pub each-loop : (cs : List Line) (sub : List ℕ) → length (loopsFrom b lines cs sub) ≡ length cs
+    unfolding loopsFrom
+    each-loop [] sub = refl
+    each-loop (c ∷ cs) sub = ap suc (each-loop cs _)
 
-  pub loops-count : length (loops b lines) + b ≡ length lines + pieces (tree b lines)
-  unfolding loops
-  loops-count = omega (arith, each-loop (closing lines (tree b lines)) (numbers (treeLines (tree b lines))), closing-count b lines placed rising apart)
+    pub loops-count : length (loops b lines) + b ≡ length lines + pieces (tree b lines)
+    unfolding loops
+    loops-count =
+        omega (
+          arith,
+          each-loop (closing lines (tree b lines)) (numbers (treeLines (tree b lines))),
+          closing-count b lines placed rising
+              apart,
+        )

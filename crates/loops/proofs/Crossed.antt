@@ -100,10 +100,13 @@ crossed-by es n (c ∷ cs) h = go (or-true (eqb (c .number) n || crosses es n c)
     go (inr x) ih = let k = ih x in (k .0, List·Memᴰ·tail (k .1), k .2)
 
 -- and the other way
-pub in-crossed : (es : Tree) (n : ℕ) (cs : List Line) (c : Line) → List·Memᴰ c cs → (c .number ≡ n) ⊎ (crosses es n c ≡ true) → crossed es n cs ≡ true
+pub in-crossed : (es : Tree) (n : ℕ) (cs : List Line) (c : Line) → List·Memᴰ c cs → (c .number ≡ n) ⊎ (crosses es n c ≡ true)
+    → crossed es n cs ≡ true
 unfolding crossed
-in-crossed es n (k ∷ cs) c (List·Memᴰ·head e) h = rw (one-checks es n k (subst (λ (x : Line). (x .number ≡ n) ⊎ (crosses es n x ≡ true)) e h))
-in-crossed es n (k ∷ cs) c (List·Memᴰ·tail i) h = or-right (eqb (k .number) n || crosses es n k) (crossed es n cs) (in-crossed es n cs c i h)
+in-crossed es n (k ∷ cs) c (List·Memᴰ·head e) h =
+    rw (one-checks es n k (subst (λ (x : Line). (x .number ≡ n) ⊎ (crosses es n x ≡ true)) e h))
+in-crossed es n (k ∷ cs) c (List·Memᴰ·tail i) h =
+    or-right (eqb (k .number) n || crosses es n k) (crossed es n cs) (in-crossed es n cs c i h)
 
 -- ---- the loop of the first closing line that crosses line n runs over it
 
@@ -114,14 +117,16 @@ module _ (es : Tree) (lines : List Line) (rising : Rising lines) (n : ℕ) where
 
   -- a line that does not cross line n may be added
   still-uncrossed : (sub : List ℕ) (c : Line) → List·Memᴰ c lines → crosses es n c ≡ false → Uncrossed sub → Uncrossed (c .number ∷ sub)
-  still-uncrossed sub c i h f k j d = go (of-only (c .number ∷ sub) lines k j .0) (first-or-in (c .number) (k .number) sub (of-only (c .number ∷ sub) lines k j .1))
+  still-uncrossed sub c i h f k j d =
+      go (of-only (c .number ∷ sub) lines k j .0) (first-or-in (c .number) (k .number) sub (of-only (c .number ∷ sub) lines k j .1))
     where
       go : List·Memᴰ k lines → (c .number ≡ k .number) ⊎ (isIn (k .number) sub ≡ true) → crosses es n k ≡ false
       go m (inl e) = subst (λ (x : Line). crosses es n x ≡ false) (unique lines rising c k i m e) h
       go m (inr e) = f k (in-only sub lines k m e) d
 
   -- so if one of the closing lines crosses line n, a loop runs it
-  crossed-runs : {sub : List ℕ} {cs : List Line} {ls : List Loop} → LoopsOf lines sub cs ls → ((c : Line) → List·Memᴰ c cs → List·Memᴰ c lines) → Uncrossed sub
+  crossed-runs : {sub : List ℕ} {cs : List Line} {ls : List Loop} → LoopsOf lines sub cs ls
+      → ((c : Line) → List·Memᴰ c cs → List·Memᴰ c lines) → Uncrossed sub
       → (c : Line) → List·Memᴰ c cs → crosses es n c ≡ true → checked n ls ≡ true
   unfolding checked runs crosses
   crossed-runs no-loop m f c i h = absurd (List·Memᴰ·not-nil i)
@@ -132,16 +137,19 @@ module _ (es : Tree) (lines : List Line) (rising : Rising lines) (n : ℕ) where
       rest e (List·Memᴰ·head z) = clash h (ap (crosses es n) z ∙ e)
       rest e (List·Memᴰ·tail j) = j
 
-      go : (t : Bool) → crosses es n d ≡ t → (r : Bool) → runs n path ≡ r → (Uncrossed (d .number ∷ sub) → List·Memᴰ c cs → checked n ls ≡ true)
+      go : (t : Bool) → crosses es n d ≡ t → (r : Bool) → runs n path ≡ r
+          → (Uncrossed (d .number ∷ sub) → List·Memᴰ c cs → checked n ls ≡ true)
           → ((eqb (d .number) n || r) || checked n ls) ≡ true
       go true e true q ih = ap (λ (t : Bool). t || checked n ls) (or-right (eqb (d .number) n) true refl)
       go true e false q ih =
           let stays = walk-stays es n (x .isWalk) (λ p j. f (p .line) (pass-line (x .isWalk) p j) (λ z. clash (runs-mem n path p j z) q)) in
           clash e (same-differ (onWay es n (d .from)) (onWay es n (d .to)) (sym stays))
-      go false e r q ih = or-right (eqb (d .number) n || r) (checked n ls) (ih (still-uncrossed sub d (m d (List·Memᴰ·head refl)) e f) (rest e i))
+      go false e r q ih =
+          or-right (eqb (d .number) n || r) (checked n ls) (ih (still-uncrossed sub d (m d (List·Memᴰ·head refl)) e f) (rest e i))
 
   -- a closing line's own loop runs it
-  closing-runs : {sub : List ℕ} {cs : List Line} {ls : List Loop} → LoopsOf lines sub cs ls → (c : Line) → List·Memᴰ c cs → c .number ≡ n → checked n ls ≡ true
+  closing-runs : {sub : List ℕ} {cs : List Line} {ls : List Loop} → LoopsOf lines sub cs ls → (c : Line) → List·Memᴰ c cs → c .number ≡ n
+      → checked n ls ≡ true
   unfolding checked runs
   closing-runs no-loop c i e = absurd (List·Memᴰ·not-nil i)
   closing-runs (loop-then {c = d} x l) c (List·Memᴰ·head z) e = rw (eq-eqb (d .number) n (ap (λ (k : Line). k .number) (sym z) ∙ e))
@@ -167,7 +175,8 @@ module _ (b : ℕ) (lines : List Line) (sound : Sound b lines) where
 
   -- a tree line crosses itself and no other line
   tree-line-crosses : (k : Line) → List·Memᴰ k (treeLines es) → (n : ℕ) → crosses es n k ≡ eqb (k .number) n
-  tree-line-crosses k i n = crosses-itself-only lines (sound .rising) (sound .apart) (grows b lines (sound .placed)) k (of-treeLines es k i) n
+  tree-line-crosses k i n =
+      crosses-itself-only lines (sound .rising) (sound .apart) (grows b lines (sound .placed)) k (of-treeLines es k i) n
 
   -- at the start the subgraph is the tree, and none of its lines crosses another
   tree-uncrossed : (n : ℕ) → Uncrossed es lines (sound .rising) n (numbers (treeLines es))
@@ -183,24 +192,32 @@ module _ (b : ℕ) (lines : List Line) (sound : Sound b lines) where
   run-is-crossed l i lp j h none-crosses =
       let w = loop-has-closing-line b lines sound lp j in
       let p = runs-of (l .number) lp h in
-      let is : p .0 .line ≡ l = unique lines (sound .rising) (p .0 .line) l (pass-line (w .2 .closed) (p .0) (p .1)) (tree-line-stands b lines sound l i) (p .2) in
+      let is : p .0 .line ≡ l =
+      unique lines (sound .rising) (p .0 .line) l (pass-line (w .2 .closed) (p .0) (p .1)) (tree-line-stands b lines sound l i)
+      (p .2) in
       clash (tree-line-crosses l i (l .number) ∙ eq-eqb (l .number) (l .number) refl)
-      (ap (crosses es (l .number)) (sym is) ∙ walk-over es (l .number) (w .2 .closed) (w .2 .noLineTwice) (others (w .2 .closed)) refl (p .0) (p .1) (p .2))
+      (ap (crosses es (l .number)) (sym is) ∙ walk-over es (l .number) (w .2 .closed) (w .2 .noLineTwice) (others (w .2 .closed)) refl
+      (p .0) (p .1) (p .2))
     where
-      others : {r : ℕ} → Walk lines r r lp → (q : Pass) → List·Memᴰ q lp → (q .line .number ≡ l .number → ⊥) → crosses es (l .number) (q .line) ≡ false
+      others : {r : ℕ} → Walk lines r r lp → (q : Pass) → List·Memᴰ q lp → (q .line .number ≡ l .number → ⊥)
+          → crosses es (l .number) (q .line) ≡ false
       others x q k d = go (tree-line-or-closing-line b lines sound (q .line) (pass-line x q k))
         where
           go : List·Memᴰ (q .line) (treeLines es) ⊎ List·Memᴰ (q .line) (closing lines es) → crosses es (l .number) (q .line) ≡ false
           go (inl t) = tree-line-crosses (q .line) t (l .number) ∙ ne-eqb (q .line .number) (l .number) d
-          go (inr c) = not-in (crosses es (l .number) (q .line)) (λ z. clash (in-crossed es (l .number) (closing lines es) (q .line) c (inr z)) none-crosses)
+          go (inr c) =
+              not-in (crosses es (l .number) (q .line)) (λ z. clash (in-crossed es (l .number) (closing lines es) (q .line) c (inr z))
+              none-crosses)
 
   -- a standing line is run in a loop exactly if it is a closing line or a closing line crosses it
   pub checked-iff-crossed : (l : Line) → List·Memᴰ l lines
       → (checked (l .number) (loops b lines) ≡ true)
-      ↔ (List·Memᴰ l (closing lines (tree b lines)) ⊎ ((c : Line) × List·Memᴰ c (closing lines (tree b lines)) × (crosses (tree b lines) (l .number) c ≡ true)))
+      ↔ (List·Memᴰ l (closing lines (tree b lines)) ⊎ ((c : Line) × List·Memᴰ c (closing lines (tree b lines))
+      × (crosses (tree b lines) (l .number) c ≡ true)))
   checked-iff-crossed l m = (λ h. to h (tree-line-or-closing-line b lines sound l m), back)
     where
-      by-tree : List·Memᴰ l (treeLines es) → checked (l .number) (loops b lines) ≡ true → (t : Bool) → crossed es (l .number) (closing lines es) ≡ t
+      by-tree : List·Memᴰ l (treeLines es) → checked (l .number) (loops b lines) ≡ true → (t : Bool)
+          → crossed es (l .number) (closing lines es) ≡ t
           → (c : Line) × List·Memᴰ c (closing lines es) × (crosses es (l .number) c ≡ true)
       by-tree i h false e = let lp = checked-by (l .number) (loops b lines) h in absurd (run-is-crossed l i (lp .0) (lp .1) (lp .2) e)
       by-tree i h true e = go (crossed-by es (l .number) (closing lines es) e)
@@ -215,25 +232,30 @@ module _ (b : ℕ) (lines : List Line) (sound : Sound b lines) where
       to h (inl i) = inr (by-tree i h (crossed es (l .number) (closing lines es)) refl)
       to h (inr i) = inl i
 
-      back : List·Memᴰ l (closing lines es) ⊎ ((c : Line) × List·Memᴰ c (closing lines es) × (crosses es (l .number) c ≡ true)) → checked (l .number) (loops b lines) ≡ true
+      back : List·Memᴰ l (closing lines es) ⊎ ((c : Line) × List·Memᴰ c (closing lines es) × (crosses es (l .number) c ≡ true))
+          → checked (l .number) (loops b lines) ≡ true
       back (inl i) = closing-runs es lines (sound .rising) (l .number) (loops-are b lines sound) l i refl
       back (inr (c, i, h)) =
-          crossed-runs es lines (sound .rising) (l .number) (loops-are b lines sound) (closing-line-stands b lines sound) (tree-uncrossed (l .number)) c i h
+          crossed-runs es lines (sound .rising) (l .number) (loops-are b lines sound) (closing-line-stands b lines sound)
+          (tree-uncrossed (l .number)) c i h
 
   -- the same as an equation: what is checked is worked out from the tree and the closing lines, without the loops
-  pub checked-is-crossed : (l : Line) → List·Memᴰ l lines → checked (l .number) (loops b lines) ≡ crossed (tree b lines) (l .number) (closing lines (tree b lines))
+  pub checked-is-crossed : (l : Line) → List·Memᴰ l lines
+      → checked (l .number) (loops b lines) ≡ crossed (tree b lines) (l .number) (closing lines (tree b lines))
   checked-is-crossed l m = same-test (checked (l .number) (loops b lines)) (crossed es (l .number) (closing lines es)) to back
     where
       to : checked (l .number) (loops b lines) ≡ true → crossed es (l .number) (closing lines es) ≡ true
       to h = go (checked-iff-crossed l m .0 h)
         where
-          go : List·Memᴰ l (closing lines es) ⊎ ((c : Line) × List·Memᴰ c (closing lines es) × (crosses es (l .number) c ≡ true)) → crossed es (l .number) (closing lines es) ≡ true
+          go : List·Memᴰ l (closing lines es) ⊎ ((c : Line) × List·Memᴰ c (closing lines es) × (crosses es (l .number) c ≡ true))
+              → crossed es (l .number) (closing lines es) ≡ true
           go (inl i) = in-crossed es (l .number) (closing lines es) l i (inl refl)
           go (inr (c, i, z)) = in-crossed es (l .number) (closing lines es) c i (inr z)
 
       back : crossed es (l .number) (closing lines es) ≡ true → checked (l .number) (loops b lines) ≡ true
       back h = go (crossed-by es (l .number) (closing lines es) h)
         where
-          go : (c : Line) × List·Memᴰ c (closing lines es) × ((c .number ≡ l .number) ⊎ (crosses es (l .number) c ≡ true)) → checked (l .number) (loops b lines) ≡ true
+          go : (c : Line) × List·Memᴰ c (closing lines es) × ((c .number ≡ l .number) ⊎ (crosses es (l .number) c ≡ true))
+              → checked (l .number) (loops b lines) ≡ true
           go (c, i, inl z) = closing-runs es lines (sound .rising) (l .number) (loops-are b lines sound) c i z
           go (c, i, inr z) = checked-iff-crossed l m .1 (inr (c, i, z))

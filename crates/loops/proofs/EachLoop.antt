@@ -1,5 +1,5 @@
--- Each loop has its closing line once, forward and first, is closed, runs no line twice and no more lines than there are marks, and no earlier loop runs its
--- closing line. Assumes nothing.
+-- Each loop has its closing line once, forward and first, is closed, runs no line twice and no more lines than there are marks, and no
+-- earlier loop runs its closing line. Assumes nothing.
 use Prim.Native.Nat.{ℕ, suc, _+_, _≤_, _<_}
 use native.Mathlib.Omega.{arith}
 use mathlib.Core.Path.{_≡_, refl, sym, _∙_, ap, subst}
@@ -40,7 +40,8 @@ pub record ToCome (lines : List Line) (sub : List ℕ) (cs : List Line) : Type 0
   pub notYet : (c : Line) → List·Memᴰ c cs → isIn (c .number) sub ≡ false
 
 -- once the first of them is added, that holds of the others
-pub come-next : {lines : List Line} {sub : List ℕ} {c : Line} {cs : List Line} → ToCome lines sub (c ∷ cs) → ToCome lines (c .number ∷ sub) cs
+pub come-next : {lines : List Line} {sub : List ℕ} {c : Line} {cs : List Line} → ToCome lines sub (c ∷ cs)
+    → ToCome lines (c .number ∷ sub) cs
 come-next {lines = lines} {sub = sub} {c = c} {cs = cs} t = record {
   stand = λ k i. t .stand k (List·Memᴰ·tail i);
   differ = pairwise-rest (t .differ);
@@ -52,7 +53,8 @@ come-next {lines = lines} {sub = sub} {c = c} {cs = cs} t = record {
     out k i (inr h) = clash h (t .notYet k (List·Memᴰ·tail i))
 
 -- a walk in the subgraph runs over no line that is not yet in it
-pub avoids : (lines : List Line) (sub : List ℕ) {r u : ℕ} {w : List Pass} → Walk (only sub lines) r u w → (n : ℕ) → isIn n sub ≡ false → (p : Pass)
+pub avoids : (lines : List Line) (sub : List ℕ) {r u : ℕ} {w : List Pass} → Walk (only sub lines) r u w → (n : ℕ) → isIn n sub ≡ false
+    → (p : Pass)
     → List·Memᴰ p w → p .line .number ≡ n → ⊥
 avoids lines sub x n h p i e = clash (of-only sub lines (p .line) (pass-line x p i) .1) (ap (λ (k : ℕ). isIn k sub) e ∙ h)
 
@@ -65,7 +67,8 @@ runs-not n (p ∷ ps) h = rw (ne-eqb (p .line .number) n (h p (List·Memᴰ·hea
 -- ---- each loop
 
 -- loops whose paths are the shortest are one to one with their closing lines, and each is what document 01 calls a loop
-pub loops-one-to-one : {b : ℕ} {lines : List Line} → Sound b lines → {sub : List ℕ} {cs : List Line} {ls : List Loop} → ToCome lines sub cs → LoopsOf lines sub cs ls
+pub loops-one-to-one : {b : ℕ} {lines : List Line} → Sound b lines → {sub : List ℕ} {cs : List Line} {ls : List Loop}
+    → ToCome lines sub cs → LoopsOf lines sub cs ls
     → OneToOne (IsLoopOf lines) cs ls
 loops-one-to-one sound t no-loop = none-left
 loops-one-to-one {b = b} {lines = lines} sound t (loop-then {sub = sub} {c = c} {cs = cs} {path = path} x p) =
@@ -74,12 +77,14 @@ loops-one-to-one {b = b} {lines = lines} sound t (loop-then {sub = sub} {c = c} 
       closingFirst = refl;
       closed = step refl (t .stand c (List·Memᴰ·head refl)) (walk-wider (λ l m. of-only sub lines l m .0) (x .isWalk));
       noMarkTwice = shortest-no-mark-twice b (only sub lines) (sound-only sound sub) x;
-      noLineTwice = pairs (λ q i z. avoids lines sub (x .isWalk) (c .number) (t .notYet c (List·Memᴰ·head refl)) q i (sym z)) (shortest-no-line-twice b (only sub lines) (sound-only sound sub) x);
+      noLineTwice = pairs (λ q i z. avoids lines sub (x .isWalk) (c .number) (t .notYet c (List·Memᴰ·head refl)) q i (sym z))
+          (shortest-no-line-twice b (only sub lines) (sound-only sound sub) x);
     })
     (loops-one-to-one sound (come-next t) p)
 
 -- what holds one to one holds of each loop
-pub one-of : {R : Line → Loop → Type 0} {cs : List Line} {ls : List Loop} → OneToOne R cs ls → (lp : Loop) → List·Memᴰ lp ls → (c : Line) × List·Memᴰ c cs × R c lp
+pub one-of : {R : Line → Loop → Type 0} {cs : List Line} {ls : List Loop} → OneToOne R cs ls → (lp : Loop) → List·Memᴰ lp ls
+    → (c : Line) × List·Memᴰ c cs × R c lp
 one-of none-left lp i = absurd (List·Memᴰ·not-nil i)
 one-of {R = R} (each {c = c} x p) lp (List·Memᴰ·head e) = (c, List·Memᴰ·head refl, subst (R c) (sym e) x)
 one-of (each x p) lp (List·Memᴰ·tail i) = let k = one-of p lp i in (k .0, List·Memᴰ·tail (k .1), k .2)
@@ -94,9 +99,11 @@ loop-closes (loop-then {c = c} x p) lp (List·Memᴰ·tail i) = let k = loop-clo
 earlier-avoid : {lines : List Line} {sub : List ℕ} {cs : List Line} {ls : List Loop} → ToCome lines sub cs → LoopsOf lines sub cs ls
     → Pairwise (λ (lp later : Loop). runs (closingNumber later) lp ≡ false) ls
 earlier-avoid t no-loop = no-pair
-earlier-avoid {lines = lines} t (loop-then {sub = sub} {c = c} {cs = cs} {path = path} {ls = ls} x p) = pairs (λ later i. go later (loop-closes p later i)) (earlier-avoid (come-next t) p)
+earlier-avoid {lines = lines} t (loop-then {sub = sub} {c = c} {cs = cs} {path = path} {ls = ls} x p) =
+    pairs (λ later i. go later (loop-closes p later i)) (earlier-avoid (come-next t) p)
   where
-    go : (later : Loop) → (d : Line) × List·Memᴰ d cs × (closingNumber later ≡ d .number) → runs (closingNumber later) (pass c true ∷ path) ≡ false
+    go : (later : Loop) → (d : Line) × List·Memᴰ d cs × (closingNumber later ≡ d .number)
+        → runs (closingNumber later) (pass c true ∷ path) ≡ false
     go later (d, i, e) = rw e (runs-not (d .number) (pass c true ∷ path) other)
       where
         other : (q : Pass) → List·Memᴰ q (pass c true ∷ path) → q .line .number ≡ d .number → ⊥
@@ -111,16 +118,20 @@ module _ (b : ℕ) (lines : List Line) (sound : Sound b lines) where
   closing-lines-to-come = record {
     stand = closing-line-stands b lines sound;
     differ = each-line-closes-once b lines sound;
-    notYet = λ c i. not-in (isIn (c .number) (numbers (treeLines (tree b lines)))) (λ h. let k = isIn-numbers (treeLines (tree b lines)) (c .number) h in
+    notYet =
+        λ c i. not-in (isIn (c .number) (numbers (treeLines (tree b lines))))
+        (λ h. let k = isIn-numbers (treeLines (tree b lines)) (c .number) h in
         never-tree-line-and-closing-line b lines sound (k .0) c (k .1) i (sym (k .2)));
   }
 
-  -- loops and closing lines are one to one, in their order; each loop has its closing line once, forward and first, is closed, and runs no line twice
+  -- loops and closing lines are one to one, in their order; each loop has its closing line once, forward and first, is closed, and runs
+  -- no line twice
   pub each-loop-is : OneToOne (IsLoopOf lines) (closing lines (tree b lines)) (loops b lines)
   each-loop-is = loops-one-to-one sound closing-lines-to-come (loops-are b lines sound)
 
   -- so each loop belongs to a closing line
-  pub loop-has-closing-line : (lp : Loop) → List·Memᴰ lp (loops b lines) → (c : Line) × List·Memᴰ c (closing lines (tree b lines)) × IsLoopOf lines c lp
+  pub loop-has-closing-line : (lp : Loop) → List·Memᴰ lp (loops b lines)
+      → (c : Line) × List·Memᴰ c (closing lines (tree b lines)) × IsLoopOf lines c lp
   loop-has-closing-line lp i = one-of each-loop-is lp i
 
   -- no more lines than the book has marks, and but for the closing line no more than the tree has

@@ -13,7 +13,8 @@ use Rattle.loops.specs.LinesInAll.{linesInAll}
 pub listings-length : (ls : List Loop) → length (listings ls) ≡ linesInAll ls
 unfolding listings linesInAll
 listings-length [] = refl
-listings-length (lp ∷ ls) = length-append (map listed lp) (listings ls) ∙ ap₂ (λ (a b : ℕ). a + b) (length-map lp listed) (listings-length ls)
+listings-length (lp ∷ ls) =
+    length-append (map listed lp) (listings ls) ∙ ap₂ (λ (a b : ℕ). a + b) (length-map lp listed) (listings-length ls)
 
 -- one loop more
 pub lines-more : (ls : List Loop) (i : ℕ) → i < length ls → linesInAll (take (suc i) ls) ≡ linesInAll (take i ls) + length (loopAt ls i)
@@ -34,9 +35,11 @@ pub listed-after : (ls : List Loop) (i : ℕ) → i < length ls → (rest : List
 unfolding listings linesInAll loopAt
 listed-after [] i h rest = absurd (omega arith)
 listed-after (l ∷ ls) zero h rest =
-    ap (take (length l)) (append-assoc (map listed l) (listings ls) rest) ∙ take-at (map listed l) (listings ls ++ rest) (length l) (length-map l listed)
+    ap (take (length l)) (append-assoc (map listed l) (listings ls) rest)
+    ∙ take-at (map listed l) (listings ls ++ rest) (length l) (length-map l listed)
 listed-after (l ∷ ls) (suc i) h rest =
     let n : length l + linesInAll (take i ls) ≡ length (map listed l) + linesInAll (take i ls) = omega (arith, length-map l listed) in
     ap (λ (xs : List ℤ). take (length (loopAt ls i)) xs)
-    (ap₂ drop n (append-assoc (map listed l) (listings ls) rest) ∙ drop-append-add (map listed l) (listings ls ++ rest) (linesInAll (take i ls)))
+    (ap₂ drop n (append-assoc (map listed l) (listings ls) rest)
+    ∙ drop-append-add (map listed l) (listings ls ++ rest) (linesInAll (take i ls)))
     ∙ listed-after ls i (omega arith) rest

@@ -4,7 +4,8 @@ use native.Mathlib.Omega.{arith}
 use mathlib.Core.Path.{_≡_, refl, sym, _∙_, ap, ap₂, subst}
 use mathlib.Core.Bool.{Bool, true, false}
 use mathlib.Core.List.{List, [], _∷_, List·Memᴰ, List·Memᴰ·head, List·Memᴰ·tail}
-use lib.IntN.{ℤ, pos, negsuc, negℤ, _+ℤ_, _*ℤ_, sucℤ, predℤ, +ℤ-idl, +ℤ-idr, +ℤ-one, -ℤ-one, zero-*ℤ, *ℤ-zero, *ℤ-one, *ℤ-comm, sucℤ-*ℤ, predℤ-*ℤ, one, ℤ-ind}
+use lib.IntN.{ℤ, pos, negsuc, negℤ, _+ℤ_, _*ℤ_, sucℤ, predℤ, +ℤ-idl, +ℤ-idr, +ℤ-one, -ℤ-one, zero-*ℤ, *ℤ-zero, *ℤ-one, *ℤ-comm, sucℤ-*ℤ}
+use lib.IntN.{predℤ-*ℤ, one, ℤ-ind}
 use borrow.Author.Tests.{eq-eqb, ne-eqb}
 use Rattle.network.specs.Standing.{Line}
 use Rattle.network.specs.Sound.{Rising, then, Sound}
@@ -27,7 +28,8 @@ module _ (k x : ℤ) where
 
   swap-pred : (d : ℤ) → Swap d → Swap (predℤ d)
   unfolding Swap
-  swap-pred d h = rw (predℤ-*ℤ d (k *ℤ x), predℤ-*ℤ d x, h) (sym (*ℤ-distrib (d *ℤ x) (negℤ x) k ∙ ap (λ (z : ℤ). k *ℤ (d *ℤ x) +ℤ z) (*ℤ-neg k x)))
+  swap-pred d h =
+      rw (predℤ-*ℤ d (k *ℤ x), predℤ-*ℤ d x, h) (sym (*ℤ-distrib (d *ℤ x) (negℤ x) k ∙ ap (λ (z : ℤ). k *ℤ (d *ℤ x) +ℤ z) (*ℤ-neg k x)))
 
   -- d*(k*x) is k*(d*x)
   pub *ℤ-swap : (d : ℤ) → d *ℤ (k *ℤ x) ≡ k *ℤ (d *ℤ x)
@@ -43,7 +45,8 @@ unfoldable pub spread : (ℕ → ℤ) → List Line → ℤ
 spread f [] = pos 0
 spread f (l ∷ ls) = l .difference *ℤ f (l .number) +ℤ spread f ls
 
-spread-same : (f g : ℕ → ℤ) (lines : List Line) → ((l : Line) → List·Memᴰ l lines → f (l .number) ≡ g (l .number)) → spread f lines ≡ spread g lines
+spread-same : (f g : ℕ → ℤ) (lines : List Line) → ((l : Line) → List·Memᴰ l lines → f (l .number) ≡ g (l .number))
+    → spread f lines ≡ spread g lines
 unfolding spread
 spread-same f g [] h = refl
 spread-same f g (l ∷ ls) h =
@@ -53,7 +56,8 @@ spread-zero : (f : ℕ → ℤ) (lines : List Line) → ((l : Line) → List·Me
 unfolding spread
 spread-zero f [] h = refl
 spread-zero f (l ∷ ls) h =
-    ap₂ (λ (x y : ℤ). x +ℤ y) (ap (λ (x : ℤ). l .difference *ℤ x) (h l (List·Memᴰ·head refl)) ∙ *ℤ-zero (l .difference)) (spread-zero f ls (λ k i. h k (List·Memᴰ·tail i)))
+    ap₂ (λ (x y : ℤ). x +ℤ y) (ap (λ (x : ℤ). l .difference *ℤ x) (h l (List·Memᴰ·head refl)) ∙ *ℤ-zero (l .difference))
+    (spread-zero f ls (λ k i. h k (List·Memᴰ·tail i)))
 
 spread-add : (f g : ℕ → ℤ) (lines : List Line) → spread (λ n. f n +ℤ g n) lines ≡ spread f lines +ℤ spread g lines
 unfolding spread
@@ -80,7 +84,8 @@ once-other : (p : Pass) (n : ℕ) → (p .line .number ≡ n → ⊥) → once p
 unfolding once
 once-other p n d = rw (ne-eqb (p .line .number) n d)
 
-spread-once : (p : Pass) (lines : List Line) → Rising lines → List·Memᴰ (p .line) lines → spread (once p) lines ≡ signed (p .forward) (p .line .difference)
+spread-once : (p : Pass) (lines : List Line) → Rising lines → List·Memᴰ (p .line) lines
+    → spread (once p) lines ≡ signed (p .forward) (p .line .difference)
 unfolding spread once
 spread-once p (l ∷ ls) (then above r) (List·Memᴰ·head e) =
     rw (
@@ -91,15 +96,19 @@ spread-once p (l ∷ ls) (then above r) (List·Memᴰ·head e) =
     )
     (ap (λ (x : Line). signed (p .forward) (x .difference)) (sym e))
 spread-once p (l ∷ ls) (then above r) (List·Memᴰ·tail i) =
-    rw (ne-eqb (p .line .number) (l .number) (λ z. omega (arith, above (p .line) i, z)), *ℤ-zero (l .difference), +ℤ-idl) (spread-once p ls r i)
+    rw (ne-eqb (p .line .number) (l .number) (λ z. omega (arith, above (p .line) i, z)), *ℤ-zero (l .difference), +ℤ-idl)
+    (spread-once p ls r i)
 
-misclosure-spread : {lines : List Line} → Rising lines → {r u : ℕ} {w : List Pass} → Walk lines r u w → misclosure w ≡ spread (passes w) lines
+misclosure-spread : {lines : List Line} → Rising lines → {r u : ℕ} {w : List Pass} → Walk lines r u w
+    → misclosure w ≡ spread (passes w) lines
 unfolding misclosure passes
 misclosure-spread {lines = lines} rising (here e) = sym (spread-zero (λ n. pos 0) lines (λ l i. refl))
 misclosure-spread {lines = lines} rising (step {p = p} {ps = ps} s m w) =
-    ap₂ (λ (x y : ℤ). x +ℤ y) (sym (spread-once p lines rising m)) (misclosure-spread rising w) ∙ sym (spread-add (once p) (passes ps) lines)
+    ap₂ (λ (x y : ℤ). x +ℤ y) (sym (spread-once p lines rising m)) (misclosure-spread rising w)
+    ∙ sym (spread-add (once p) (passes ps) lines)
 
-combine-spread : {lines : List Line} → Rising lines → (ks : List ℤ) (ls : List Loop) → AllClosed lines ls → spread (combine ks ls) lines ≡ combineMisclosures ks ls
+combine-spread : {lines : List Line} → Rising lines → (ks : List ℤ) (ls : List Loop) → AllClosed lines ls
+    → spread (combine ks ls) lines ≡ combineMisclosures ks ls
 unfolding combine combineMisclosures
 combine-spread {lines = lines} rising [] ls c = spread-zero (λ n. pos 0) lines (λ l i. refl)
 combine-spread {lines = lines} rising (k ∷ ks) [] c = spread-zero (λ n. pos 0) lines (λ l i. refl)
@@ -114,7 +123,8 @@ unfolding combineMisclosures
 no-misclosure [] ls h = refl
 no-misclosure (k ∷ ks) [] h = refl
 no-misclosure (k ∷ ks) (l ∷ ls) h =
-    ap₂ (λ (x y : ℤ). x +ℤ y) (ap (λ (z : ℤ). k *ℤ z) (h l (List·Memᴰ·head refl)) ∙ *ℤ-zero k) (no-misclosure ks ls (λ lp i. h lp (List·Memᴰ·tail i)))
+    ap₂ (λ (x y : ℤ). x +ℤ y) (ap (λ (z : ℤ). k *ℤ z) (h l (List·Memᴰ·head refl)) ∙ *ℤ-zero k)
+    (no-misclosure ks ls (λ lp i. h lp (List·Memᴰ·tail i)))
 
 -- ---- the theorems
 
@@ -128,5 +138,6 @@ module _ (b : ℕ) (lines : List Line) (sound : Sound b lines) where
       ∙ combine-spread (sound .rising) ks (loops b lines) (all-closed b lines sound)
 
   -- so where every loop's misclosure is 0, every closed walk sums to 0
-  pub all-close : ((lp : Loop) → List·Memᴰ lp (loops b lines) → misclosure lp ≡ pos 0) → (r : ℕ) {w : List Pass} → Walk lines r r w → misclosure w ≡ pos 0
+  pub all-close : ((lp : Loop) → List·Memᴰ lp (loops b lines) → misclosure lp ≡ pos 0) → (r : ℕ) {w : List Pass} → Walk lines r r w
+      → misclosure w ≡ pos 0
   all-close h r x = let s = basis b lines sound r x in misclosure-is-sum r x (s .0) (s .1) ∙ no-misclosure (s .0) (loops b lines) h

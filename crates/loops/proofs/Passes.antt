@@ -3,7 +3,8 @@ use Prim.Native.Nat.{ℕ}
 use mathlib.Core.Path.{_≡_, refl, sym, _∙_, ap, ap₂, subst}
 use mathlib.Core.Bool.{Bool, true, false}
 use mathlib.Core.List.{List, [], _∷_, List·Memᴰ}
-use lib.IntN.{ℤ, pos, negsuc, negℤ, _+ℤ_, _*ℤ_, sucℤ, predℤ, +ℤ-idl, +ℤ-idr, +ℤ-assoc, +ℤ-comm, +ℤ-invr, +ℤ-invl, +ℤ-one, -ℤ-one, negℤ-+ℤ, zero-*ℤ, *ℤ-zero, sucℤ-*ℤ, predℤ-*ℤ, ℤ-ind}
+use lib.IntN.{ℤ, pos, negsuc, negℤ, _+ℤ_, _*ℤ_, sucℤ, predℤ, +ℤ-idl, +ℤ-idr, +ℤ-assoc, +ℤ-comm, +ℤ-invr, +ℤ-invl, +ℤ-one, -ℤ-one, negℤ-+ℤ}
+use lib.IntN.{zero-*ℤ, *ℤ-zero, sucℤ-*ℤ, predℤ-*ℤ, ℤ-ind}
 use lib.Dec.{eqb}
 use borrow.Author.Tests.{eq-eqb, ne-eqb}
 use Rattle.network.specs.Standing.{Line}
@@ -23,7 +24,8 @@ pub four : (a b c d : ℤ) → (a +ℤ b) +ℤ (c +ℤ d) ≡ (a +ℤ c) +ℤ (b
 four a b c d = simp (+ℤ-assoc, +ℤ-left-comm)
 
 module _ (x y : ℤ) where
-  -- the law at k; it passes to the next number and to the one before. (At a variable k: at `pos n` the sum computes, and `rw` no longer finds it)
+  -- the law at k; it passes to the next number and to the one before. (At a variable k: at `pos n` the sum computes, and `rw` no longer
+  -- finds it)
   Dist : ℤ → Type 0
   Dist k = k *ℤ (x +ℤ y) ≡ k *ℤ x +ℤ k *ℤ y
 
@@ -104,7 +106,8 @@ at-once lines r p i m =
     others k j d = zero-share (once p) k m (rw (ne-eqb (p .line .number) (k .number) (λ z. d (sym z))))
 
     own : (f : Bool) → sides (eqb (p .line .to) m) (eqb (p .line .from) m) (sense f)
-        ≡ passIf (eqb (end f (p .line .to) (p .line .from)) m) (pos 1) +ℤ negℤ (passIf (eqb (end f (p .line .from) (p .line .to)) m) (pos 1))
+        ≡ passIf (eqb (end f (p .line .to) (p .line .from)) m) (pos 1) +ℤ negℤ
+        (passIf (eqb (end f (p .line .from) (p .line .to)) m) (pos 1))
     own true = onward-bits (eqb (p .line .to) m) (eqb (p .line .from) m)
     own false = back-bits (eqb (p .line .to) m) (eqb (p .line .from) m)
 

@@ -31,7 +31,8 @@ loop-is (l ∷ ls) zero h = refl
 loop-is (l ∷ ls) (suc i) h = loop-is ls i (omega arith)
 
 -- what holds of each loop and every later one
-pub pairs-at : {R : Loop → Loop → Type 0} {ls : List Loop} → Pairwise R ls → (i j : ℕ) → i < j → j < length ls → R (loopAt ls i) (loopAt ls j)
+pub pairs-at : {R : Loop → Loop → Type 0} {ls : List Loop} → Pairwise R ls → (i j : ℕ) → i < j → j < length ls
+    → R (loopAt ls i) (loopAt ls j)
 unfolding loopAt
 pairs-at (pairs f p) zero (suc j) l h = f _ (loop-at-is _ j (omega arith))
 pairs-at (pairs f p) (suc i) (suc j) l h = pairs-at p i j (omega arith) (omega arith)

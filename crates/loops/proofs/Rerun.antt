@@ -31,8 +31,11 @@ module _ (g : Line → ℤ) where
   added-same c (p ∷ q ∷ ps) sub = refl
 
   path-same : (b : ℕ) (lines : List Line) (sub : List ℕ) (c : Line)
-      → shortest b (only sub (map (measured g) lines)) (c .to) (c .from) ≡ map (measuredPass g) (shortest b (only sub lines) (c .to) (c .from))
-  path-same b lines sub c = ap (λ (ls : List Line). shortest b ls (c .to) (c .from)) (only-same g sub lines) ∙ shortest-same g b (only sub lines) (c .to) (c .from)
+      → shortest b (only sub (map (measured g) lines)) (c .to) (c .from)
+      ≡ map (measuredPass g) (shortest b (only sub lines) (c .to) (c .from))
+  path-same b lines sub c =
+      ap (λ (ls : List Line). shortest b ls (c .to) (c .from)) (only-same g sub lines)
+      ∙ shortest-same g b (only sub lines) (c .to) (c .from)
 
   loopsFrom-same : (b : ℕ) (lines cs : List Line) (sub : List ℕ)
       → loopsFrom b (map (measured g) lines) (map (measured g) cs) sub ≡ map (map (measuredPass g)) (loopsFrom b lines cs sub)
@@ -40,12 +43,16 @@ module _ (g : Line → ℤ) where
   loopsFrom-same b lines [] sub = refl
   loopsFrom-same b lines (c ∷ cs) sub =
       ap₂ (λ (path : List Pass) (ls : List Loop). (pass (measured g c) true ∷ path) ∷ ls) (path-same b lines sub c)
-      (ap (loopsFrom b (map (measured g) lines) (map (measured g) cs)) (ap (λ (path : List Pass). added (c .number) path sub) (path-same b lines sub c) ∙ added-same (c .number) (shortest b (only sub lines) (c .to) (c .from)) sub)
+      (ap (loopsFrom b (map (measured g) lines) (map (measured g) cs))
+      (ap (λ (path : List Pass). added (c .number) path sub) (path-same b lines sub c)
+      ∙ added-same (c .number) (shortest b (only sub lines) (c .to) (c .from)) sub)
       ∙ loopsFrom-same b lines cs (added (c .number) (shortest b (only sub lines) (c .to) (c .from)) sub))
 
-  tree-numbers-same : (b : ℕ) (lines : List Line) → numbers (treeLines (tree b (map (measured g) lines))) ≡ numbers (treeLines (tree b lines))
+  tree-numbers-same : (b : ℕ) (lines : List Line)
+      → numbers (treeLines (tree b (map (measured g) lines))) ≡ numbers (treeLines (tree b lines))
   tree-numbers-same b lines =
-      ap (λ (t : Tree). numbers (treeLines t)) (tree-same g b lines) ∙ ap numbers (treeLines-same g (tree b lines)) ∙ numbers-same g (treeLines (tree b lines))
+      ap (λ (t : Tree). numbers (treeLines t)) (tree-same g b lines) ∙ ap numbers (treeLines-same g (tree b lines))
+      ∙ numbers-same g (treeLines (tree b lines))
 
   closing-lines-same : (b : ℕ) (lines : List Line)
       → closing (map (measured g) lines) (tree b (map (measured g) lines)) ≡ map (measured g) (closing lines (tree b lines))
@@ -83,7 +90,8 @@ module _ (n : ℕ) (d : ℤ) where
   -- the closing lines close in the same order
   pub rerun-keeps-closing-lines : (b : ℕ) (lines : List Line)
       → numbers (closing (redone n d lines) (tree b (redone n d lines))) ≡ numbers (closing lines (tree b lines))
-  rerun-keeps-closing-lines b lines = ap numbers (closing-lines-same (newDifference n d) b lines) ∙ numbers-same (newDifference n d) (closing lines (tree b lines))
+  rerun-keeps-closing-lines b lines =
+      ap numbers (closing-lines-same (newDifference n d) b lines) ∙ numbers-same (newDifference n d) (closing lines (tree b lines))
 
   -- the pieces are as many
   pub rerun-keeps-pieces : (b : ℕ) (lines : List Line) → pieces (tree b (redone n d lines)) ≡ pieces (tree b lines)
@@ -108,7 +116,8 @@ module _ (n : ℕ) (d : ℤ) where
   -- a pass over another line is the same
   other-pass : (p : Pass) → (p .line .number ≡ n → ⊥) → redonePass n d p ≡ p
   other-pass p h =
-      ap (λ (t : Bool). pass (line (p .line .number) (p .line .from) (p .line .to) (cond t d (p .line .difference)) (p .line .length)) (p .forward)) (ne-eqb (p .line .number) n h)
+      ap (λ (t : Bool). pass (line (p .line .number) (p .line .from) (p .line .to) (cond t d (p .line .difference)) (p .line .length))
+      (p .forward)) (ne-eqb (p .line .number) n h)
 
   -- a loop without the line is the same, and so is its row
   pub rerun-keeps-other-loops : (lp : Loop) → runs n lp ≡ false → map (redonePass n d) lp ≡ lp
@@ -116,7 +125,8 @@ module _ (n : ℕ) (d : ℤ) where
   rerun-keeps-other-loops [] h = refl
   rerun-keeps-other-loops (p ∷ ps) h = go (eqb (p .line .number) n) (runs n ps) refl refl h (rerun-keeps-other-loops ps)
     where
-      go : (s t : Bool) → eqb (p .line .number) n ≡ s → runs n ps ≡ t → (s || t) ≡ false → (runs n ps ≡ false → map (redonePass n d) ps ≡ ps)
+      go : (s t : Bool) → eqb (p .line .number) n ≡ s → runs n ps ≡ t → (s || t) ≡ false
+          → (runs n ps ≡ false → map (redonePass n d) ps ≡ ps)
           → _≡_ {A = Loop} (redonePass n d p ∷ map (redonePass n d) ps) (p ∷ ps)
       go true t x y e ih = absurd (true≢false e)
       go false t x y e ih = ap₂ _∷_ (other-pass p (eqb-false (p .line .number) n x)) (ih (y ∙ e))
@@ -131,13 +141,16 @@ module _ (n : ℕ) (d : ℤ) where
   pass-moves l p h = go (eqb (p .line .number) n) refl
     where
       go : (t : Bool) → eqb (p .line .number) n ≡ t
-          → signed (p .forward) (cond t d (p .line .difference)) ≡ signed (p .forward) (p .line .difference) +ℤ (d -ℤ l .difference) *ℤ passIf t (sense (p .forward))
+          → signed (p .forward) (cond t d (p .line .difference))
+          ≡ signed (p .forward) (p .line .difference) +ℤ (d -ℤ l .difference) *ℤ passIf t (sense (p .forward))
       go true e =
           let one : p .line .difference ≡ l .difference = ap (λ (k : Line). k .difference) (h (eqb-true (p .line .number) n e)) in
           sym (ap₂ (λ (x y : ℤ). signed (p .forward) x +ℤ y) one (times-sense (d -ℤ l .difference) (p .forward))
           ∙ signed-add (p .forward) (l .difference) (d -ℤ l .difference)
           ∙ ap (signed (p .forward)) (+ℤ-comm (l .difference) (d -ℤ l .difference) ∙ -ℤ-+ℤ-cancel d (l .difference)))
-      go false e = sym (ap (λ (z : ℤ). signed (p .forward) (p .line .difference) +ℤ z) (*ℤ-zero (d -ℤ l .difference)) ∙ +ℤ-idr (signed (p .forward) (p .line .difference)))
+      go false e =
+          sym (ap (λ (z : ℤ). signed (p .forward) (p .line .difference) +ℤ z) (*ℤ-zero (d -ℤ l .difference))
+          ∙ +ℤ-idr (signed (p .forward) (p .line .difference)))
 
   -- the misclosure moves by the line's signed passes times what its difference moved
   pub rerun-moves-misclosure : (l : Line) (lp : Loop) → ((p : Pass) → List·Memᴰ p lp → p .line .number ≡ n → p .line ≡ l)
@@ -146,5 +159,7 @@ module _ (n : ℕ) (d : ℤ) where
   rerun-moves-misclosure l [] h = sym (ap (λ (z : ℤ). pos 0 +ℤ z) (*ℤ-zero (d -ℤ l .difference)))
   rerun-moves-misclosure l (p ∷ ps) h =
       ap₂ (λ (x y : ℤ). x +ℤ y) (pass-moves l p (h p (List·Memᴰ·head refl))) (rerun-moves-misclosure l ps (λ q i. h q (List·Memᴰ·tail i)))
-      ∙ four (signed (p .forward) (p .line .difference)) ((d -ℤ l .difference) *ℤ once p n) (misclosure ps) ((d -ℤ l .difference) *ℤ passes ps n)
-      ∙ ap (λ (z : ℤ). signed (p .forward) (p .line .difference) +ℤ misclosure ps +ℤ z) (sym (*ℤ-distrib (once p n) (passes ps n) (d -ℤ l .difference)))
+      ∙ four (signed (p .forward) (p .line .difference)) ((d -ℤ l .difference) *ℤ once p n) (misclosure ps)
+      ((d -ℤ l .difference) *ℤ passes ps n)
+      ∙ ap (λ (z : ℤ). signed (p .forward) (p .line .difference) +ℤ misclosure ps +ℤ z)
+      (sym (*ℤ-distrib (once p n) (passes ps n) (d -ℤ l .difference)))

@@ -21,11 +21,14 @@ use Rattle.loops.specs.Row.{misclosure, lineAllows, allowances, total, w
 pub allowances-sum : (t : ℕ) (lp : Loop) → total (allowances t lp) ≡ t * t * wayLength lp
 unfolding total allowances lineAllows wayLength
 allowances-sum t [] = sym (mul-zero (t * t))
-allowances-sum t (p ∷ ps) = ap (λ (n : ℕ). t * t * p .line .length + n) (allowances-sum t ps) ∙ sym (mul-add (t * t) (p .line .length) (wayLength ps))
+allowances-sum t (p ∷ ps) =
+    ap (λ (n : ℕ). t * t * p .line .length + n) (allowances-sum t ps) ∙ sym (mul-add (t * t) (p .line .length) (wayLength ps))
 
 -- what a loop's lines allow is 10*t*t*L, L being the row's length
 pub allowable : (t : ℕ) (lp : Loop) → 10 * total (allowances t lp) ≡ 10 * t * t * wayLength lp
-allowable t lp = ap (λ (n : ℕ). 10 * n) (allowances-sum t lp) ∙ sym (mul-assoc 10 (t * t) (wayLength lp)) ∙ ap (λ (n : ℕ). n * wayLength lp) (sym (mul-assoc 10 t t))
+allowable t lp =
+    ap (λ (n : ℕ). 10 * n) (allowances-sum t lp) ∙ sym (mul-assoc 10 (t * t) (wayLength lp))
+    ∙ ap (λ (n : ℕ). n * wayLength lp) (sym (mul-assoc 10 t t))
 
 -- ---- the verdict
 
@@ -34,7 +37,8 @@ verdict-of true h = refl
 verdict-of false h = let e : _≡_ {A = ℕ} 0 1 = cc in absurd (omega arith)
 
 -- "a loop is within exactly if m*m <= 10*t*t*L; equal is within"
-pub within-exactly-if : (t : ℕ) (lp : Loop) → (verdict t lp ≡ pos 0) ↔ (natAbs (misclosure lp) * natAbs (misclosure lp) ≤ 10 * t * t * wayLength lp)
+pub within-exactly-if : (t : ℕ) (lp : Loop)
+    → (verdict t lp ≡ pos 0) ↔ (natAbs (misclosure lp) * natAbs (misclosure lp) ≤ 10 * t * t * wayLength lp)
 unfolding verdict within
 within-exactly-if t lp = (to, back)
   where
@@ -42,7 +46,9 @@ within-exactly-if t lp = (to, back)
     m = natAbs (misclosure lp) * natAbs (misclosure lp)
 
     to : cond (leb m (10 * total (allowances t lp))) (pos 0) (pos 1) ≡ pos 0 → m ≤ 10 * t * t * wayLength lp
-    to h = subst (λ (n : ℕ). m ≤ n) (allowable t lp) (leb-true m (10 * total (allowances t lp)) (verdict-of (leb m (10 * total (allowances t lp))) h))
+    to h =
+        subst (λ (n : ℕ). m ≤ n) (allowable t lp) (leb-true m (10 * total (allowances t lp))
+        (verdict-of (leb m (10 * total (allowances t lp))) h))
 
     back : m ≤ 10 * t * t * wayLength lp → cond (leb m (10 * total (allowances t lp))) (pos 0) (pos 1) ≡ pos 0
     back h = rw (le-leb m (10 * total (allowances t lp)) (subst (λ (n : ℕ). m ≤ n) (sym (allowable t lp)) h))
@@ -51,7 +57,8 @@ within-exactly-if t lp = (to, back)
 pub over-else : (t : ℕ) (lp : Loop) → 10 * t * t * wayLength lp < natAbs (misclosure lp) * natAbs (misclosure lp) → verdict t lp ≡ pos 1
 unfolding verdict within
 over-else t lp h =
-    rw (lt-leb (natAbs (misclosure lp) * natAbs (misclosure lp)) (10 * total (allowances t lp)) (subst (λ (n : ℕ). n < natAbs (misclosure lp) * natAbs (misclosure lp)) (sym (allowable t lp)) h))
+    rw (lt-leb (natAbs (misclosure lp) * natAbs (misclosure lp)) (10 * total (allowances t lp))
+    (subst (λ (n : ℕ). n < natAbs (misclosure lp) * natAbs (misclosure lp)) (sym (allowable t lp)) h))
 
 -- ---- "A report row is five numbers"
 

@@ -21,14 +21,22 @@ unfolding wayLength
 length-at-most m [] h = omega arith
 length-at-most m (p ∷ ps) h = omega (arith, h p (List·Memᴰ·head refl), length-at-most m ps (λ q i. h q (List·Memᴰ·tail i)))
 
-pub misclosure-at-most : (m : ℕ) (lp : Loop) → ((p : Pass) → List·Memᴰ p lp → natAbs (p .line .difference) ≤ m) → natAbs (misclosure lp) ≤ length lp * m
+pub misclosure-at-most : (m : ℕ) (lp : Loop) → ((p : Pass) → List·Memᴰ p lp → natAbs (p .line .difference) ≤ m)
+    → natAbs (misclosure lp) ≤ length lp * m
 unfolding misclosure
 misclosure-at-most m [] h = omega arith
 misclosure-at-most m (p ∷ ps) h =
     let d = p .line .difference in
-    omega (arith, size-add (signed (p .forward) d) (misclosure ps), size-signed (p .forward) d, h p (List·Memᴰ·head refl), misclosure-at-most m ps (λ q i. h q (List·Memᴰ·tail i)))
+    omega (
+      arith,
+      size-add (signed (p .forward) d) (misclosure ps),
+      size-signed (p .forward) d,
+      h p (List·Memᴰ·head refl),
+      misclosure-at-most m ps (λ q i. h q (List·Memᴰ·tail i)),
+    )
 
-pub listed-at-most : (m : ℕ) (lp : Loop) → ((p : Pass) → List·Memᴰ p lp → p .line .number ≤ m) → (i : ℕ) → i < length (map listed lp) → natAbs (getD (map listed lp) i (pos 0)) ≤ m
+pub listed-at-most : (m : ℕ) (lp : Loop) → ((p : Pass) → List·Memᴰ p lp → p .line .number ≤ m) → (i : ℕ) → i < length (map listed lp)
+    → natAbs (getD (map listed lp) i (pos 0)) ≤ m
 listed-at-most m [] h i l = absurd (omega arith)
 listed-at-most m (p ∷ ps) h zero l = omega (arith, size-signed (p .forward) (pos (p .line .number)), h p (List·Memᴰ·head refl))
 listed-at-most m (p ∷ ps) h (suc i) l = listed-at-most m ps (λ q j. h q (List·Memᴰ·tail j)) i (omega arith)

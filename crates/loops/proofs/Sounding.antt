@@ -1,4 +1,5 @@
--- The standing lines of a tested book are sound, which is what the theorems on tree, paths and loops ask for, and within the limits; and there are few loops.
+-- The standing lines of a tested book are sound, which is what the theorems on tree, paths and loops ask for, and within the limits; and
+-- there are few loops.
 -- Assumes nothing.
 use native.Mathlib.Omega.{arith}
 use mathlib.Core.Path.{_≡_, sym, _∙_, ap, subst}
@@ -48,13 +49,24 @@ module _ (k : Book) (lines : List ℤ) (good : GoodLines k lines) where
   line-limits l m =
       let w = of-standing lines l m in
       let g = there (w .0) (w .1 .isThere) in
-      subst LineLimits (sym (w .1 .its)) (record { number = omega (arith, w .1 .isThere, good .good .whole, good .good .few); difference = g .difference; length = g .long .high })
+      subst LineLimits (sym (w .1 .its)) (record {
+        number = omega (arith, w .1 .isThere, good .good .whole, good .good .few);
+        difference
+            = g .difference;
+        length = g .long .high;
+      })
 
   -- no more loops than lines
   pub few-loops : length (loopsOf (k .marks) lines) ≤ k .lines
   unfolding loopsOf
   few-loops =
-      omega (arith, loops-are-counted (k .marks) (standing lines) lines-sound, tree-lines-count (k .marks) (standing lines) lines-sound, few-standing lines, good .good .whole)
+      omega (
+        arith,
+        loops-are-counted (k .marks) (standing lines) lines-sound,
+        tree-lines-count (k .marks) (standing lines) lines-sound,
+        few-standing lines,
+        good .good .whole,
+      )
 
   pub report-length : length (reportOf (k .marks) (k .tolerance) lines) ≡ length (loopsOf (k .marks) lines) * rowWords
   unfolding reportOf

@@ -44,7 +44,9 @@ module _ {ls : List Loop} {starts runs : List ℕ} {count : ℕ} (t : Table ls s
   all-runs = ap (take (length (runsOf ls))) (t .held) ∙ take-at (runsOf ls) (drop (length (runsOf ls)) runs) (length (runsOf ls)) refl
 
   pub last-end : getD starts count 0 ≡ length (runsOf ls)
-  last-end = rw (t .counted) (t .begins (length ls) (omega arith) ∙ ap (λ (l : List Loop). length (runsOf l)) (take-all (length ls) ls (omega arith)))
+  last-end =
+      rw (t .counted) (t .begins (length ls) (omega arith) ∙ ap (λ (l : List Loop). length (runsOf l))
+      (take-all (length ls) ls (omega arith)))
 
   module _ (i : ℕ) (lt : i < length ls) where
     abbrev before : List Loop
@@ -62,7 +64,8 @@ module _ {ls : List Loop} {starts runs : List ℕ} {count : ℕ} (t : Table ls s
     end : getD starts (i + 1) 0 ≡ length (runsOf before) + length (codes lp)
     end =
         t .begins (i + 1) (omega arith)
-        ∙ ap (λ (l : List Loop). length (runsOf l)) (rw (add-one i) (take-suc ls i [] lt ∙ ap (λ (x : Loop). before ++ (x ∷ [])) (sym (loop-is ls i lt))))
+        ∙ ap (λ (l : List Loop). length (runsOf l)) (rw (add-one i)
+        (take-suc ls i [] lt ∙ ap (λ (x : Loop). before ++ (x ∷ [])) (sym (loop-is ls i lt))))
         ∙ ap length (runs-more before lp) ∙ length-append (runsOf before) (codes lp)
 
     -- before the loop's run, the run, and what is after it
@@ -70,7 +73,8 @@ module _ {ls : List Loop} {starts runs : List ℕ} {count : ℕ} (t : Table ls s
     unfolding runsOf
     split =
         t .held
-        ∙ ap (λ (l : List Loop). runsOf l ++ drop (length (runsOf ls)) runs) (split-at ls i [] lt ∙ ap (λ (x : Loop). before ++ x ∷ drop (suc i) ls) (sym (loop-is ls i lt)))
+        ∙ ap (λ (l : List Loop). runsOf l ++ drop (length (runsOf ls)) runs)
+        (split-at ls i [] lt ∙ ap (λ (x : Loop). before ++ x ∷ drop (suc i) ls) (sym (loop-is ls i lt)))
         ∙ ap (λ (r : List ℕ). r ++ drop (length (runsOf ls)) runs) (runs-append before (lp ∷ drop (suc i) ls))
         ∙ append-assoc (runsOf before) (codes lp ++ runsOf (drop (suc i) ls)) (drop (length (runsOf ls)) runs)
         ∙ ap (λ (r : List ℕ). runsOf before ++ r) (append-assoc (codes lp) (runsOf (drop (suc i) ls)) (drop (length (runsOf ls)) runs))
@@ -110,7 +114,8 @@ module _ (g : Line → ℤ) where
   take-map (suc i) (l ∷ ls) = ap (λ (r : List Loop). map (measuredPass g) l ∷ r) (take-map i ls)
 
   -- the table of the loops is that of the loops measured again
-  pub table-again : {ls : List Loop} {starts runs : List ℕ} {count : ℕ} → Table ls starts runs count → Table (map (map (measuredPass g)) ls) starts runs count
+  pub table-again : {ls : List Loop} {starts runs : List ℕ} {count : ℕ} → Table ls starts runs count
+      → Table (map (map (measuredPass g)) ls) starts runs count
   table-again {ls = ls} t = record {
     counted = rw (length-map ls (map (measuredPass g))) (t .counted);
     starts-fit = rw (length-map ls (map (measuredPass g))) (t .starts-fit);

@@ -114,7 +114,8 @@ pub record Onward (es : Tree) (x : Entry) (k : Line) (n : ℕ) : Type 0 where
 
 module _ (lines : List Line) (rising : Rising lines) (apart : Apart lines) where
   -- a line with an end outside the tree is on no way
-  not-yet : {es : Tree} → Grown lines es → (k : Line) → List·Memᴰ k lines → (u v : ℕ) → Ends k u v → distance es v ≡ none → (n m : ℕ) → k .number ≡ n → onWay es n m ≡ false
+  not-yet : {es : Tree} → Grown lines es → (k : Line) → List·Memᴰ k lines → (u v : ℕ) → Ends k u v → distance es v ≡ none → (n m : ℕ)
+      → k .number ≡ n → onWay es n m ≡ false
   not-yet {es = es} g k i u v j out n m e = not-in (onWay es n m) (λ h. go (on-way-entered es n m h))
     where
       go : (l : Line) × InTree es l × (l .number ≡ n) → ⊥
@@ -123,7 +124,8 @@ module _ (lines : List Line) (rising : Rising lines) (apart : Apart lines) where
           ends-in lines g x y l h u v (subst (λ (b : Line). Ends b u v) is j) out
 
   -- what holds of the way of an old mark holds after an entry
-  onward-old : (e : Entry) (es : Tree) → distance es (e .mark) ≡ none → (x : Entry) (k : Line) (n : ℕ) → (e .mark ≡ x .mark → ⊥) → Onward es x k n → Onward (e ∷ es) x k n
+  onward-old : (e : Entry) (es : Tree) → distance es (e .mark) ≡ none → (x : Entry) (k : Line) (n : ℕ) → (e .mark ≡ x .mark → ⊥)
+      → Onward es x k n → Onward (e ∷ es) x k n
   onward-old e es out x k n d w = record {
     nearer = w .nearer;
     itsDistance = w .itsDistance;
@@ -186,7 +188,8 @@ module _ (lines : List Line) (rising : Rising lines) (apart : Apart lines) where
   root-way (byLine {e = e} {es = es} g b) x (List·Memᴰ·tail i) h n =
       on-old e es n (x .mark) (λ z. mark-in es x i (ap (distance es) (sym z) ∙ isNew b)) ∙ root-way g x i h n
   root-way (byRoot {e = e} {es = es} g b) x (List·Memᴰ·head p) h n =
-      on-new e es n (x .mark) (ap (λ (y : Entry). y .mark) (sym p)) ∙ ap (λ (o : Option Line). wayOver o n (x .mark) (λ u. onWay es n u)) (b .its)
+      on-new e es n (x .mark) (ap (λ (y : Entry). y .mark) (sym p))
+      ∙ ap (λ (o : Option Line). wayOver o n (x .mark) (λ u. onWay es n u)) (b .its)
   root-way (byRoot {e = e} {es = es} g b) x (List·Memᴰ·tail i) h n =
       on-old e es n (x .mark) (λ z. mark-in es x i (ap (distance es) (sym z) ∙ b .out)) ∙ root-way g x i h n
 
@@ -214,7 +217,8 @@ module _ (lines : List Line) (rising : Rising lines) (apart : Apart lines) where
 
   -- ---- a mark whose way runs over another's line is farther than that mark
 
-  module _ (long : Long lines) {es : Tree} (g : Grown lines es) (k : Line) (x : Entry) (x-in : List·Memᴰ x es) (x-by : x .by ≡ some k) (d : ℕ) (x-at : distance es (x .mark) ≡ some d) where
+  module _ (long : Long lines) {es : Tree} (g : Grown lines es) (k : Line) (x : Entry) (x-in : List·Memᴰ x es) (x-by : x .by ≡ some k)
+      (d : ℕ) (x-at : distance es (x .mark) ≡ some d) where
     -- only one mark came in by the line
     itself : (y : Entry) → List·Memᴰ y es → y .by ≡ some k → y .mark ≡ x .mark
     itself y i h = go (onward g x x-in k x-by (k .number)) (onward g y i k h (k .number))
@@ -244,7 +248,9 @@ module _ (lines : List Line) (rising : Rising lines) (apart : Apart lines) where
                 isLine = treeLine lines g y i l q
 
                 over : Onward es y l (k .number) → (m ≡ x .mark) ⊎ (d < c)
-                over w = pick (or-true (eqb (l .number) (k .number)) (onWay es (k .number) (w .nearer)) (sym (w .way) ∙ ap (onWay es (k .number)) p ∙ on))
+                over w =
+                    pick (or-true (eqb (l .number) (k .number)) (onWay es (k .number) (w .nearer))
+                    (sym (w .way) ∙ ap (onWay es (k .number)) p ∙ on))
                   where
                     farther : (w .nearer ≡ x .mark) ⊎ (d < w .itsDistance) → (m ≡ x .mark) ⊎ (d < c)
                     farther (inl z) = inr (omega (arith, w .sum, long l isLine, same x-at (ap (distance es) (sym z) ∙ w .isIn)))
@@ -252,7 +258,8 @@ module _ (lines : List Line) (rising : Rising lines) (apart : Apart lines) where
 
                     pick : (eqb (l .number) (k .number) ≡ true) ⊎ (onWay es (k .number) (w .nearer) ≡ true) → (m ≡ x .mark) ⊎ (d < c)
                     pick (inl z) =
-                        let is : l ≡ k = unique lines rising l k isLine (treeLine lines g x x-in k x-by) (eqb-true (l .number) (k .number) z) in
+                        let is : l ≡ k =
+                        unique lines rising l k isLine (treeLine lines g x x-in k x-by) (eqb-true (l .number) (k .number) z) in
                         inl (sym p ∙ itself y i (q ∙ ap some is))
                     pick (inr z) = farther (ih (w .nearer) (w .itsDistance) (omega (arith, w .sum, long l isLine)) (w .isIn) z)
 

@@ -76,11 +76,14 @@ withdrawn lines x sub few but {new = new} (loop-then {c = c} {cs = cs} {path = p
 
     go : (t : Bool) → eqb (c .number) x ≡ t → (few : List ℕ) → ButFor x sub few → (new : List Loop)
         → LoopsOf (without x lines) few (keepIf (not t) c (without x cs)) new
-        → ((few : List ℕ) → ButFor x (c .number ∷ sub) few → (new : List Loop) → LoopsOf (without x lines) few (without x cs) new → Withdrawn x old new)
+        → ((few : List ℕ) → ButFor x (c .number ∷ sub) few → (new : List Loop) → LoopsOf (without x lines) few (without x cs) new
+        → Withdrawn x old new)
         → Withdrawn x ((pass c true ∷ path) ∷ old) new
-    go true e few but new q ih = goes (eqb-true (c .number) x e) (ih few (but-for-own x sub few (c .number) (eqb-true (c .number) x e) but) new q)
+    go true e few but new q ih =
+        goes (eqb-true (c .number) x e) (ih few (but-for-own x sub few (c .number) (eqb-true (c .number) x e) but) new q)
     go false e few but _ (loop-then {path = now} {ls = new} q g) ih =
-        stays (eqb-false (c .number) x e) refl (λ h. ap (λ (w : List Pass). pass c true ∷ w) (path-stays lines x sub few but p q (off-path h)))
+        stays (eqb-false (c .number) x e) refl (λ h. ap (λ (w : List Pass). pass c true ∷ w)
+        (path-stays lines x sub few but p q (off-path h)))
         (ih (c .number ∷ few) (but-for-more x sub few (c .number) but) new g)
 
 -- ---- the theorems
@@ -91,7 +94,8 @@ module _ (b : ℕ) (lines : List Line) (sound : Sound b lines) (c : Line) (close
   withdrawal-keeps-loops =
       withdrawn lines (c .number) sub sub (λ n d. refl) (loops-are b lines sound)
       (subst₂ (λ (ns : List ℕ) (cs : List Line). LoopsOf (without (c .number) lines) ns cs (loops b (without (c .number) lines)))
-      (ap (λ (t : Tree). numbers (treeLines t)) (withdrawal-keeps-tree b lines sound c closes)) (withdrawal-keeps-closing-lines b lines sound c closes)
+      (ap (λ (t : Tree). numbers (treeLines t)) (withdrawal-keeps-tree b lines sound c closes))
+      (withdrawal-keeps-closing-lines b lines sound c closes)
       (loops-are b (without (c .number) lines) (sound-without sound (c .number))))
     where
       sub : List ℕ

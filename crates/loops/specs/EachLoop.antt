@@ -7,7 +7,8 @@ use Rattle.network.specs.Standing.{Line}
 use Rattle.network.specs.Walk.{Pass, pass, Walk, marksOn, AllDifferent, OnlyOnce}
 use Rattle.loops.specs.Loops.{Loop}
 
--- "A loop runs its closing line from its from end to its to end, then back": it comes through no mark twice on its way back, and runs no line twice
+-- "A loop runs its closing line from its from end to its to end, then back": it comes through no mark twice on its way back, and runs no
+-- line twice
 pub record IsLoopOf (lines : List Line) (c : Line) (lp : Loop) : Type 0 where
   pub path : List Pass
   pub closingFirst : lp ≡ pass c true ∷ path

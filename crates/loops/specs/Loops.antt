@@ -13,7 +13,8 @@ use Rattle.network.specs.Subgraph.{only, numbers}
 abbrev pub Loop : Type 0
 Loop = List Pass
 
--- "A closing line whose path has one line is not added; any other is." `sub` are the numbers of the subgraph's lines, `path` the path of the closing line c
+-- "A closing line whose path has one line is not added; any other is." `sub` are the numbers of the subgraph's lines, `path` the path of
+-- the closing line c
 abbrev pub added : ℕ → List Pass → List ℕ → List ℕ
 added c [] sub = c ∷ sub
 added c (p ∷ []) sub = sub

@@ -42,7 +42,8 @@ combineMisclosures [] ls = pos 0
 combineMisclosures (k ∷ ks) [] = pos 0
 combineMisclosures (k ∷ ks) (l ∷ ls) = k *ℤ misclosure l +ℤ combineMisclosures ks ls
 
--- the walk w is the sum of the multiples ks of the loops: there is one multiple to each loop, and over each line the signed passes are the sum of the loops'
+-- the walk w is the sum of the multiples ks of the loops: there is one multiple to each loop, and over each line the signed passes are
+-- the sum of the loops'
 pub record SumOf (lines : List Line) (ls : List Loop) (w : List Pass) (ks : List ℤ) : Type 0 where
   pub oneEach : length ks ≡ length ls
   pub passesAre : (l : Line) → List·Memᴰ l lines → passes w (l .number) ≡ combine ks ls (l .number)

@@ -7,7 +7,8 @@ use lib.ListN.{length, getD, take, drop}
 use Rattle.network.specs.Codes.{codes}
 use Rattle.loops.specs.Loops.{Loop}
 
--- the runs of the loops, one after the other: a loop's run has its closing line first, then its path, each line with its sense in one number
+-- the runs of the loops, one after the other: a loop's run has its closing line first, then its path, each line with its sense in one
+-- number
 unfoldable pub runsOf : List Loop → List ℕ
 unfolding codes
 runsOf [] = []

@@ -12,5 +12,6 @@ use Rattle.loops.specs.Checked.{runs}
 pub data Withdrawn (x : ℕ) : List Loop → List Loop → Type 0 where
   none-left : Withdrawn x [] []
   goes : {lp : Loop} {old new : List Loop} → closingNumber lp ≡ x → Withdrawn x old new → Withdrawn x (lp ∷ old) new
-  stays : {lp now : Loop} {old new : List Loop} → (closingNumber lp ≡ x → ⊥) → closingNumber now ≡ closingNumber lp → (runs x lp ≡ false → now ≡ lp)
+  stays : {lp now : Loop} {old new : List Loop} → (closingNumber lp ≡ x → ⊥) → closingNumber now ≡ closingNumber lp
+      → (runs x lp ≡ false → now ≡ lp)
       → Withdrawn x old new → Withdrawn x (lp ∷ old) (now ∷ new)

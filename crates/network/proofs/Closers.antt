@@ -4,7 +4,8 @@ use native.Mathlib.Omega.{arith}
 use mathlib.Core.Path.{_≡_, refl, sym, _∙_, ap, subst}
 use mathlib.Core.Logic.{_⊎_, inl, inr}
 use mathlib.Core.Bool.{false}
-use mathlib.Core.List.{List, [], _∷_, _++_, List·Memᴰ, List·Memᴰ·head, List·Memᴰ·tail, List·Memᴰ·not-nil, Memᴰ·append-left, Memᴰ·append-right, List·Memᴰ·append-cases}
+use mathlib.Core.List.{List, [], _∷_, _++_, List·Memᴰ, List·Memᴰ·head, List·Memᴰ·tail, List·Memᴰ·not-nil, Memᴰ·append-left}
+use mathlib.Core.List.{Memᴰ·append-right, List·Memᴰ·append-cases}
 use mathlib.Core.Option.{Option, none, some, Option·some-injective, Option·none-ne-some}
 use native.Mathlib.Decide.{ℕ-discrete}
 use borrow.Author.Tests.{eq-eqb, ne-eqb}
@@ -13,7 +14,8 @@ use Rattle.network.specs.Tree.{Entry, Tree, Candidate, candidate, distan
 use Rattle.network.specs.Closing.{sameLine, closersAt, justLines, closing}
 use Rattle.network.specs.Pairwise.{Pairwise, no-pair, pairs}
 use Rattle.network.specs.ClosingOrder.{ClosesAt, Sooner, Distinct}
-use Rattle.network.proofs.Grown.{Scored, scored, score-of, After, new, old, after, keeps, ends-to, byOf, ByLine, Grown, empty, byLine, byRoot, isNew, treeLine}
+use Rattle.network.proofs.Grown.{Scored, scored, score-of, After, new, old, after, keeps, ends-to, byOf, ByLine, Grown, empty}
+use Rattle.network.proofs.Grown.{byLine, byRoot, isNew, treeLine}
 use Rattle.network.specs.Walk.{Ends, along, against}
 use Rattle.network.proofs.Shortest.{same, never, wasOut}
 use Rattle.network.proofs.Descent.{clash}
@@ -45,12 +47,14 @@ pub record Closer (es : Tree) (e : Entry) (lines : List Line) (l : Line) : Type 
   pub reaches : far es l ≡ e .mark
   pub other : sameLine (e .by) l ≡ false
 
-pub in-closers : (es : Tree) (e : Entry) (lines : List Line) (l : Line) → Closer es e lines l → List·Memᴰ l (justLines (closersAt es e lines))
+pub in-closers : (es : Tree) (e : Entry) (lines : List Line) (l : Line) → Closer es e lines l
+    → List·Memᴰ l (justLines (closersAt es e lines))
 in-closers es e lines l c =
     in-justLines (closersAt es e lines) (candidate (c .s) l) (in-closersAt es e lines (candidate (c .s) l)
     (record { isLine = c .isLine; itsScore = c .itsScore; reaches = c .reaches; notEntered = of-not-same (e .by) l (c .other) }))
 
-pub of-closers : (es : Tree) (e : Entry) (lines : List Line) (l : Line) → List·Memᴰ l (justLines (closersAt es e lines)) → Closer es e lines l
+pub of-closers : (es : Tree) (e : Entry) (lines : List Line) (l : Line) → List·Memᴰ l (justLines (closersAt es e lines))
+    → Closer es e lines l
 of-closers es e lines l m =
     let i = of-justLines (closersAt es e lines) l m in
     let w = of-closersAt es e lines (i .0) (i .1) in
@@ -63,7 +67,8 @@ of-closers es e lines l m =
     })
 
 -- a closer's two ends: one in the tree, one the mark that enters
-pub closer-ends : (es : Tree) (e : Entry) (lines : List Line) (l : Line) → Closer es e lines l → (u d : ℕ) × Ends l u (e .mark) × (distance es u ≡ some d)
+pub closer-ends : (es : Tree) (e : Entry) (lines : List Line) (l : Line) → Closer es e lines l
+    → (u d : ℕ) × Ends l u (e .mark) × (distance es u ≡ some d)
 closer-ends es e lines l c =
     let w = scored es l (c .s) (c .itsScore) in
     (w .near, w .d, ends-to (sym (w .isFar) ∙ c .reaches) (w .ends), w .isIn)
@@ -86,16 +91,25 @@ module _ (lines : List Line) (rising : Rising lines) (apart : Apart lines) where
   sameLine-of l k o h d = rw h (ne-eqb (k .number) (l .number) (λ z. d (sym z)))
 
   -- a line that has one end in the tree and the new mark for its other: by which the mark came in, or closing
-  arrives : (es : Tree) (e : Entry) (b : ByLine lines es e) (l : Line) → List·Memᴰ l lines → (u d : ℕ) → Ends l u (e .mark) → distance es u ≡ some d
+  arrives : (es : Tree) (e : Entry) (b : ByLine lines es e) (l : Line) → List·Memᴰ l lines → (u d : ℕ) → Ends l u (e .mark)
+      → distance es u ≡ some d
       → InTree (e ∷ es) l ⊎ List·Memᴰ l (justLines (closersAt es e lines))
   arrives es e b l m u d j h = go (ℕ-discrete (l .number) (b .l .number))
     where
-      go : Dec (l .number ≡ b .l .number) → ((x : Entry) × List·Memᴰ x (e ∷ es) × (x .by ≡ some l)) ⊎ List·Memᴰ l (justLines (closersAt es e lines))
+      go : Dec (l .number ≡ b .l .number)
+          → ((x : Entry) × List·Memᴰ x (e ∷ es) × (x .by ≡ some l)) ⊎ List·Memᴰ l (justLines (closersAt es e lines))
       go (yes z) = inl (e, List·Memᴰ·head refl, b .its ∙ ap some (unique lines rising (b .l) l (b .isLine) m (sym z)))
       go (no z) =
           let s = score-of es l u (e .mark) d j h (isNew b) in
           inr (in-closers es e lines l
-          (record { isLine = m; s = d + l .length; itsScore = s; reaches = far-of es l u (e .mark) d j h (isNew b); other = sameLine-of l (b .l) (e .by) (b .its) z }))
+          (record {
+            isLine = m;
+            s = d + l .length;
+            itsScore = s;
+            reaches = far-of es l u (e .mark) d j h (isNew b);
+            other = sameLine-of l
+                (b .l) (e .by) (b .its) z;
+          }))
 
   -- one step of the law below: `arrive` says what becomes of a line with one end in the tree and the new mark for its other
   tree-or-closing-step : (e : Entry) (es : Tree) (l : Line) → List·Memᴰ l lines → (a b : ℕ) → distance (e ∷ es) (l .from) ≡ some a
@@ -110,23 +124,28 @@ module _ (lines : List Line) (rising : Rising lines) (apart : Apart lines) where
       late (inl t) = inl t
       late (inr c) = inr (Memᴰ·append-right (closing lines es) c)
 
-      early : InTree es l ⊎ List·Memᴰ l (closing lines es) → InTree (e ∷ es) l ⊎ List·Memᴰ l (closing lines es ++ justLines (closersAt es e lines))
+      early : InTree es l ⊎ List·Memᴰ l (closing lines es)
+          → InTree (e ∷ es) l ⊎ List·Memᴰ l (closing lines es ++ justLines (closersAt es e lines))
       early (inl (x, i, h)) = inl (x, List·Memᴰ·tail i, h)
       early (inr c) = inr (Memᴰ·append-left (justLines (closersAt es e lines)) c)
 
-      go : After e es (l .from) → After e es (l .to) → InTree (e ∷ es) l ⊎ List·Memᴰ l (closing lines es ++ justLines (closersAt es e lines))
+      go : After e es (l .from) → After e es (l .to)
+          → InTree (e ∷ es) l ⊎ List·Memᴰ l (closing lines es ++ justLines (closersAt es e lines))
       go (new i j) (new i′ j′) = absurd (apart l m (sym i ∙ i′))
       go (new i j) (old i′ j′) = late (arrive (l .to) b (against refl (sym i)) (sym j′ ∙ q))
       go (old i j) (new i′ j′) = late (arrive (l .from) a (along refl (sym i′)) (sym j ∙ p))
       go (old i j) (old i′ j′) = early (ih (sym j ∙ p) (sym j′ ∙ q))
 
-  pub tree-or-closing : {es : Tree} → Grown lines es → (l : Line) → List·Memᴰ l lines → (a b : ℕ) → distance es (l .from) ≡ some a → distance es (l .to) ≡ some b
+  pub tree-or-closing : {es : Tree} → Grown lines es → (l : Line) → List·Memᴰ l lines → (a b : ℕ) → distance es (l .from) ≡ some a
+      → distance es (l .to) ≡ some b
       → InTree es l ⊎ List·Memᴰ l (closing lines es)
   unfolding closing distance
   tree-or-closing empty l m a b p q = never p refl
-  tree-or-closing (byLine {e = e} {es = es} g x) l m a b p q = tree-or-closing-step e es l m a b p q (arrives es e x l m) (λ p q. tree-or-closing g l m a b p q)
+  tree-or-closing (byLine {e = e} {es = es} g x) l m a b p q =
+      tree-or-closing-step e es l m a b p q (arrives es e x l m) (λ p q. tree-or-closing g l m a b p q)
   tree-or-closing (byRoot {e = e} {es = es} g x) l m a b p q =
-      tree-or-closing-step e es l m a b p q (λ u d j h. never (score-of es l u (e .mark) d j h (x .out)) (x .done l m)) (λ p q. tree-or-closing g l m a b p q)
+      tree-or-closing-step e es l m a b p q (λ u d j h. never (score-of es l u (e .mark) d j h (x .out)) (x .done l m))
+      (λ p q. tree-or-closing g l m a b p q)
 
   -- ---- a closing line is a line, has both ends in the tree, and is not of the tree
 
@@ -135,7 +154,8 @@ module _ (lines : List Line) (rising : Rising lines) (apart : Apart lines) where
   closing-line-of [] c m = absurd (List·Memᴰ·not-nil m)
   closing-line-of (e ∷ es) c m = go (closing-line-of es c) (List·Memᴰ·append-cases (closing lines es) m)
     where
-      go : (List·Memᴰ c (closing lines es) → List·Memᴰ c lines) → List·Memᴰ c (closing lines es) ⊎ List·Memᴰ c (justLines (closersAt es e lines)) → List·Memᴰ c lines
+      go : (List·Memᴰ c (closing lines es) → List·Memᴰ c lines)
+          → List·Memᴰ c (closing lines es) ⊎ List·Memᴰ c (justLines (closersAt es e lines)) → List·Memᴰ c lines
       go ih (inl i) = ih i
       go ih (inr i) = of-closers es e lines c i .isLine
 
@@ -147,13 +167,15 @@ module _ (lines : List Line) (rising : Rising lines) (apart : Apart lines) where
       → (List·Memᴰ c (closing lines es) → distance es v ≡ none → ⊥)
       → List·Memᴰ c (closing lines es) ⊎ List·Memᴰ c (justLines (closersAt es e lines)) → distance (e ∷ es) v ≡ none → ⊥
   closing-ends-step e es out c u v j ih (inl i) h = ih i (wasOut e es v h)
-  closing-ends-step e es out c u v j ih (inr i) h = let w = closer-ends es e lines c (of-closers es e lines c i) in go (w .0) (w .1) (w .3) (ends-two (w .2) j)
+  closing-ends-step e es out c u v j ih (inr i) h =
+      let w = closer-ends es e lines c (of-closers es e lines c i) in go (w .0) (w .1) (w .3) (ends-two (w .2) j)
     where
       go : (n d : ℕ) → distance es n ≡ some d → (v ≡ n) ⊎ (v ≡ e .mark) → ⊥
       go n d k (inl x) = never (keeps e es n d out k) (ap (distance (e ∷ es)) (sym x) ∙ h)
       go n d k (inr x) = never (entered e es) (ap (distance (e ∷ es)) (sym x) ∙ h)
 
-  pub closing-ends : {es : Tree} → Grown lines es → (c : Line) → List·Memᴰ c (closing lines es) → (u v : ℕ) → Ends c u v → distance es v ≡ none → ⊥
+  pub closing-ends : {es : Tree} → Grown lines es → (c : Line) → List·Memᴰ c (closing lines es) → (u v : ℕ) → Ends c u v
+      → distance es v ≡ none → ⊥
   unfolding closing
   closing-ends empty c m u v j h = List·Memᴰ·not-nil m
   closing-ends (byLine {e = e} {es = es} g x) c m u v j h =
@@ -169,7 +191,8 @@ module _ (lines : List Line) (rising : Rising lines) (apart : Apart lines) where
   -- one step of the law below: the line by which e entered had an end outside the tree
   closing-not-tree-step : (e : Entry) (es : Tree) → Grown lines es → distance es (e .mark) ≡ none
       → ((l : Line) → e .by ≡ some l → List·Memᴰ l lines × ((u v : ℕ) × Ends l u v × (distance es v ≡ none)))
-      → (c : Line) → List·Memᴰ c (closing lines es) ⊎ List·Memᴰ c (justLines (closersAt es e lines)) → (l : Line) → InTree (e ∷ es) l → c .number ≡ l .number
+      → (c : Line) → List·Memᴰ c (closing lines es) ⊎ List·Memᴰ c (justLines (closersAt es e lines)) → (l : Line) → InTree (e ∷ es) l
+      → c .number ≡ l .number
       → (List·Memᴰ c (closing lines es) → InTree es l → ⊥) → ⊥
   closing-not-tree-step e es g out own c (inl i) l (y, List·Memᴰ·head p, h) z ih =
       let o = own l (sym (byOf p) ∙ h) in
@@ -177,23 +200,28 @@ module _ (lines : List Line) (rising : Rising lines) (apart : Apart lines) where
       closing-ends g c i (o .1 .0) (o .1 .1) (subst (λ (k : Line). Ends k (o .1 .0) (o .1 .1)) is (o .1 .2)) (o .1 .3)
   closing-not-tree-step e es g out own c (inl i) l (y, List·Memᴰ·tail k, h) z ih = ih i (y, k, h)
   closing-not-tree-step e es g out own c (inr i) l (y, List·Memᴰ·head p, h) z ih =
-      clash (ap (λ (o : Option Line). sameLine o c) (sym (byOf p) ∙ h) ∙ eq-eqb (l .number) (c .number) (sym z)) (of-closers es e lines c i .other)
+      clash (ap (λ (o : Option Line). sameLine o c) (sym (byOf p) ∙ h) ∙ eq-eqb (l .number) (c .number) (sym z))
+      (of-closers es e lines c i .other)
   closing-not-tree-step e es g out own c (inr i) l (y, List·Memᴰ·tail k, h) z ih =
       let w = closer-out e es c out i in
       let is : c ≡ l = unique lines rising c l (of-closers es e lines c i .isLine) (treeLine lines g y k l h) z in
       ends-in lines g y k l h (w .0) (w .1) (subst (λ (k : Line). Ends k (w .0) (w .1)) is (w .2)) (w .3)
 
-  pub closing-not-tree : {es : Tree} → Grown lines es → (c : Line) → List·Memᴰ c (closing lines es) → (l : Line) → InTree es l → c .number ≡ l .number → ⊥
+  pub closing-not-tree : {es : Tree} → Grown lines es → (c : Line) → List·Memᴰ c (closing lines es) → (l : Line) → InTree es l
+      → c .number ≡ l .number → ⊥
   unfolding closing
   closing-not-tree empty c m l t z = List·Memᴰ·not-nil m
   closing-not-tree (byLine {e = e} {es = es} g x) c m l t z =
       closing-not-tree-step e es g (isNew x) own c (List·Memᴰ·append-cases (closing lines es) m) l t z (λ i t. closing-not-tree g c i l t z)
     where
       own : (l : Line) → e .by ≡ some l → List·Memᴰ l lines × ((u v : ℕ) × Ends l u v × (distance es v ≡ none))
-      own l h = subst (λ (k : Line). List·Memᴰ k lines × ((u v : ℕ) × Ends k u v × (distance es v ≡ none))) (Option·some-injective (x .l) l (sym (x .its) ∙ h))
+      own l h =
+          subst (λ (k : Line). List·Memᴰ k lines × ((u v : ℕ) × Ends k u v × (distance es v ≡ none)))
+          (Option·some-injective (x .l) l (sym (x .its) ∙ h))
           (x .isLine, (x .sc .near, x .sc .away, x .sc .ends, x .sc .isOut))
   closing-not-tree (byRoot {e = e} {es = es} g x) c m l t z =
-      closing-not-tree-step e es g (x .out) (λ l h. absurd (Option·none-ne-some l (sym (x .its) ∙ h))) c (List·Memᴰ·append-cases (closing lines es) m) l t z
+      closing-not-tree-step e es g (x .out) (λ l h. absurd (Option·none-ne-some l (sym (x .its) ∙ h))) c
+      (List·Memᴰ·append-cases (closing lines es) m) l t z
       (λ i t. closing-not-tree g c i l t z)
 
 -- ---- closing lines differ
@@ -233,7 +261,8 @@ module _ (lines : List Line) (rising : Rising lines) (apart : Apart lines) where
       → Distinct (closing lines es ++ justLines (closersAt es e lines))
   distinct-step e es g out d = pairwise-append d (distinct-closers es e lines rising) apart-from
     where
-      apart-from : (x y : Line) → List·Memᴰ x (closing lines es) → List·Memᴰ y (justLines (closersAt es e lines)) → x .number ≡ y .number → ⊥
+      apart-from : (x y : Line) → List·Memᴰ x (closing lines es) → List·Memᴰ y (justLines (closersAt es e lines)) → x .number ≡ y .number
+          → ⊥
       apart-from x y i j z =
           let w = closer-out lines rising apart e es y out j in
           let is : y ≡ x = unique lines rising y x (of-closers es e lines y j .isLine) (closing-line lines rising apart g x i) (sym z) in

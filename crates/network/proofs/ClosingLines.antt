@@ -28,21 +28,24 @@ module _ (b : ℕ) (lines : List Line) (sound : Sound b lines) where
       go (some d) e = (d, e)
 
   -- every standing line is a tree line or a closing line
-  pub tree-line-or-closing-line : (l : Line) → List·Memᴰ l lines → List·Memᴰ l (treeLines (tree b lines)) ⊎ List·Memᴰ l (closing lines (tree b lines))
+  pub tree-line-or-closing-line : (l : Line) → List·Memᴰ l lines
+      → List·Memᴰ l (treeLines (tree b lines)) ⊎ List·Memᴰ l (closing lines (tree b lines))
   tree-line-or-closing-line l m =
       let p = sound .placed l m in
       let f = has-distance (l .from) (p .from-low) (p .from-high) in
       let t = has-distance (l .to) (p .to-low) (p .to-high) in
       go (tree-or-closing lines (sound .rising) (sound .apart) grown-tree l m (f .0) (t .0) (f .1) (t .1))
     where
-      go : InTree (tree b lines) l ⊎ List·Memᴰ l (closing lines (tree b lines)) → List·Memᴰ l (treeLines (tree b lines)) ⊎ List·Memᴰ l (closing lines (tree b lines))
+      go : InTree (tree b lines) l ⊎ List·Memᴰ l (closing lines (tree b lines))
+          → List·Memᴰ l (treeLines (tree b lines)) ⊎ List·Memᴰ l (closing lines (tree b lines))
       go (inl t) = inl (in-treeLines (tree b lines) l t)
       go (inr c) = inr c
 
   -- and never both, not even under one number
   pub never-tree-line-and-closing-line : (l c : Line) → List·Memᴰ l (treeLines (tree b lines)) → List·Memᴰ c (closing lines (tree b lines))
       → c .number ≡ l .number → ⊥
-  never-tree-line-and-closing-line l c t m = closing-not-tree lines (sound .rising) (sound .apart) grown-tree c m l (of-treeLines (tree b lines) l t)
+  never-tree-line-and-closing-line l c t m =
+      closing-not-tree lines (sound .rising) (sound .apart) grown-tree c m l (of-treeLines (tree b lines) l t)
 
   -- a closing line is a standing line
   pub closing-line-stands : (c : Line) → List·Memᴰ c (closing lines (tree b lines)) → List·Memᴰ c lines

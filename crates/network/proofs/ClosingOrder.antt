@@ -26,7 +26,8 @@ in-insert a [] x (inl e) = List·Memᴰ·head e
 in-insert a [] x (inr m) = absurd (List·Memᴰ·not-nil m)
 in-insert a (c ∷ cs) x h = go (leb (a .score) (c .score)) h (in-insert a cs x)
   where
-    go : (t : Bool) → (x ≡ a) ⊎ List·Memᴰ x (c ∷ cs) → ((x ≡ a) ⊎ List·Memᴰ x cs → List·Memᴰ x (insert a cs)) → List·Memᴰ x (insertOf t a (c ∷ cs) (c ∷ insert a cs))
+    go : (t : Bool) → (x ≡ a) ⊎ List·Memᴰ x (c ∷ cs) → ((x ≡ a) ⊎ List·Memᴰ x cs → List·Memᴰ x (insert a cs))
+        → List·Memᴰ x (insertOf t a (c ∷ cs) (c ∷ insert a cs))
     go true (inl e) ih = List·Memᴰ·head e
     go true (inr m) ih = List·Memᴰ·tail m
     go false (inl e) ih = List·Memᴰ·tail (ih (inl e))
@@ -43,18 +44,21 @@ of-insert a (c ∷ cs) x h = go (leb (a .score) (c .score)) h (of-insert a cs x)
     late (inl e) = inl e
     late (inr m) = inr (List·Memᴰ·tail m)
 
-    go : (t : Bool) → List·Memᴰ x (insertOf t a (c ∷ cs) (c ∷ insert a cs)) → (List·Memᴰ x (insert a cs) → (x ≡ a) ⊎ List·Memᴰ x cs) → (x ≡ a) ⊎ List·Memᴰ x (c ∷ cs)
+    go : (t : Bool) → List·Memᴰ x (insertOf t a (c ∷ cs) (c ∷ insert a cs)) → (List·Memᴰ x (insert a cs) → (x ≡ a) ⊎ List·Memᴰ x cs)
+        → (x ≡ a) ⊎ List·Memᴰ x (c ∷ cs)
     go true (List·Memᴰ·head e) ih = inl e
     go true (List·Memᴰ·tail m) ih = inr m
     go false (List·Memᴰ·head e) ih = inr (List·Memᴰ·head e)
     go false (List·Memᴰ·tail m) ih = late (ih m)
 
 -- a candidate of lower number than all is put in its place
-order-insert : (a : Candidate) {cs : List Candidate} → Pairwise Sooner cs → ((k : Candidate) → List·Memᴰ k cs → a .line .number < k .line .number)
+order-insert : (a : Candidate) {cs : List Candidate} → Pairwise Sooner cs
+    → ((k : Candidate) → List·Memᴰ k cs → a .line .number < k .line .number)
     → Pairwise Sooner (insert a cs)
 unfolding insert
 order-insert a no-pair low = pairs (λ k i. absurd (List·Memᴰ·not-nil i)) no-pair
-order-insert a (pairs {a = c} {rest = cs} f p) low = go (leb (a .score) (c .score)) refl (order-insert a p (λ k i. low k (List·Memᴰ·tail i)))
+order-insert a (pairs {a = c} {rest = cs} f p) low =
+    go (leb (a .score) (c .score)) refl (order-insert a p (λ k i. low k (List·Memᴰ·tail i)))
   where
     -- a candidate whose score is not below that of a comes after it
     after-a : (k : Candidate) → a .score ≤ k .score → a .line .number < k .line .number → Sooner a k
@@ -76,7 +80,8 @@ order-insert a (pairs {a = c} {rest = cs} f p) low = go (leb (a .score) (c .scor
     later lt k (inl e) = inl (omega (arith, ap (λ (x : Candidate). x .score) e))
     later lt k (inr i) = f k i
 
-    go : (t : Bool) → leb (a .score) (c .score) ≡ t → Pairwise Sooner (insert a cs) → Pairwise Sooner (insertOf t a (c ∷ cs) (c ∷ insert a cs))
+    go : (t : Bool) → leb (a .score) (c .score) ≡ t → Pairwise Sooner (insert a cs)
+        → Pairwise Sooner (insertOf t a (c ∷ cs) (c ∷ insert a cs))
     go true e ih = pairs (first (leb-true (a .score) (c .score) e)) (pairs f p)
     go false e ih = pairs (λ k i. later (leb-false (a .score) (c .score) e) k (of-insert a cs k i)) ih
 
@@ -96,7 +101,14 @@ of-not-same (some j) l h k e z = eqb-false (j .number) (l .number) h (ap (λ (x 
 pub in-closersAt : (es : Tree) (e : Entry) (lines : List Line) (c : Candidate) → ClosesAt lines es e c → List·Memᴰ c (closersAt es e lines)
 unfolding closersAt
 in-closersAt es e [] c w = absurd (List·Memᴰ·not-nil (w .isLine))
-in-closersAt es e (k ∷ ls) c w = go (w .isLine) (λ m. in-closersAt es e ls c (record { isLine = m; itsScore = w .itsScore; reaches = w .reaches; notEntered = w .notEntered }))
+in-closersAt es e (k ∷ ls) c w =
+    go (w .isLine) (λ m. in-closersAt es e ls c (record {
+      isLine = m;
+      itsScore = w .itsScore;
+      reaches = w .reaches;
+      notEntered
+          = w .notEntered;
+    }))
   where
     rest : List Candidate
     rest = closersAt es e ls
@@ -150,7 +162,8 @@ of-closersAt es e (k ∷ ls) c m = go (eqb (far es k) (e .mark) && not (sameLine
 pub order-closersAt : (es : Tree) (e : Entry) {lines : List Line} → Rising lines → Pairwise Sooner (closersAt es e lines)
 unfolding closersAt
 order-closersAt es e none-left = no-pair
-order-closersAt es e (then {l = l} {ls = ls} above r) = go (eqb (far es l) (e .mark) && not (sameLine (e .by) l)) (score es l) (order-closersAt es e r)
+order-closersAt es e (then {l = l} {ls = ls} above r) =
+    go (eqb (far es l) (e .mark) && not (sameLine (e .by) l)) (score es l) (order-closersAt es e r)
   where
     go : (t : Bool) (o : Option ℕ) → Pairwise Sooner (closersAt es e ls) → Pairwise Sooner (closerOf t o l (closersAt es e ls))
     go false o d = d
@@ -166,7 +179,8 @@ sooner-both c d (inr x) (inl y) = omega (arith, x .0)
 sooner-both c d (inr x) (inr y) = omega (arith, x .1, y .1)
 
 -- only one list of candidates is "by score, then number"
-pub sooner-unique : {cs ds : List Candidate} → Pairwise Sooner cs → Pairwise Sooner ds → ((c : Candidate) → List·Memᴰ c cs ↔ List·Memᴰ c ds) → cs ≡ ds
+pub sooner-unique : {cs ds : List Candidate} → Pairwise Sooner cs → Pairwise Sooner ds
+    → ((c : Candidate) → List·Memᴰ c cs ↔ List·Memᴰ c ds) → cs ≡ ds
 sooner-unique p q h = pairwise-unique sooner-both p q h
 
 -- what `closing` gives is in document 01's order
@@ -177,7 +191,8 @@ closing-in-order {lines = lines} rising (e ∷ es) =
     closed-at (closing-in-order rising es) (order-closersAt es e rising) (λ c. (of-closersAt es e lines c, in-closersAt es e lines c))
 
 -- and there is no other such order
-pub closing-order-unique : {lines : List Line} {es : Tree} {xs ys : List Line} → ClosingOrder lines es xs → ClosingOrder lines es ys → xs ≡ ys
+pub closing-order-unique : {lines : List Line} {es : Tree} {xs ys : List Line} → ClosingOrder lines es xs → ClosingOrder lines es ys
+    → xs ≡ ys
 closing-order-unique none-yet none-yet = refl
 closing-order-unique (closed-at x p h) (closed-at y q k) =
     ap₂ (λ (ls : List Line) (cs : List Candidate). ls ++ justLines cs) (closing-order-unique x y)

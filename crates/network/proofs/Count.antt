@@ -24,7 +24,8 @@ unfolding treeLines pieces
 tree-and-roots [] = refl
 tree-and-roots (e ∷ es) = go (e .by) (tree-and-roots es)
   where
-    go : (o : Option Line) → length (treeLines es) + pieces es ≡ length es → length (lines1 o (treeLines es)) + roots1 o (pieces es) ≡ suc (length es)
+    go : (o : Option Line) → length (treeLines es) + pieces es ≡ length es
+        → length (lines1 o (treeLines es)) + roots1 o (pieces es) ≡ suc (length es)
     go none h = omega (arith, h)
     go (some l) h = simp length-append (omega (arith, h))
 
@@ -119,7 +120,11 @@ length-closersAt es e (l ∷ ls) = go (eqb (far es l) (e .mark)) (sameLine (e .b
 pub count-same : (l : Line) (lines : List Line) → Rising lines → List·Memᴰ l lines → count (λ k. eqb (l .number) (k .number)) lines ≡ 1
 count-same l (k ∷ ls) (then above r) (List·Memᴰ·head e) =
     rw (eq-eqb (l .number) (k .number) (ap (λ (x : Line). x .number) e))
-    (omega (arith, count-none (λ k. eqb (l .number) (k .number)) ls (λ j m. ne-eqb (l .number) (j .number) (λ z. omega (arith, above j m, z, ap (λ (x : Line). x .number) e)))))
+    (omega (
+      arith,
+      count-none (λ k. eqb (l .number) (k .number)) ls
+          (λ j m. ne-eqb (l .number) (j .number) (λ z. omega (arith, above j m, z, ap (λ (x : Line). x .number) e))),
+    ))
 count-same l (k ∷ ls) (then above r) (List·Memᴰ·tail m) =
     rw (ne-eqb (l .number) (k .number) (λ z. omega (arith, above l m, z)))
     (omega (arith, count-same l ls r m))
@@ -131,8 +136,10 @@ count-eq f g (l ∷ ls) e = rw (e l (List·Memᴰ·head refl), count-eq f g ls (
 -- two lines of one number are one line
 pub unique : (lines : List Line) → Rising lines → (k l : Line) → List·Memᴰ k lines → List·Memᴰ l lines → k .number ≡ l .number → k ≡ l
 unique (j ∷ ls) (then above r) k l (List·Memᴰ·head e) (List·Memᴰ·head e′) n = e ∙ sym e′
-unique (j ∷ ls) (then above r) k l (List·Memᴰ·head e) (List·Memᴰ·tail m) n = absurd (omega (arith, above l m, n, ap (λ (x : Line). x .number) e))
-unique (j ∷ ls) (then above r) k l (List·Memᴰ·tail m) (List·Memᴰ·head e) n = absurd (omega (arith, above k m, n, ap (λ (x : Line). x .number) e))
+unique (j ∷ ls) (then above r) k l (List·Memᴰ·head e) (List·Memᴰ·tail m) n =
+    absurd (omega (arith, above l m, n, ap (λ (x : Line). x .number) e))
+unique (j ∷ ls) (then above r) k l (List·Memᴰ·tail m) (List·Memᴰ·head e) n =
+    absurd (omega (arith, above k m, n, ap (λ (x : Line). x .number) e))
 unique (j ∷ ls) (then above r) k l (List·Memᴰ·tail m) (List·Memᴰ·tail m′) n = unique ls r k l m m′ n
 
 pub split-and : (a b : Bool) → bit a ≡ bit (a && not b) + bit (a && b)
@@ -158,7 +165,12 @@ enters-one lines es e r b = count-eq (enters es e) (λ k. eqb (b .l .number) (k 
         go : (t : Bool) → eqb (b .l .number) (k .number) ≡ t → (reaches es e k && t) ≡ t
         go true q =
             let same-line : k ≡ b .l = unique lines r k (b .l) m (b .isLine) (sym (eqb-true _ _ q)) in
-            rw (same-line, score-of es (b .l) (b .sc .near) (b .sc .away) (b .sc .d) (b .sc .ends) (b .sc .isIn) (b .sc .isOut), b .sc .isFar, eq-eqb (b .sc .away) (e .mark) (sym (b .itsMark)))
+            rw (
+              same-line,
+              score-of es (b .l) (b .sc .near) (b .sc .away) (b .sc .d) (b .sc .ends) (b .sc .isIn) (b .sc .isOut),
+              b .sc .isFar,
+              eq-eqb (b .sc .away) (e .mark) (sym (b .itsMark)),
+            )
         go false q = and-false (reaches es e k)
 
 pub enters-none : (lines : List Line) (es : Tree) (e : Entry) → ByRoot lines es e → count (reaches es e) lines ≡ 0
@@ -187,10 +199,26 @@ unfolding treeLines closing distance
 both-in lines r apart empty = count-none (inside []) lines (λ k m. refl)
 both-in lines r apart (byLine {e = e} {es = es} g b) =
     simp (length-append, length-lines1)
-    (omega (arith, ap byOne (b .its), one-more lines es e apart (isNew b), closed lines es e, enters-one lines es e r b, both-in lines r apart g))
+    (omega (
+      arith,
+      ap byOne (b .its),
+      one-more lines es e apart (isNew b),
+      closed lines es e,
+      enters-one lines es e r b,
+      both-in lines r
+          apart g,
+    ))
 both-in lines r apart (byRoot {e = e} {es = es} g b) =
     simp (length-append, length-lines1)
-    (omega (arith, ap byOne (b .its), one-more lines es e apart (b .out), closed lines es e, enters-none lines es e b, both-in lines r apart g))
+    (omega (
+      arith,
+      ap byOne (b .its),
+      one-more lines es e apart (b .out),
+      closed lines es e,
+      enters-none lines es e b,
+      both-in lines r
+          apart g,
+    ))
 
 -- ---- every line has both ends in the tree of the book
 
@@ -209,4 +237,5 @@ module _ (b : ℕ) (lines : List Line) (placed : (l : Line) → List·Memᴰ l l
   -- lines - marks + pieces
   module _ (rising : Rising lines) (apart : Apart lines) where
     pub closing-count : length (closing lines (tree b lines)) + b ≡ length lines + pieces (tree b lines)
-    closing-count = omega (arith, tree-and-roots (tree b lines), size b lines placed, both-in lines rising apart (grows b lines placed), everything)
+    closing-count =
+        omega (arith, tree-and-roots (tree b lines), size b lines placed, both-in lines rising apart (grows b lines placed), everything)

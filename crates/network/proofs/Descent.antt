@@ -1,5 +1,5 @@
--- The path that `descend` gives is a walk to the root, as long as the distance, and of all walks as short as that the one whose line numbers
--- are smaller at the first difference. Assumes nothing.
+-- The path that `descend` gives is a walk to the root, as long as the distance, and of all walks as short as that the one whose line
+-- numbers are smaller at the first difference. Assumes nothing.
 use Prim.Native.Nat.{ℕ, zero, suc, _+_, _≤_, _<_}
 use native.Mathlib.Omega.{arith}
 use mathlib.Core.Path.{_≡_, refl, sym, _∙_, ap, subst}
@@ -45,7 +45,8 @@ down-true es p h = go (distance es (start p)) (distance es (stop p)) refl refl h
     go (some d) none x y t = absurd (false≢true t)
     go (some d) (some e) x y t = record { d = d; e = e; atStart = x; atStop = y; sum = eqb-true _ _ t }
 
-pub down-of : (es : Tree) (p : Pass) (d e : ℕ) → distance es (start p) ≡ some d → distance es (stop p) ≡ some e → e + p .line .length ≡ d → down es p ≡ true
+pub down-of : (es : Tree) (p : Pass) (d e : ℕ) → distance es (start p) ≡ some d → distance es (stop p) ≡ some e → e + p .line .length ≡ d
+    → down es p ≡ true
 unfolding down
 down-of es p d e x y s = rw (x, y) (eq-eqb _ _ s)
 
@@ -68,9 +69,12 @@ found es u [] p h = absurd (Option·none-ne-some p h)
 found es u (l ∷ ls) p h = go (ahead es u l) (behind es u l) refl refl h (found es u ls p)
   where
     is : (q : Pass) → q .line ≡ l → start q ≡ u → down es q ≡ true → some q ≡ some p → Found es u (l ∷ ls) p
-    is q x y z e = subst (λ (o : Pass). Found es u (l ∷ ls) o) (Option·some-injective q p e) (record { isLine = List·Memᴰ·head x; begins = y; leads = z })
+    is q x y z e =
+        subst (λ (o : Pass). Found es u (l ∷ ls) o) (Option·some-injective q p e)
+        (record { isLine = List·Memᴰ·head x; begins = y; leads = z })
 
-    go : (a b : Bool) → ahead es u l ≡ a → behind es u l ≡ b → pickPass a (pass l true) (pickPass b (pass l false) (descent es u ls)) ≡ some p
+    go : (a b : Bool) → ahead es u l ≡ a → behind es u l ≡ b
+        → pickPass a (pass l true) (pickPass b (pass l false) (descent es u ls)) ≡ some p
         → (descent es u ls ≡ some p → Found es u ls p) → Found es u (l ∷ ls) p
     go true b x y e ih = let t = and-true _ _ x in is (pass l true) refl (eqb-true _ _ (t .0)) (t .1) e
     go false true x y e ih = let t = and-true _ _ y in is (pass l false) refl (eqb-true _ _ (t .0)) (t .1) e
@@ -85,10 +89,13 @@ pub tried : (es : Tree) (u : ℕ) (l : Line) (q : Pass) → q .line ≡ l → st
 tried es u l q x y z = go (q .forward) (q .line) x y z
   where
     go : (f : Bool) (k : Line) → k ≡ l → start (pass k f) ≡ u → down es (pass k f) ≡ true → Tried es u l (pass k f)
-    go true k x y z = isAhead (ap (λ (o : Line). pass o true) x) (rw x at (true-and (eqb (k .from) u) (down es (pass k true)) (eq-eqb _ _ y) z))
-    go false k x y z = isBehind (ap (λ (o : Line). pass o false) x) (rw x at (true-and (eqb (k .to) u) (down es (pass k false)) (eq-eqb _ _ y) z))
+    go true k x y z =
+        isAhead (ap (λ (o : Line). pass o true) x) (rw x at (true-and (eqb (k .from) u) (down es (pass k true)) (eq-eqb _ _ y) z))
+    go false k x y z =
+        isBehind (ap (λ (o : Line). pass o false) x) (rw x at (true-and (eqb (k .to) u) (down es (pass k false)) (eq-eqb _ _ y) z))
 
-pub none-found : (es : Tree) (u : ℕ) (lines : List Line) → descent es u lines ≡ none → (q : Pass) → List·Memᴰ (q .line) lines → start q ≡ u → down es q ≡ true → ⊥
+pub none-found : (es : Tree) (u : ℕ) (lines : List Line) → descent es u lines ≡ none → (q : Pass) → List·Memᴰ (q .line) lines
+    → start q ≡ u → down es q ≡ true → ⊥
 unfolding descent
 none-found es u (l ∷ ls) h q m y z = go (ahead es u l) (behind es u l) refl refl h m (λ e k. none-found es u ls e q k y z)
   where
@@ -127,7 +134,8 @@ first-found es u (l ∷ ls) p (then above r) long h q m y z =
         let b = down-true es (pass l false) (t′ .1) in
         omega (arith, a .sum, b .sum, same (a .atStart) (b .atStop), same (a .atStop) (b .atStart), long l (List·Memᴰ·head refl))
 
-    go : (a b : Bool) → ahead es u l ≡ a → behind es u l ≡ b → pickPass a (pass l true) (pickPass b (pass l false) (descent es u ls)) ≡ some p
+    go : (a b : Bool) → ahead es u l ≡ a → behind es u l ≡ b
+        → pickPass a (pass l true) (pickPass b (pass l false) (descent es u ls)) ≡ some p
         → List·Memᴰ (q .line) (l ∷ ls) → (descent es u ls ≡ some p → List·Memᴰ (q .line) ls → (p .line .number < q .line .number) ⊎ (p ≡ q))
         → (p .line .number < q .line .number) ⊎ (p ≡ q)
     go true b s t e (List·Memᴰ·head x) ih = hit (tried es u l q x y z)
@@ -165,10 +173,12 @@ module _ (lines : List Line) {es : Tree} (g : Grown lines es) (long : Long lines
       go (isRoot z) = (z, only u (h ∙ ap some z))
       go (over l v dv m j x s) = let p = passOf l v u j in
           absurd (none-found es u lines e (p .0) (Memᴰ·cast (p .1) m) (p .2)
-          (down-of es (p .0) d dv (ap (distance es) (p .2) ∙ h) (ap (distance es) (p .3) ∙ x) (ap (λ (k : Line). dv + k .length) (p .1) ∙ sym s)))
+          (down-of es (p .0) d dv (ap (distance es) (p .2) ∙ h) (ap (distance es) (p .3) ∙ x)
+          (ap (λ (k : Line). dv + k .length) (p .1) ∙ sym s)))
 
   -- it is a walk to the root, as long as the distance
-  pub descend-walk : (k u d : ℕ) → distance es u ≡ some d → d ≤ k → Walk lines r u (descend lines es k u) × (wayLength (descend lines es k u) ≡ d)
+  pub descend-walk : (k u d : ℕ) → distance es u ≡ some d → d ≤ k
+      → Walk lines r u (descend lines es k u) × (wayLength (descend lines es k u) ≡ d)
   unfolding descend wayLength
   descend-walk zero u d h n = let z : d ≡ 0 = omega arith in (here (only u (h ∙ ap some z)), sym z)
   descend-walk (suc k) u d h n = go (descent es u lines) refl (descend-walk k)
@@ -185,7 +195,8 @@ module _ (lines : List Line) {es : Tree} (g : Grown lines es) (long : Long lines
           (step (f .begins) (f .isLine) (i .0), omega (arith, i .1, w .sum, dd))
 
   module _ (rising : Rising lines) (done : (k : Line) → List·Memᴰ k lines → score es k ≡ none) (atRoot : distance es r ≡ some 0) where
-    pub tie : (k u d : ℕ) → distance es u ≡ some d → d ≤ k → {w : List Pass} → Walk lines r u w → wayLength w ≡ d → Before (descend lines es k u) w
+    pub tie : (k u d : ℕ) → distance es u ≡ some d → d ≤ k → {w : List Pass} → Walk lines r u w → wayLength w ≡ d
+        → Before (descend lines es k u) w
     unfolding descend wayLength
     tie zero u d h n (here e) s = equal
     tie zero u d h n (step {p = q} b m w) s = absurd (omega (arith, long (q .line) m))
@@ -215,5 +226,6 @@ module _ (lines : List Line) {es : Tree} (g : Grown lines es) (long : Long lines
             pick : (p .line .number < q .line .number) ⊎ (p ≡ q) → Before (p ∷ descend lines es k (stop p)) (q ∷ qs)
             pick (inl lt) = lower lt
             pick (inr e) =
-                let rest : Before (descend lines es k (stop p)) qs = rw e (ih dv y (omega (arith, far, long (q .line) m)) (omega (arith, far))) in
+                let rest : Before (descend lines es k (stop p)) qs =
+                rw e (ih dv y (omega (arith, far, long (q .line) m)) (omega (arith, far))) in
                 alike e rest

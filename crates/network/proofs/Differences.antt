@@ -10,7 +10,8 @@ use Rattle.book.specs.Limits.{leastLength}
 use Rattle.network.specs.Standing.{Line}
 use Rattle.network.specs.Sound.{Placed, Rising, none-left, then, Sound}
 use Rattle.network.specs.Redone.{measured, measuredPass}
-use Rattle.network.specs.Tree.{Entry, entry, Tree, Candidate, candidate, orElse, distance, score, farOf, far, lowerOf, lowestOf, lowest, firstOut, next, step, grow, marks, tree, pieces, roots1, treeLines, lines1}
+use Rattle.network.specs.Tree.{Entry, entry, Tree, Candidate, candidate, orElse, distance, score, farOf, far, lowerOf, lowestOf}
+use Rattle.network.specs.Tree.{lowest, firstOut, next, step, grow, marks, tree, pieces, roots1, treeLines, lines1}
 use Rattle.network.specs.Closing.{insert, insertOf, sameLine, closerOf, closersAt, justLines, closing}
 use Rattle.network.specs.Path.{Pass, pass, start, stop, down, pickPass, descent, onward, descend, orZero, shortest}
 use Rattle.network.specs.Subgraph.{isIn, keepIf, only, numbers}
@@ -58,12 +59,14 @@ module _ (g : Line → ℤ) where
   lowest-same es [] = refl
   lowest-same es (l ∷ ls) = rw (score-same es l, lowest-same es ls) (go (score es l) (lowest es ls))
     where
-      go : (s : Option ℕ) (o : Option Candidate) → lowestOf s (measured g l) (Option·map measuredCandidate o) ≡ Option·map measuredCandidate (lowestOf s l o)
+      go : (s : Option ℕ) (o : Option Candidate)
+          → lowestOf s (measured g l) (Option·map measuredCandidate o) ≡ Option·map measuredCandidate (lowestOf s l o)
       go none o = refl
       go (some s) none = refl
       go (some s) (some c) = pick (leb s (c .score))
         where
-          pick : (t : Bool) → lowerOf t (candidate s (measured g l)) (measuredCandidate c) ≡ Option·map measuredCandidate (lowerOf t (candidate s l) c)
+          pick : (t : Bool)
+              → lowerOf t (candidate s (measured g l)) (measuredCandidate c) ≡ Option·map measuredCandidate (lowerOf t (candidate s l) c)
           pick true = refl
           pick false = refl
 
@@ -109,7 +112,8 @@ module _ (g : Line → ℤ) where
   pieces-same [] = refl
   pieces-same (e ∷ es) = go (e .by) (pieces-same es)
     where
-      go : (o : Option Line) → pieces (againTree es) ≡ pieces es → roots1 (Option·map (measured g) o) (pieces (againTree es)) ≡ roots1 o (pieces es)
+      go : (o : Option Line) → pieces (againTree es) ≡ pieces es
+          → roots1 (Option·map (measured g) o) (pieces (againTree es)) ≡ roots1 o (pieces es)
       go none h = ap suc h
       go (some l) h = h
 
@@ -120,13 +124,15 @@ module _ (g : Line → ℤ) where
 
   -- ---- the closing lines
 
-  insert-same : (a : Candidate) (cs : List Candidate) → insert (measuredCandidate a) (map measuredCandidate cs) ≡ map measuredCandidate (insert a cs)
+  insert-same : (a : Candidate) (cs : List Candidate)
+      → insert (measuredCandidate a) (map measuredCandidate cs) ≡ map measuredCandidate (insert a cs)
   unfolding insert
   insert-same a [] = refl
   insert-same a (c ∷ cs) = go (leb (a .score) (c .score)) (insert-same a cs)
     where
       go : (t : Bool) → insert (measuredCandidate a) (map measuredCandidate cs) ≡ map measuredCandidate (insert a cs)
-          → insertOf t (measuredCandidate a) (map measuredCandidate (c ∷ cs)) (measuredCandidate c ∷ insert (measuredCandidate a) (map measuredCandidate cs))
+          → insertOf t (measuredCandidate a) (map measuredCandidate (c ∷ cs))
+          (measuredCandidate c ∷ insert (measuredCandidate a) (map measuredCandidate cs))
           ≡ map measuredCandidate (insertOf t a (c ∷ cs) (c ∷ insert a cs))
       go true h = refl
       go false h = ap (λ (l : List Candidate). measuredCandidate c ∷ l) h
@@ -146,7 +152,8 @@ module _ (g : Line → ℤ) where
       rest : List Candidate
       rest = closersAt es e ls
 
-      go : (t : Bool) (s : Option ℕ) → closerOf t s (measured g l) (map measuredCandidate rest) ≡ map measuredCandidate (closerOf t s l rest)
+      go : (t : Bool) (s : Option ℕ)
+          → closerOf t s (measured g l) (map measuredCandidate rest) ≡ map measuredCandidate (closerOf t s l rest)
       go true none = refl
       go true (some s) = insert-same (candidate s l) rest
       go false s = refl
@@ -161,7 +168,8 @@ module _ (g : Line → ℤ) where
   unfolding closing
   closing-same lines [] = refl
   closing-same lines (e ∷ es) =
-      ap₂ (λ (xs ys : List Line). xs ++ ys) (closing-same lines es) (ap justLines (closersAt-same es e lines) ∙ justLines-same (closersAt es e lines))
+      ap₂ (λ (xs ys : List Line). xs ++ ys) (closing-same lines es)
+      (ap justLines (closersAt-same es e lines) ∙ justLines-same (closersAt es e lines))
       ∙ sym (map-append (measured g) (closing lines es) (justLines (closersAt es e lines)))
 
   -- ---- the paths
@@ -172,7 +180,8 @@ module _ (g : Line → ℤ) where
   only-same ns [] = refl
   only-same ns (l ∷ ls) = go (isIn (l .number) ns) (only-same ns ls)
     where
-      go : (t : Bool) → only ns (again ls) ≡ again (only ns ls) → keepIf t (measured g l) (only ns (again ls)) ≡ again (keepIf t l (only ns ls))
+      go : (t : Bool) → only ns (again ls) ≡ again (only ns ls)
+          → keepIf t (measured g l) (only ns (again ls)) ≡ again (keepIf t l (only ns ls))
       go true h = ap (λ (ks : List Line). measured g l ∷ ks) h
       go false h = h
 
@@ -180,39 +189,47 @@ module _ (g : Line → ℤ) where
   unfolding down
   down-same es p = rw (distance-same es (start p), distance-same es (stop p))
 
-  descent-same : (es : Tree) (u : ℕ) (lines : List Line) → descent (againTree es) u (again lines) ≡ Option·map (measuredPass g) (descent es u lines)
+  descent-same : (es : Tree) (u : ℕ) (lines : List Line)
+      → descent (againTree es) u (again lines) ≡ Option·map (measuredPass g) (descent es u lines)
   unfolding descent
   descent-same es u [] = refl
   descent-same es u (l ∷ ls) = rw (down-same es (pass l true), down-same es (pass l false), descent-same es u ls)
       (go (eqb (l .from) u && down es (pass l true)) (eqb (l .to) u && down es (pass l false)))
     where
-      go : (s t : Bool) → pickPass s (measuredPass g (pass l true)) (pickPass t (measuredPass g (pass l false)) (Option·map (measuredPass g) (descent es u ls)))
+      go : (s t : Bool)
+          → pickPass s (measuredPass g (pass l true)) (pickPass t (measuredPass g (pass l false))
+          (Option·map (measuredPass g) (descent es u ls)))
           ≡ Option·map (measuredPass g) (pickPass s (pass l true) (pickPass t (pass l false) (descent es u ls)))
       go true t = refl
       go false true = refl
       go false false = refl
 
-  descend-same : (sub : List Line) (es : Tree) (k u : ℕ) → descend (again sub) (againTree es) k u ≡ map (measuredPass g) (descend sub es k u)
+  descend-same : (sub : List Line) (es : Tree) (k u : ℕ)
+      → descend (again sub) (againTree es) k u ≡ map (measuredPass g) (descend sub es k u)
   unfolding descend
   descend-same sub es zero u = refl
   descend-same sub es (suc k) u = rw (descent-same es u sub) (go (descent es u sub) (descend-same sub es k))
     where
       go : (o : Option Pass) → ((u : ℕ) → descend (again sub) (againTree es) k u ≡ map (measuredPass g) (descend sub es k u))
-          → onward (Option·map (measuredPass g) o) (λ m. descend (again sub) (againTree es) k m) ≡ map (measuredPass g) (onward o (λ m. descend sub es k m))
+          → onward (Option·map (measuredPass g) o) (λ m. descend (again sub) (againTree es) k m)
+          ≡ map (measuredPass g) (onward o (λ m. descend sub es k m))
       go none ih = refl
       go (some p) ih = ap (λ (ps : List Pass). measuredPass g p ∷ ps) (ih (stop p))
 
   -- the shortest path runs the same lines the same way
   pub shortest-same : (b : ℕ) (sub : List Line) (u r : ℕ) → shortest b (again sub) u r ≡ map (measuredPass g) (shortest b sub u r)
   unfolding shortest
-  shortest-same b sub u r = rw (grow-same sub (r ∷ []) b, distance-same (grow sub (r ∷ []) b) u) (descend-same sub (grow sub (r ∷ []) b) (orZero (distance (grow sub (r ∷ []) b) u)) u)
+  shortest-same b sub u r =
+      rw (grow-same sub (r ∷ []) b, distance-same (grow sub (r ∷ []) b) u)
+      (descend-same sub (grow sub (r ∷ []) b) (orZero (distance (grow sub (r ∷ []) b) u)) u)
 
   -- ---- the lines stay sound
 
   rising-same : {lines : List Line} → Rising lines → Rising (again lines)
   rising-same none-left = none-left
   rising-same (then {l = l} {ls = ls} above r) =
-      then (λ k i. let m = Memᴰ·of-map (measured g) ls i in subst (λ (x : Line). l .number < x .number) (m .2) (above (m .0) (m .1))) (rising-same r)
+      then (λ k i. let m = Memᴰ·of-map (measured g) ls i in subst (λ (x : Line). l .number < x .number) (m .2) (above (m .0) (m .1)))
+      (rising-same r)
 
   -- lines measured again are sound
   pub sound-same : {b : ℕ} {lines : List Line} → Sound b lines → Sound b (again lines)
@@ -220,7 +237,9 @@ module _ (g : Line → ℤ) where
     placed = λ l i. let m = Memᴰ·of-map (measured g) lines i in
         subst (Placed b) (m .2) (let p = sound .placed (m .0) (m .1) in
         record { from-low = p .from-low; from-high = p .from-high; to-low = p .to-low; to-high = p .to-high });
-    apart = λ l i. let m = Memᴰ·of-map (measured g) lines i in subst (λ (x : Line). x .from ≡ x .to → ⊥) (m .2) (sound .apart (m .0) (m .1));
-    long-enough = λ l i. let m = Memᴰ·of-map (measured g) lines i in subst (λ (x : Line). leastLength ≤ x .length) (m .2) (sound .long-enough (m .0) (m .1));
+    apart = λ l i. let m = Memᴰ·of-map (measured g) lines i in subst (λ (x : Line). x .from ≡ x .to → ⊥) (m .2)
+        (sound .apart (m .0) (m .1));
+    long-enough = λ l i. let m = Memᴰ·of-map (measured g) lines i in subst (λ (x : Line). leastLength ≤ x .length) (m .2)
+        (sound .long-enough (m .0) (m .1));
     rising = rising-same (sound .rising);
   }

@@ -26,7 +26,8 @@ both-none es l f t = go (distance es (l .from)) (distance es (l .to)) refl refl
     go (some a) none p q = absurd (t q)
     go (some a) (some b) p q = refl
 
-module _ (b : ℕ) (sub : List Line) (placed : (l : Line) → List·Memᴰ l sub → Placed b l) (long : Long sub) (r : ℕ) (low : 0 < r) (high : r ≤ b) where
+module _ (b : ℕ) (sub : List Line) (placed : (l : Line) → List·Memᴰ l sub → Placed b l) (long : Long sub) (r : ℕ) (low : 0 < r)
+    (high : r ≤ b) where
   abbrev pub at : ℕ → Tree
   at k = grow sub (r ∷ []) k
 
@@ -81,7 +82,9 @@ module _ (b : ℕ) (sub : List Line) (placed : (l : Line) → List·Memᴰ l sub
       go : {es : Tree} → (Done (at k) × (distance (at k) r ≡ none → ⊥)) ⊎ (outs (at k) b + k ≡ b) → Stepped sub (r ∷ []) (at k) es
           → (Done es × (distance es r ≡ none → ⊥)) ⊎ (outs es b + suc k ≡ b)
       go i (stop d f) = inl (d, f r (List·Memᴰ·head refl))
-      go (inl (d, f)) (line x) = never (score-of (at k) (x .l) (x .sc .near) (x .sc .away) (x .sc .d) (x .sc .ends) (x .sc .isIn) (x .sc .isOut)) (d (x .l) (x .isLine))
+      go (inl (d, f)) (line x) =
+          never (score-of (at k) (x .l) (x .sc .near) (x .sc .away) (x .sc .d) (x .sc .ends) (x .sc .isIn) (x .sc .isOut))
+          (d (x .l) (x .isLine))
       go (inl (d, f)) (root x m) = absurd (f (ap (distance (at k)) (sym (List·Memᴰ·eq-of-singleton m)) ∙ x .out))
       go (inr i) (line {e = e} x) =
           let v = placed-end b (x .l) (x .sc .near) (x .sc .away) (placed (x .l) (x .isLine)) (x .sc .ends) in
@@ -96,7 +99,8 @@ module _ (b : ℕ) (sub : List Line) (placed : (l : Line) → List·Memᴰ l sub
       go : (Done (at b) × (distance (at b) r ≡ none → ⊥)) ⊎ (outs (at b) b + b ≡ b) → Done (at b)
       go (inl x) = x .0
       go (inr z) = λ k m. let p = placed k m in
-          both-none (at b) k (outs-zero (at b) b (omega (arith, z)) (k .from) (p .from-low) (p .from-high)) (outs-zero (at b) b (omega (arith, z)) (k .to) (p .to-low) (p .to-high))
+          both-none (at b) k (outs-zero (at b) b (omega (arith, z)) (k .from) (p .from-low) (p .from-high))
+          (outs-zero (at b) b (omega (arith, z)) (k .to) (p .to-low) (p .to-high))
 
   pub at-zero : distance (at b) r ≡ some 0
   at-zero = go b low high
@@ -110,7 +114,8 @@ module _ (b : ℕ) (sub : List Line) (placed : (l : Line) → List·Memᴰ l sub
   unfolding shortest
   is-shortest rising u {w = w₀} w = go (shortest-of-all sub (grown sub (r ∷ []) b) done r 0 at-zero w)
     where
-      go : (du : ℕ) × (distance (at b) u ≡ some du) × (du ≤ 0 + wayLength w₀) → IsShortest sub r u (descend sub (at b) (orZero (distance (at b) u)) u)
+      go : (du : ℕ) × (distance (at b) u ≡ some du) × (du ≤ 0 + wayLength w₀)
+          → IsShortest sub r u (descend sub (at b) (orZero (distance (at b) u)) u)
       go (du, x, y) =
           let n : orZero (distance (at b) u) ≡ du = ap orZero x in
           let g = grown sub (r ∷ []) b in
@@ -118,7 +123,8 @@ module _ (b : ℕ) (sub : List Line) (placed : (l : Line) → List·Memᴰ l sub
           record {
             isWalk = d .0;
             least = λ v. let s = shortest-of-all sub g done r 0 at-zero v in omega (arith, d .1, s .2, same (s .1) x);
-            first = λ v e. tie sub g long r (root-only b) rising done at-zero (orZero (distance (at b) u)) u du x (omega (arith, n)) v (e ∙ d .1);
+            first = λ v e. tie sub g long r (root-only b) rising done at-zero (orZero (distance (at b) u)) u du x (omega (arith, n)) v
+                (e ∙ d .1);
           }
 
 -- ---- there is only one such path

@@ -69,14 +69,20 @@ module _ (b : ℕ) (lines : List Line) (sound : Sound b lines) where
   -- every mark enters, and once only
   pub each-mark-enters-once : (m : ℕ) → 0 < m → m ≤ b → timesEntered m (tree b lines) ≡ 1
   each-mark-enters-once m low high =
-      omega (arith, times (grows b lines (sound .placed)) m, in-bit (distance (tree b lines) m) (all-marks b lines (sound .placed) m low high))
+      omega (
+        arith,
+        times (grows b lines (sound .placed)) m,
+        in-bit (distance (tree b lines) m)
+            (all-marks b lines (sound .placed) m low high),
+      )
 
   -- a tree line is a standing line
   pub tree-line-stands : (l : Line) → List·Memᴰ l (treeLines (tree b lines)) → List·Memᴰ l lines
   tree-line-stands l m = let t = of-treeLines (tree b lines) l m in treeLine lines (grows b lines (sound .placed)) (t .0) (t .1) l (t .2)
 
   -- a mark's tree line leads to a mark that is nearer by just its length, and so by at least the least length
-  pub tree-line-leads-nearer : (e : Entry) → List·Memᴰ e (tree b lines) → (l : Line) → e .by ≡ some l → LeadsNearer (tree b lines) e l × (leastLength ≤ l .length)
+  pub tree-line-leads-nearer : (e : Entry) → List·Memᴰ e (tree b lines) → (l : Line) → e .by ≡ some l
+      → LeadsNearer (tree b lines) e l × (leastLength ≤ l .length)
   tree-line-leads-nearer e m l q =
       (leads (grows b lines (sound .placed)) e m l q, sound .long-enough l (treeLine lines (grows b lines (sound .placed)) e m l q))
 

@@ -11,7 +11,8 @@ use lib.Dec.{leb, eqb}
 use borrow.Author.Tests.{leb-true, leb-false, eqb-true, eqb-false}
 use Rattle.network.specs.Standing.{Line}
 use Rattle.network.specs.Walk.{Ends, along, against}
-use Rattle.network.specs.Tree.{Entry, Tree, Candidate, candidate, distance, oneEnd, score, far, lowerOf, lowestOf, lowest, firstOf, firstOut, next, step, grow}
+use Rattle.network.specs.Tree.{Entry, Tree, Candidate, candidate, distance, oneEnd, score, far, lowerOf, lowestOf, lowest, firstOf}
+use Rattle.network.specs.Tree.{firstOut, next, step, grow}
 
 -- ---- a score: the line has just one end in the tree
 
@@ -53,7 +54,8 @@ scored es l s h = go (distance es (l .from)) (distance es (l .to)) refl refl h
     }
     go (some d) (some d′) p q e = absurd (Option·none-ne-some s e)
 
-pub score-of : (es : Tree) (l : Line) (u v d : ℕ) → Ends l u v → distance es u ≡ some d → distance es v ≡ none → score es l ≡ some (d + l .length)
+pub score-of : (es : Tree) (l : Line) (u v d : ℕ) → Ends l u v → distance es u ≡ some d → distance es v ≡ none
+    → score es l ≡ some (d + l .length)
 unfolding score
 score-of es l u v d (along p q) a b = rw (p, q, a, b)
 score-of es l u v d (against p q) a b = rw (p, q, a, b)
@@ -131,7 +133,8 @@ lowest-none es (k ∷ ls) h l (List·Memᴰ·head e) = ap (score es) e ∙ lowes
 lowest-none es (k ∷ ls) h l (List·Memᴰ·tail m) = lowest-none es ls (lowestOf-none (score es k) k (lowest es ls) h .1) l m
 
 -- a line of the rest is not below what the rest's lowest is not below
-pub rest-least : (es : Tree) (ls : List Line) (n : ℕ) (b : Option Candidate) → lowest es ls ≡ b → ((d : Candidate) → b ≡ some d → n ≤ d .score)
+pub rest-least : (es : Tree) (ls : List Line) (n : ℕ) (b : Option Candidate) → lowest es ls ≡ b
+    → ((d : Candidate) → b ≡ some d → n ≤ d .score)
     → ((d : Candidate) → lowest es ls ≡ some d → IsLowest es ls d) → (l : Line) (s : ℕ) → List·Memᴰ l ls → score es l ≡ some s → n ≤ s
 rest-least es ls n none e f ih l s m q = absurd (Option·none-ne-some s (sym (lowest-none es ls e l m) ∙ q))
 rest-least es ls n (some d) e f ih l s m q = le-trans (f d refl) (ih d e .least l s m q)
@@ -142,7 +145,8 @@ lowest-some es [] c h = absurd (Option·none-ne-some c h)
 lowest-some es (k ∷ ls) c h = go (lowestOf-some (score es k) k (lowest es ls) c h) (lowest-some es ls)
   where
     -- the line k is the lowest, or the rest's lowest is
-    pick : ((c .line ≡ k) × (score es k ≡ some (c .score))) ⊎ (lowest es ls ≡ some c) → ((d : Candidate) → lowest es ls ≡ some d → IsLowest es ls d)
+    pick : ((c .line ≡ k) × (score es k ≡ some (c .score))) ⊎ (lowest es ls ≡ some c)
+        → ((d : Candidate) → lowest es ls ≡ some d → IsLowest es ls d)
         → List·Memᴰ (c .line) (k ∷ ls) × (score es (c .line) ≡ some (c .score))
     pick (inl (e, q)) ih = (List·Memᴰ·head e, ap (score es) e ∙ q)
     pick (inr q) ih = (List·Memᴰ·tail (ih c q .isLine), ih c q .itsScore)
@@ -160,7 +164,8 @@ unfolding firstOut
 firstOut-some es [] m h = absurd (Option·none-ne-some m h)
 firstOut-some es (r ∷ rs) m h = go (distance es r) refl h (firstOut-some es rs m)
   where
-    go : (a : Option ℕ) → distance es r ≡ a → firstOf a r (firstOut es rs) ≡ some m → (firstOut es rs ≡ some m → (distance es m ≡ none) × List·Memᴰ m rs)
+    go : (a : Option ℕ) → distance es r ≡ a → firstOf a r (firstOut es rs) ≡ some m
+        → (firstOut es rs ≡ some m → (distance es m ≡ none) × List·Memᴰ m rs)
         → (distance es m ≡ none) × List·Memᴰ m (r ∷ rs)
     go none p q ih = let e = Option·some-injective r m q in (ap (distance es) (sym e) ∙ p, List·Memᴰ·head (sym e))
     go (some d) p q ih = let i = ih q in (i .0, List·Memᴰ·tail (i .1))
@@ -202,7 +207,8 @@ pub data Grown (lines : List Line) : Tree → Type 0 where
 pub data Stepped (lines : List Line) (roots : List ℕ) (es : Tree) : Tree → Type 0 where
   line : {e : Entry} → ByLine lines es e → Stepped lines roots es (e ∷ es)
   root : {e : Entry} → ByRoot lines es e → List·Memᴰ (e .mark) roots → Stepped lines roots es (e ∷ es)
-  stop : ((k : Line) → List·Memᴰ k lines → score es k ≡ none) → ((m : ℕ) → List·Memᴰ m roots → distance es m ≡ none → ⊥) → Stepped lines roots es es
+  stop : ((k : Line) → List·Memᴰ k lines → score es k ≡ none) → ((m : ℕ) → List·Memᴰ m roots → distance es m ≡ none → ⊥)
+      → Stepped lines roots es es
 
 pub stepped : (lines : List Line) (roots : List ℕ) (es : Tree) → Stepped lines roots es (step lines roots es)
 unfolding step
@@ -236,7 +242,8 @@ isNew {es = es} b = ap (distance es) (b .itsMark) ∙ b .sc .isOut
 pub byOf : {a b : Entry} → a ≡ b → a .by ≡ b .by
 byOf p = ap (λ (x : Entry). x .by) p
 
-pub treeLine : (lines : List Line) {es : Tree} → Grown lines es → (e : Entry) → List·Memᴰ e es → (l : Line) → e .by ≡ some l → List·Memᴰ l lines
+pub treeLine : (lines : List Line) {es : Tree} → Grown lines es → (e : Entry) → List·Memᴰ e es → (l : Line) → e .by ≡ some l
+    → List·Memᴰ l lines
 treeLine lines (byLine g b) e (List·Memᴰ·head p) l q = Memᴰ·cast (Option·some-injective _ _ (sym q ∙ byOf p ∙ b .its)) (b .isLine)
 treeLine lines (byLine g b) e (List·Memᴰ·tail m) l q = treeLine lines g e m l q
 treeLine lines (byRoot g b) e (List·Memᴰ·head p) l q = absurd (Option·none-ne-some l (sym (b .its) ∙ sym (byOf p) ∙ q))
@@ -256,7 +263,8 @@ pub data Parent (lines : List Line) (es : Tree) (m d : ℕ) : Type 0 where
   isRoot : d ≡ 0 → Parent lines es m d
   over : (l : Line) (u du : ℕ) → List·Memᴰ l lines → Ends l u m → distance es u ≡ some du → d ≡ du + l .length → Parent lines es m d
 
-pub parent-keeps : (lines : List Line) (e : Entry) (es : Tree) (m d : ℕ) → distance es (e .mark) ≡ none → Parent lines es m d → Parent lines (e ∷ es) m d
+pub parent-keeps : (lines : List Line) (e : Entry) (es : Tree) (m d : ℕ) → distance es (e .mark) ≡ none → Parent lines es m d
+    → Parent lines (e ∷ es) m d
 parent-keeps lines e es m d f (isRoot z) = isRoot z
 parent-keeps lines e es m d f (over l u du i j h s) = over l u du i j (keeps e es u du f h) s
 

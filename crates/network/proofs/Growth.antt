@@ -10,7 +10,8 @@ use mathlib.Core.Option.{Option, none, some, Option·some-injective}
 use lib.ListN.{length}
 use Rattle.network.specs.Standing.{Line}
 use Rattle.network.specs.Sound.{Rising, Sound}
-use Rattle.network.specs.Tree.{entry, Tree, Candidate, candidate, distance, score, far, lowest, firstOf, firstOut, next, step, grow, upTo, marks, tree}
+use Rattle.network.specs.Tree.{entry, Tree, Candidate, candidate, distance, score, far, lowest, firstOf, firstOut, next, step, grow}
+use Rattle.network.specs.Tree.{upTo, marks, tree}
 use Rattle.network.specs.Growth.{EntersNext, NextRoot, Growth, nothing, enters, nextRoot}
 use Rattle.network.proofs.Grown.{IsLowest, lowest-none, lowest-some, firstOut-some}
 use Rattle.network.proofs.Shortest.{never}
@@ -39,7 +40,8 @@ lowest-enters es lines rising c h = record { isLine = w .isLine; itsScore = w .i
         go (no n) = inl (omega (arith, w .least l s m q))
 
 -- and nothing else does
-pub only-one-enters : {es : Tree} {lines : List Line} → Rising lines → {c d : Candidate} → EntersNext es lines c → EntersNext es lines d → c ≡ d
+pub only-one-enters : {es : Tree} {lines : List Line} → Rising lines → {c d : Candidate} → EntersNext es lines c → EntersNext es lines d
+    → c ≡ d
 only-one-enters {es = es} {lines = lines} rising {c = c} {d = d} x y =
     go (x .lowest (d .line) (d .score) (y .isLine) (y .itsScore)) (y .lowest (c .line) (c .score) (x .isLine) (x .itsScore))
   where
@@ -71,7 +73,8 @@ unfolding marks
 ascending-marks b = ascending-upTo b [] (λ k i. absurd (List·Memᴰ·not-nil i)) no-mark
 
 -- the first that is out is the lowest that is out
-firstOut-lowest : (es : Tree) {ms : List ℕ} → Ascending ms → (m : ℕ) → firstOut es ms ≡ some m → (k : ℕ) → List·Memᴰ k ms → k < m → distance es k ≡ none → ⊥
+firstOut-lowest : (es : Tree) {ms : List ℕ} → Ascending ms → (m : ℕ) → firstOut es ms ≡ some m → (k : ℕ) → List·Memᴰ k ms → k < m
+    → distance es k ≡ none → ⊥
 unfolding firstOut
 firstOut-lowest es no-mark m h k i lt out = List·Memᴰ·not-nil i
 firstOut-lowest es (mark-then {m = r} {ms = rs} above a) m h k i lt out = go (distance es r) refl h i (firstOut-lowest es a m)
@@ -87,7 +90,13 @@ firstOut-root : (b : ℕ) (es : Tree) (m : ℕ) → firstOut es (marks b) ≡ so
 firstOut-root b es m h =
     let f = firstOut-some es (marks b) m h in
     let p = of-marks b m (f .1) in
-    record { low = p .0; high = p .1; isOut = f .0; lowest = λ k z lt. firstOut-lowest es (ascending-marks b) m h k (in-marks b k z (omega arith)) lt }
+    record {
+      low = p .0;
+      high = p .1;
+      isOut = f .0;
+      lowest = λ k z lt. firstOut-lowest es (ascending-marks b) m h k
+          (in-marks b k z (omega arith)) lt;
+    }
 
 only-one-root : {b : ℕ} {es : Tree} {m n : ℕ} → NextRoot b es m → NextRoot b es n → m ≡ n
 only-one-root {m = m} {n = n} x y = go (decLt m n) (decLt n m)
@@ -107,7 +116,8 @@ growth b lines rising (suc k) = go (growth b lines rising k) (lowest es lines) (
     es : Tree
     es = grow lines (marks b) k
 
-    go : Growth b lines es → (o : Option Candidate) (r : Option ℕ) → lowest es lines ≡ o → firstOut es (marks b) ≡ r → Growth b lines (next es o r)
+    go : Growth b lines es → (o : Option Candidate) (r : Option ℕ) → lowest es lines ≡ o → firstOut es (marks b) ≡ r
+        → Growth b lines (next es o r)
     go g (some c) r p q = enters g (lowest-enters es lines rising c p)
     go g none (some m) p q = nextRoot g (lowest-none es lines p) (firstOut-root b es m q)
     go g none none p q = g
@@ -118,26 +128,33 @@ unfolding tree
 tree-grows b lines sound = growth b lines (sound .rising) b
 
 -- two trees that grow so, of as many marks, are one
-pub growth-unique : (b : ℕ) (lines : List Line) → Rising lines → {es fs : Tree} → Growth b lines es → Growth b lines fs → length es ≡ length fs → es ≡ fs
+pub growth-unique : (b : ℕ) (lines : List Line) → Rising lines → {es fs : Tree} → Growth b lines es → Growth b lines fs
+    → length es ≡ length fs → es ≡ fs
 growth-unique b lines rising nothing nothing n = refl
 growth-unique b lines rising nothing (enters g y) n = absurd (omega (arith, n))
 growth-unique b lines rising nothing (nextRoot g d y) n = absurd (omega (arith, n))
 growth-unique b lines rising (enters f x) nothing n = absurd (omega (arith, n))
-growth-unique b lines rising (enters {es = es} {c = c} f x) (enters {es = fs} {c = d} g y) n = go (growth-unique b lines rising f g (omega (arith, n)))
+growth-unique b lines rising (enters {es = es} {c = c} f x) (enters {es = fs} {c = d} g y) n =
+    go (growth-unique b lines rising f g (omega (arith, n)))
   where
-    go : es ≡ fs → _≡_ {A = Tree} (entry (far es (c .line)) (c .score) (some (c .line)) ∷ es) (entry (far fs (d .line)) (d .score) (some (d .line)) ∷ fs)
+    go : es ≡ fs
+        → _≡_ {A = Tree} (entry (far es (c .line)) (c .score) (some (c .line)) ∷ es)
+        (entry (far fs (d .line)) (d .score) (some (d .line)) ∷ fs)
     go e = ap₂ (λ (t : Tree) (k : Candidate). entry (far t (k .line)) (k .score) (some (k .line)) ∷ t) e
         (only-one-enters rising (subst (λ (t : Tree). EntersNext t lines c) e x) y)
-growth-unique b lines rising (enters {es = es} {c = c} f x) (nextRoot {es = fs} g d y) n = go (growth-unique b lines rising f g (omega (arith, n)))
+growth-unique b lines rising (enters {es = es} {c = c} f x) (nextRoot {es = fs} g d y) n =
+    go (growth-unique b lines rising f g (omega (arith, n)))
   where
     go : {A : Type 0} → es ≡ fs → A
     go e = never (x .itsScore) (subst (λ (t : Tree). score t (c .line) ≡ none) (sym e) (d (c .line) (x .isLine)))
 growth-unique b lines rising (nextRoot f d x) nothing n = absurd (omega (arith, n))
-growth-unique b lines rising (nextRoot {es = es} f d x) (enters {es = fs} {c = c} g y) n = go (growth-unique b lines rising f g (omega (arith, n)))
+growth-unique b lines rising (nextRoot {es = es} f d x) (enters {es = fs} {c = c} g y) n =
+    go (growth-unique b lines rising f g (omega (arith, n)))
   where
     go : {A : Type 0} → es ≡ fs → A
     go e = never (y .itsScore) (subst (λ (t : Tree). score t (c .line) ≡ none) e (d (c .line) (y .isLine)))
-growth-unique b lines rising (nextRoot {es = es} {m = m} f d x) (nextRoot {es = fs} {m = k} g c y) n = go (growth-unique b lines rising f g (omega (arith, n)))
+growth-unique b lines rising (nextRoot {es = es} {m = m} f d x) (nextRoot {es = fs} {m = k} g c y) n =
+    go (growth-unique b lines rising f g (omega (arith, n)))
   where
     go : es ≡ fs → _≡_ {A = Tree} (entry m 0 none ∷ es) (entry k 0 none ∷ fs)
     go e = ap₂ (λ (t : Tree) (j : ℕ). entry j 0 none ∷ t) e (only-one-root (subst (λ (t : Tree). NextRoot b t m) e x) y)

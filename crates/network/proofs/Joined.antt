@@ -33,7 +33,8 @@ module _ (lines ls : List Line) where
   fewer e es h l (x, m, p) = h l (x, List·Memᴰ·tail m, p)
 
   -- a mark from which a line leads out of the tree is joined with the root of the piece that is growing
-  pub to-root : {es : Tree} → Grown lines es → Holds es → (l : Line) (u v d : ℕ) → List·Memᴰ l lines → Ends l u v → distance es u ≡ some d → distance es v ≡ none
+  pub to-root : {es : Tree} → Grown lines es → Holds es → (l : Line) (u v d : ℕ) → List·Memᴰ l lines → Ends l u v
+      → distance es u ≡ some d → distance es v ≡ none
       → Way ls (rootOf es) u
   unfolding rootOf distance
   to-root empty h l u v d m j p q = never p refl
@@ -47,7 +48,9 @@ module _ (lines ls : List Line) where
       go : After e es u → (distance es u ≡ some d → distance es v ≡ none → Way ls (rootOf es) u) → Way ls (rootOf es) (b .sc .near)
           → Way ls (rootOr (e .by) (e .mark) (rootOf es)) u
       go (new x y) ih near =
-          let o = over (b .l) u (b .sc .near) (h (b .l) (e, List·Memᴰ·head refl, b .its)) (turn (ends-to (sym (b .itsMark) ∙ x) (b .sc .ends))) in
+          let o =
+          over (b .l) u (b .sc .near) (h (b .l) (e, List·Memᴰ·head refl, b .its))
+          (turn (ends-to (sym (b .itsMark) ∙ x) (b .sc .ends))) in
           subst (λ (r : ℕ). Way ls r u) root-same (o .0 ++ near .0, walk-append (o .1) (near .1))
       go (old x y) ih near = subst (λ (r : ℕ). Way ls r u) root-same (ih (sym y ∙ p) (wasOut e es v q))
   to-root (byRoot {e = e} {es = es} g b) h l u v d m j p q = go (after e es u)
@@ -57,14 +60,18 @@ module _ (lines ls : List Line) where
       go (old x y) = never (score-of es l u v d j (sym y ∙ p) (wasOut e es v q)) (b .done l m)
 
   -- the ends of a line that closes at an entry
-  pub joined-new : (e : Entry) (es : Tree) → Grown lines es → (b : ByLine lines es e) → Holds (e ∷ es) → (c : Line) → List·Memᴰ c (justLines (closersAt es e lines))
+  pub joined-new : (e : Entry) (es : Tree) → Grown lines es → (b : ByLine lines es e) → Holds (e ∷ es) → (c : Line)
+      → List·Memᴰ c (justLines (closersAt es e lines))
       → Way ls (c .from) (c .to)
   joined-new e es g b h c i =
       let w = of-closers es e lines c i in
       let k = closer-ends es e lines c w in
       let here-way = to-root g (fewer e es h) c (k .0) (e .mark) (k .1) (w .isLine) (k .2) (k .3) (isNew b) in
-      let there = to-root g (fewer e es h) (b .l) (b .sc .near) (b .sc .away) (b .sc .d) (b .isLine) (b .sc .ends) (b .sc .isIn) (b .sc .isOut) in
-      let o = over (b .l) (e .mark) (b .sc .near) (h (b .l) (e, List·Memᴰ·head refl, b .its)) (turn (ends-to (sym (b .itsMark)) (b .sc .ends))) in
+      let there =
+      to-root g (fewer e es h) (b .l) (b .sc .near) (b .sc .away) (b .sc .d) (b .isLine) (b .sc .ends) (b .sc .isIn) (b .sc .isOut) in
+      let o =
+      over (b .l) (e .mark) (b .sc .near) (h (b .l) (e, List·Memᴰ·head refl, b .its))
+      (turn (ends-to (sym (b .itsMark)) (b .sc .ends))) in
       let back = way-back (here-way .1) in
       let all : Walk ls (k .0) (e .mark) (o .0 ++ (there .0 ++ back .0)) = walk-append (o .1) (walk-append (there .1) (back .1)) in
       go (k .0) (k .2) all

@@ -39,7 +39,8 @@ outs-above e es (suc b) h = go (after e es (suc b)) (outs-above e es b)
     go (new x y) ih = absurd (omega (arith, x))
     go (old x y) ih = rw y (omega (arith, ih (omega arith)))
 
-pub outs-cons : (e : Entry) (es : Tree) (b : ℕ) → distance es (e .mark) ≡ none → 0 < e .mark → e .mark ≤ b → outs es b ≡ suc (outs (e ∷ es) b)
+pub outs-cons : (e : Entry) (es : Tree) (b : ℕ) → distance es (e .mark) ≡ none → 0 < e .mark → e .mark ≤ b
+    → outs es b ≡ suc (outs (e ∷ es) b)
 unfolding outs
 outs-cons e es zero out h k = absurd (omega arith)
 outs-cons e es (suc b) out h k = go (after e es (suc b)) (outs-cons e es b out h)
@@ -115,7 +116,8 @@ module _ (b : ℕ) (lines : List Line) (placed : (l : Line) → List·Memᴰ l l
       es : Tree
       es = grow lines (marks b) k
 
-      go : {es′ : Tree} → outs es b + k ≡ b → length es ≡ k → Stepped lines (marks b) es es′ → (outs es′ b + suc k ≡ b) × (length es′ ≡ suc k)
+      go : {es′ : Tree} → outs es b + k ≡ b → length es ≡ k → Stepped lines (marks b) es es′
+          → (outs es′ b + suc k ≡ b) × (length es′ ≡ suc k)
       go i j (line {e = e} x) =
           let v = placed-end b (x .l) (x .sc .near) (x .sc .away) (placed (x .l) (x .isLine)) (x .sc .ends) in
           (omega (arith, i, outs-cons e es b (isNew x) (omega (arith, v .0, x .itsMark)) (omega (arith, v .1, x .itsMark))), ap suc j)

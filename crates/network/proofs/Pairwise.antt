@@ -16,7 +16,8 @@ pairwise-rest (pairs f p) = p
 pub pairwise-append : {A : Type 0} {R : A → A → Type 0} {xs ys : List A} → Pairwise R xs → Pairwise R ys
     → ((x y : A) → List·Memᴰ x xs → List·Memᴰ y ys → R x y) → Pairwise R (xs ++ ys)
 pairwise-append no-pair q h = q
-pairwise-append {R = R} {ys = ys} (pairs {a = a} {rest = rest} f p) q h = pairs (λ c i. go c (List·Memᴰ·append-cases rest i)) (pairwise-append p q (λ x y i j. h x y (List·Memᴰ·tail i) j))
+pairwise-append {R = R} {ys = ys} (pairs {a = a} {rest = rest} f p) q h =
+    pairs (λ c i. go c (List·Memᴰ·append-cases rest i)) (pairwise-append p q (λ x y i j. h x y (List·Memᴰ·tail i) j))
   where
     go : (c : _) → List·Memᴰ c rest ⊎ List·Memᴰ c ys → R a c
     go c (inl i) = f c i

@@ -1,4 +1,5 @@
--- Of two lines with the same two ends, the one that entered or closed first is the shorter, or as long and of the lower number. Assumes nothing.
+-- Of two lines with the same two ends, the one that entered or closed first is the shorter, or as long and of the lower number. Assumes
+-- nothing.
 use Prim.Native.Nat.{ℕ, _≤_, _<_}
 use native.Mathlib.Omega.{arith}
 use mathlib.Core.Path.{_≡_, refl, sym, _∙_, ap, subst}
@@ -68,7 +69,8 @@ sooner-lower es y d s t p q par so = go so
 -- ---- both closed
 
 module _ (lines : List Line) (rising : Rising lines) (apart : Apart lines) where
-  closers-parallel : (es : Tree) (e : Entry) {cs : List Candidate} → Pairwise Sooner cs → ((c : Candidate) → List·Memᴰ c cs → ClosesAt lines es e c)
+  closers-parallel : (es : Tree) (e : Entry) {cs : List Candidate} → Pairwise Sooner cs
+      → ((c : Candidate) → List·Memᴰ c cs → ClosesAt lines es e c)
       → Pairwise (λ (y d : Line). Parallel y d → Lower y d) (justLines cs)
   unfolding justLines
   closers-parallel es e no-pair h = no-pair
@@ -77,7 +79,8 @@ module _ (lines : List Line) (rising : Rising lines) (apart : Apart lines) where
     where
       go : (d : Line) → (c : Candidate) × List·Memᴰ c cs × (d ≡ c .line) → Parallel (a .line) d → Lower (a .line) d
       go d (c, i, x) = subst (λ (k : Line). Parallel (a .line) k → Lower (a .line) k) (sym x)
-          (λ par. sooner-lower es (a .line) (c .line) (a .score) (c .score) (h a (List·Memᴰ·head refl) .itsScore) (h c (List·Memᴰ·tail i) .itsScore) par (f c i))
+          (λ par. sooner-lower es (a .line) (c .line) (a .score) (c .score) (h a (List·Memᴰ·head refl) .itsScore)
+          (h c (List·Memᴰ·tail i) .itsScore) par (f c i))
 
   -- a line that closed earlier has both its ends in the tree, and one of a new closing line's is not
   closed-earlier : (e : Entry) (es : Tree) → Grown lines es → distance es (e .mark) ≡ none → (y d : Line) → List·Memᴰ y (closing lines es)
@@ -86,7 +89,8 @@ module _ (lines : List Line) (rising : Rising lines) (apart : Apart lines) where
       let w = closer-ends es e lines d (of-closers es e lines d j) in
       closing-ends lines rising apart g y i (w .0) (e .mark) (parallel-ends par (w .2)) out
 
-  parallel-step : (e : Entry) (es : Tree) → Grown lines es → distance es (e .mark) ≡ none → Pairwise (λ (y d : Line). Parallel y d → Lower y d) (closing lines es)
+  parallel-step : (e : Entry) (es : Tree) → Grown lines es → distance es (e .mark) ≡ none
+      → Pairwise (λ (y d : Line). Parallel y d → Lower y d) (closing lines es)
       → Pairwise (λ (y d : Line). Parallel y d → Lower y d) (closing lines es ++ justLines (closersAt es e lines))
   parallel-step e es g out p =
       pairwise-append p (closers-parallel es e (order-closersAt es e rising) (of-closersAt es e lines))
@@ -102,7 +106,8 @@ module _ (lines : List Line) (rising : Rising lines) (apart : Apart lines) where
   -- ---- one entered
 
   -- what enters next enters by a line
-  pub next-by-line : {es : Tree} {c : Candidate} → EntersNext es lines c → ByLine lines es (entry (far es (c .line)) (c .score) (some (c .line)))
+  pub next-by-line : {es : Tree} {c : Candidate} → EntersNext es lines c
+      → ByLine lines es (entry (far es (c .line)) (c .score) (some (c .line)))
   next-by-line {es = es} {c = c} x =
       let sc = scored es (c .line) (c .score) (x .itsScore) in
       record { l = c .line; its = refl; isLine = x .isLine; sc = sc; itsMark = sc .isFar; least = λ k s m q. not-over (x .lowest k s m q) }
@@ -118,17 +123,20 @@ module _ (lines : List Line) (rising : Rising lines) (apart : Apart lines) where
   growth-grown (nextRoot g d r) = byRoot (growth-grown g) (record { its = refl; zero-at = refl; out = r .isOut; done = d })
 
   -- a tree line is lower than a closing line with the same ends
-  pub entered-is-lower : {b : ℕ} {es : Tree} → Growth b lines es → (y d : Line) → InTree es y → List·Memᴰ d (closing lines es) → Parallel y d → Lower y d
+  pub entered-is-lower : {b : ℕ} {es : Tree} → Growth b lines es → (y d : Line) → InTree es y → List·Memᴰ d (closing lines es)
+      → Parallel y d → Lower y d
   unfolding closing next-by-line
   entered-is-lower nothing y d t m par = absurd (List·Memᴰ·not-nil m)
   entered-is-lower (nextRoot {es = es} g done r) y d (x, List·Memᴰ·head p, h) m par = absurd (Option·none-ne-some y (sym (byOf p) ∙ h))
-  entered-is-lower (nextRoot {es = es} {m = k} g done r) y d (x, List·Memᴰ·tail i, h) m par = go (List·Memᴰ·append-cases (closing lines es) m) (λ j q. entered-is-lower g y d (x, i, h) j q)
+  entered-is-lower (nextRoot {es = es} {m = k} g done r) y d (x, List·Memᴰ·tail i, h) m par =
+      go (List·Memᴰ·append-cases (closing lines es) m) (λ j q. entered-is-lower g y d (x, i, h) j q)
     where
       go : List·Memᴰ d (closing lines es) ⊎ List·Memᴰ d (justLines (closersAt es (entry k 0 none) lines))
           → (List·Memᴰ d (closing lines es) → Parallel y d → Lower y d) → Lower y d
       go (inl j) ih = ih j par
       go (inr j) ih = let w = of-closers es (entry k 0 none) lines d j in never (w .itsScore) (done d (w .isLine))
-  entered-is-lower (enters {es = es} {c = c} g n) y d t m par = go (List·Memᴰ·append-cases (closing lines es) m) t (λ t j q. entered-is-lower g y d t j q)
+  entered-is-lower (enters {es = es} {c = c} g n) y d t m par =
+      go (List·Memᴰ·append-cases (closing lines es) m) t (λ t j q. entered-is-lower g y d t j q)
     where
       e : Entry
       e = entry (far es (c .line)) (c .score) (some (c .line))
@@ -141,16 +149,20 @@ module _ (lines : List Line) (rising : Rising lines) (apart : Apart lines) where
       go (inl j) (x, List·Memᴰ·tail i, h) ih = ih (x, i, h) j par
       go (inl j) (x, List·Memᴰ·head p, h) ih =
           absurd (closing-ends lines rising apart (growth-grown g) d j (by-line .sc .near) (by-line .sc .away)
-          (parallel-ends (parallel-sym par) (subst (λ (k : Line). Ends k (by-line .sc .near) (by-line .sc .away)) (Option·some-injective (c .line) y (sym (byOf p) ∙ h)) (by-line .sc .ends)))
+          (parallel-ends (parallel-sym par) (subst (λ (k : Line). Ends k (by-line .sc .near) (by-line .sc .away))
+          (Option·some-injective (c .line) y (sym (byOf p) ∙ h)) (by-line .sc .ends)))
           (by-line .sc .isOut))
       go (inr j) (x, List·Memᴰ·tail i, h) ih =
           let w = closer-ends es e lines d (of-closers es e lines d j) in
           absurd (ends-in lines (growth-grown g) x i y h (w .0) (e .mark) (parallel-ends par (w .2)) (isNew by-line))
       go (inr j) (x, List·Memᴰ·head p, h) ih =
-          subst (λ (k : Line). Parallel k d → Lower k d) (Option·some-injective (c .line) y (sym (byOf p) ∙ h)) (own (of-closers es e lines d j)) par
+          subst (λ (k : Line). Parallel k d → Lower k d) (Option·some-injective (c .line) y (sym (byOf p) ∙ h))
+          (own (of-closers es e lines d j)) par
         where
           own : Closer es e lines d → Parallel (c .line) d → Lower (c .line) d
-          own w q = sooner-lower es (c .line) d (c .score) (w .s) (n .itsScore) (w .itsScore) q (before (n .lowest d (w .s) (w .isLine) (w .itsScore)))
+          own w q =
+              sooner-lower es (c .line) d (c .score) (w .s) (n .itsScore) (w .itsScore) q
+              (before (n .lowest d (w .s) (w .isLine) (w .itsScore)))
             where
               before : (c .score < w .s) ⊎ ((c .score ≡ w .s) × (c .line .number ≤ d .number))
                   → (c .score < w .s) ⊎ ((c .score ≡ w .s) × (c .line .number < d .number))

@@ -38,7 +38,8 @@ module _ (b : ℕ) (lines : List Line) (sound : Sound b lines) where
 
   -- a mark of the book is a root exactly if it is the lowest of its piece
   pub root-exactly-if-lowest : (m : ℕ) → 0 < m → m ≤ b → (rootAt (tree b lines) m ≡ true) ↔ LowestOfPiece lines m
-  root-exactly-if-lowest m low high = (λ h r z lt w x. root-is-lowest b lines sound (tree-grows b lines sound) m r h z lt x, λ f. go f (rootAt (tree b lines) m) refl)
+  root-exactly-if-lowest m low high =
+      (λ h r z lt w x. root-is-lowest b lines sound (tree-grows b lines sound) m r h z lt x, λ f. go f (rootAt (tree b lines) m) refl)
     where
       go : LowestOfPiece lines m → (t : Bool) → rootAt (tree b lines) m ≡ t → t ≡ true
       go f true e = refl
@@ -80,7 +81,9 @@ module _ (b : ℕ) (lines : List Line) (sound : Sound b lines) (l : Line) (stand
       go (yes e) rest = own (unique lines (sound .rising) (p .line) l m stands e) rest
         where
           own : p .line ≡ l → Cut r (stop p) → Cut r u
-          own z (whole y) = parts (start p) (stop p) (subst (λ (k : Line). EndOf k (start p)) z (pass-ends p .0)) (subst (λ (k : Line). EndOf k (stop p)) z (pass-ends p .1)) ([], here (sym s)) y
+          own z (whole y) =
+              parts (start p) (stop p) (subst (λ (k : Line). EndOf k (start p)) z (pass-ends p .0))
+              (subst (λ (k : Line). EndOf k (stop p)) z (pass-ends p .1)) ([], here (sym s)) y
           own z (parts a c i j x y) = parts (start p) c (subst (λ (k : Line). EndOf k (start p)) z (pass-ends p .0)) j ([], here (sym s)) y
 
   -- of three ends of one line two are the same
@@ -102,11 +105,14 @@ module _ (b : ℕ) (lines : List Line) (sound : Sound b lines) (l : Line) (stand
 
   lowest′ : (m r : ℕ) → Root′ m → 0 < r → r < m → Way few r m → ⊥
   unfolding Root′
-  lowest′ m r h low lt w = root-is-lowest b few (sound-without sound (l .number)) (tree-grows b few (sound-without sound (l .number))) m r h low lt (w .1)
+  lowest′ m r h low lt w =
+      root-is-lowest b few (sound-without sound (l .number)) (tree-grows b few (sound-without sound (l .number))) m r h low lt (w .1)
 
   -- no two marks become roots
-  one-new-root : (m n : ℕ) → 0 < m → m < n → n ≤ b → Root′ m → rootAt (tree b lines) m ≡ false → Root′ n → rootAt (tree b lines) n ≡ false → ⊥
-  one-new-root m n low lt high rm om rn on = go (joined-lower b lines sound m low (omega arith) om) (joined-lower b lines sound n (omega arith) high on)
+  one-new-root : (m n : ℕ) → 0 < m → m < n → n ≤ b → Root′ m → rootAt (tree b lines) m ≡ false → Root′ n
+      → rootAt (tree b lines) n ≡ false → ⊥
+  one-new-root m n low lt high rm om rn on =
+      go (joined-lower b lines sound m low (omega arith) om) (joined-lower b lines sound n (omega arith) high on)
     where
       go : (r : ℕ) × (0 < r) × (r < m) × Way lines r m → (s : ℕ) × (0 < s) × (s < n) × Way lines s n → ⊥
       go (r, zr, lr, wr) (s, zs, ls, ws) = meet (cut (wr .1)) (cut (ws .1))
@@ -159,5 +165,6 @@ module _ (b : ℕ) (lines : List Line) (sound : Sound b lines) (l : Line) (stand
         as-many-pieces-as-roots b lines sound,
         as-many-pieces-as-roots b few less,
         count-more (rootAt (tree b lines)) (rootAt (tree b few)) b
-            (λ m low high e. root-exactly-if-lowest b few less m low high .1 (still-lowest m (root-exactly-if-lowest b lines sound m low high .0 e))),
+            (λ m low high e. root-exactly-if-lowest b few less m low high .1
+            (still-lowest m (root-exactly-if-lowest b lines sound m low high .0 e))),
       )

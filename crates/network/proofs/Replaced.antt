@@ -1,5 +1,5 @@
--- Lines that no shortest path wants: where each line beyond the subgraph has a better one with the same ends in it, the shortest paths of the subgraph are
--- the shortest of all. Assumes nothing.
+-- Lines that no shortest path wants: where each line beyond the subgraph has a better one with the same ends in it, the shortest paths of
+-- the subgraph are the shortest of all. Assumes nothing.
 use Prim.Native.Nat.{ℕ, _≤_, _<_}
 use native.Mathlib.Omega.{arith}
 use mathlib.Core.Path.{_≡_, refl, sym, _∙_, ap, subst}
@@ -7,7 +7,8 @@ use mathlib.Core.Logic.{_⊎_, inl, inr}
 use mathlib.Core.Bool.{true, false}
 use mathlib.Core.List.{List, [], _∷_, List·Memᴰ, Memᴰ·cast}
 use Rattle.network.specs.Standing.{Line}
-use Rattle.network.specs.Walk.{Ends, along, against, Pass, pass, start, stop, wayLength, Walk, here, step, Before, equal, lower, alike, IsShortest}
+use Rattle.network.specs.Walk.{Ends, along, against, Pass, pass, start, stop, wayLength, Walk, here, step, Before, equal, lower}
+use Rattle.network.specs.Walk.{alike, IsShortest}
 use Rattle.network.proofs.Shortest.{endsOf}
 use Rattle.network.proofs.Walks.{walk-wider}
 use Rattle.network.proofs.Parallel.{Parallel, Lower, parallel-ends}
@@ -21,8 +22,10 @@ runFrom l (against a c) = (pass l false, refl, a, c)
 pub before-trans : {p q r : List Pass} → Before p q → Before q r → Before p r
 before-trans equal equal = equal
 before-trans (lower {p = p} x) (lower {q = r} y) = let lt : p .line .number < r .line .number = omega arith in lower lt
-before-trans (lower {p = p} x) (alike {q = r} e y) = let lt : p .line .number < r .line .number = omega (arith, ap (λ (o : Pass). o .line .number) e) in lower lt
-before-trans (alike {p = p} e x) (lower {q = r} y) = let lt : p .line .number < r .line .number = omega (arith, ap (λ (o : Pass). o .line .number) e) in lower lt
+before-trans (lower {p = p} x) (alike {q = r} e y) =
+    let lt : p .line .number < r .line .number = omega (arith, ap (λ (o : Pass). o .line .number) e) in lower lt
+before-trans (alike {p = p} e x) (lower {q = r} y) =
+    let lt : p .line .number < r .line .number = omega (arith, ap (λ (o : Pass). o .line .number) e) in lower lt
 before-trans (alike e x) (alike f y) = alike (e ∙ f) (before-trans x y)
 
 -- shorter, or as short and not later by numbers
@@ -54,7 +57,8 @@ module _ (sub all : List Line) (of-all : (l : Line) → List·Memᴰ l sub → L
       go (v, x, n) (inl i) = (p ∷ v, step s i x, not-worse-after p v ps n)
       go (v, x, n) (inr (y, i, par, low)) = over (runFrom y (parallel-ends par (endsOf p)))
         where
-          over : (q : Pass) × (q .line ≡ y) × (start q ≡ start p) × (stop q ≡ stop p) → (v : List Pass) × Walk sub r u v × NotWorse v (p ∷ ps)
+          over : (q : Pass) × (q .line ≡ y) × (start q ≡ start p) × (stop q ≡ stop p)
+              → (v : List Pass) × Walk sub r u v × NotWorse v (p ∷ ps)
           over (q, a, c, d) = (
             q ∷ v,
             step (c ∙ s) (Memᴰ·cast a i) (subst (λ (z : ℕ). Walk sub r z v) (sym d) x),
@@ -63,7 +67,8 @@ module _ (sub all : List Line) (of-all : (l : Line) → List·Memᴰ l sub → L
 
   -- so the shortest path in the subgraph is the shortest of all
   pub shortest-of-more : {r u : ℕ} {p : List Pass} → IsShortest sub r u p → IsShortest all r u p
-  shortest-of-more {r = r} {u = u} {p = p} x = record { isWalk = walk-wider of-all (x .isWalk); least = λ w. least (replaced w); first = λ w e. first e (replaced w) }
+  shortest-of-more {r = r} {u = u} {p = p} x =
+      record { isWalk = walk-wider of-all (x .isWalk); least = λ w. least (replaced w); first = λ w e. first e (replaced w) }
     where
       least : {w : List Pass} → (v : List Pass) × Walk sub r u v × NotWorse v w → wayLength p ≤ wayLength w
       least (v, y, inl lt) = omega (arith, x .least y)

@@ -40,7 +40,8 @@ unfolding countTo
 count-but-one f g k h z zero low high = absurd (omega arith)
 count-but-one f g k h z (suc b) low high = go (ℕ-discrete (suc b) k) (count-but-one f g k h z b low)
   where
-    go : Dec (suc b ≡ k) → (k ≤ b → countTo f b ≡ bit (f k) + countTo g b) → bit (f (suc b)) + countTo f b ≡ bit (f k) + (bit (g (suc b)) + countTo g b)
+    go : Dec (suc b ≡ k) → (k ≤ b → countTo f b ≡ bit (f k) + countTo g b)
+        → bit (f (suc b)) + countTo f b ≡ bit (f k) + (bit (g (suc b)) + countTo g b)
     go (yes e) ih = rw (e, z) (omega (arith, count-same f g b (λ m le. h m (λ q. omega (arith, q, e)))))
     go (no n) ih = rw (h (suc b) n) (omega (arith, ih (omega arith)))
 
@@ -127,7 +128,9 @@ module _ (b : ℕ) (lines : List Line) (sound : Sound b lines) where
   count-step : (e : Entry) (es : Tree) → distance es (e .mark) ≡ none → 0 < e .mark → e .mark ≤ b → pieces es ≡ countTo (rootAt es) b
       → bit (rootIf (e .by)) + pieces es ≡ countTo (rootAt (e ∷ es)) b
   count-step e es out low high ih =
-      let c = count-but-one (rootAt (e ∷ es)) (rootAt es) (e .mark) (λ m d. root-old e es m (λ z. d (sym z))) (root-out es (e .mark) out) b low high in
+      let c =
+      count-but-one (rootAt (e ∷ es)) (rootAt es) (e .mark) (λ m d. root-old e es m (λ z. d (sym z))) (root-out es (e .mark) out) b
+      low high in
       omega (arith, ih, c, ap bit (root-new e es))
 
   -- the pieces are as many as the marks 1 to b that entered as roots
@@ -137,7 +140,8 @@ module _ (b : ℕ) (lines : List Line) (sound : Sound b lines) where
   pieces-are-roots (enters {es = es} {c = c} g x) =
       let p = mark-placed x in
       omega (arith, count-step (entry (far es (c .line)) (c .score) (some (c .line))) es (mark-out x) (p .0) (p .1) (pieces-are-roots g))
-  pieces-are-roots (nextRoot {es = es} {m = m} g d r) = omega (arith, count-step (entry m 0 none) es (r .isOut) (r .low) (r .high) (pieces-are-roots g))
+  pieces-are-roots (nextRoot {es = es} {m = m} g d r) =
+      omega (arith, count-step (entry m 0 none) es (r .isOut) (r .low) (r .high) (pieces-are-roots g))
 
   -- every mark that is still out is above every root
   out-above-root : {es : Tree} → Growth b lines es → (r k : ℕ) → rootAt es r ≡ true → 0 < k → distance es k ≡ none → r < k
@@ -169,7 +173,8 @@ module _ (b : ℕ) (lines : List Line) (sound : Sound b lines) where
       go (old p q) ih = ih (sym (root-old e es r p) ∙ h) low (wasOut e es k out)
 
   -- a root is joined with no lower mark
-  pub root-is-lowest : {es : Tree} → Growth b lines es → (m r : ℕ) → rootAt es m ≡ true → 0 < r → r < m → {w : List Pass} → Walk lines r m w → ⊥
+  pub root-is-lowest : {es : Tree} → Growth b lines es → (m r : ℕ) → rootAt es m ≡ true → 0 < r → r < m → {w : List Pass}
+      → Walk lines r m w → ⊥
   unfolding rootAt
   root-is-lowest nothing m r h low lt w = false≢true h
   root-is-lowest (enters {es = es} {c = c} g x) m r h low lt w = go (after e es m) (λ h. root-is-lowest g m r h low lt w)
@@ -217,7 +222,8 @@ module _ (b : ℕ) (lines : List Line) (sound : Sound b lines) where
   pub to-its-root : {es : Tree} → Growth b lines es → (m d : ℕ) → distance es m ≡ some d → ToRoot es m
   unfolding distance
   to-its-root nothing m d h = never h refl
-  to-its-root (enters {es = es} {c = c} g x) m d h = go (after e es m) (λ h. to-its-root g m d h) (to-its-root g (sc .near) (sc .d) (sc .isIn))
+  to-its-root (enters {es = es} {c = c} g x) m d h =
+      go (after e es m) (λ h. to-its-root g m d h) (to-its-root g (sc .near) (sc .d) (sc .isIn))
     where
       e : Entry
       e = entry (far es (c .line)) (c .score) (some (c .line))
@@ -242,4 +248,12 @@ module _ (b : ℕ) (lines : List Line) (sound : Sound b lines) where
 
       go : After e es m → (distance es m ≡ some d → ToRoot es m) → ToRoot (e ∷ es) m
       go (old p q) ih = still-root e es m (n .isOut) (ih (sym q ∙ h))
-      go (new p q) ih = record { root = m; isRoot = ap (rootAt (e ∷ es)) (sym p) ∙ root-new e es; low = omega (arith, p, n .low); notAbove = omega arith; way = ([], here refl) }
+      go (new p q) ih =
+          record {
+            root = m;
+            isRoot = ap (rootAt (e ∷ es)) (sym p)
+                ∙ root-new e es;
+            low = omega (arith, p, n .low);
+            notAbove = omega arith;
+            way = ([], here refl);
+          }

@@ -40,7 +40,8 @@ pub frontier : (lines : List Line) {es : Tree} → Grown lines es → (l : Line)
 unfolding distance
 frontier lines empty l u v d m j p q = never p refl
 frontier lines (byLine {e = e} {es = es} g b) l u v d m j p q =
-    go (after e es u) (frontier lines g l u v d m j) (frontier lines g (b .l) (b .sc .near) (b .sc .away) (b .sc .d) (b .isLine) (b .sc .ends) (b .sc .isIn) (b .sc .isOut))
+    go (after e es u) (frontier lines g l u v d m j) (frontier lines g (b .l) (b .sc .near) (b .sc .away) (b .sc .d) (b .isLine)
+    (b .sc .ends) (b .sc .isIn) (b .sc .isOut))
   where
     go : After e es u → (distance es u ≡ some d → distance es v ≡ none → (d ≤ last es) × (last es ≤ d + l .length))
         → (b .sc .d ≤ last es) × (last es ≤ b .sc .d + b .l .length) → (d ≤ e .dist) × (e .dist ≤ d + l .length)
@@ -94,7 +95,8 @@ endsOf p = go (p .forward)
     go true = along refl refl
     go false = against refl refl
 
--- The least of all: where no line has just one end in the tree, whatever walks to a mark of the tree starts in the tree, no farther than the walk is long
+-- The least of all: where no line has just one end in the tree, whatever walks to a mark of the tree starts in the tree, no farther than
+-- the walk is long
 pub shortest-of-all : (lines : List Line) {es : Tree} → Grown lines es → ((k : Line) → List·Memᴰ k lines → score es k ≡ none)
     → (r dr : ℕ) → distance es r ≡ some dr → {u : ℕ} {w : List Pass} → Walk lines r u w
     → (du : ℕ) × (distance es u ≡ some du) × (du ≤ dr + wayLength w)

@@ -1,4 +1,5 @@
--- The shortest path: it is the one that document 01 names, there is no other, and it runs through no mark and over no line twice. Assumes nothing.
+-- The shortest path: it is the one that document 01 names, there is no other, and it runs through no mark and over no line twice. Assumes
+-- nothing.
 use Prim.Native.Nat.{ℕ, _≤_, _<_}
 use native.Mathlib.Omega.{arith}
 use mathlib.Core.Path.{_≡_, refl, sym, _∙_, ap, subst}
@@ -23,7 +24,8 @@ sound-long sound l m = omega (arith, sound .long-enough l m)
 
 -- where no walk is shorter, none is shorter than what is left after the first pass
 least-rest : {sub : List Line} {r u : ℕ} (p : Pass) (ps : List Pass) → start p ≡ u → List·Memᴰ (p .line) sub
-    → ((v : List Pass) → Walk sub r u v → wayLength (p ∷ ps) ≤ wayLength v) → (v : List Pass) → Walk sub r (stop p) v → wayLength ps ≤ wayLength v
+    → ((v : List Pass) → Walk sub r u v → wayLength (p ∷ ps) ≤ wayLength v) → (v : List Pass) → Walk sub r (stop p) v
+    → wayLength ps ≤ wayLength v
 unfolding wayLength
 least-rest p ps s m h v x = omega (arith, h (p ∷ v) (step s m x))
 
@@ -38,7 +40,8 @@ from-mark (step {p = p} {ps = ps} s i w) m (List·Memᴰ·tail j) = let f = from
 
 -- ---- so it comes through no mark twice
 
-no-mark-twice : {sub : List Line} → Long sub → {r u : ℕ} {w : List Pass} → Walk sub r u w → ((v : List Pass) → Walk sub r u v → wayLength w ≤ wayLength v)
+no-mark-twice : {sub : List Line} → Long sub → {r u : ℕ} {w : List Pass} → Walk sub r u w
+    → ((v : List Pass) → Walk sub r u v → wayLength w ≤ wayLength v)
     → AllDifferent (marksOn u w)
 unfolding marksOn wayLength
 no-mark-twice long (here e) h = pairs (λ k i. absurd (List·Memᴰ·not-nil i)) no-pair
@@ -55,8 +58,11 @@ start-on : {sub : List Line} {r u : ℕ} {w : List Pass} → Walk sub r u w → 
     → List·Memᴰ (start q) (marksOn u w) × List·Memᴰ (stop q) (marksOn u w)
 unfolding marksOn
 start-on (here e) q i = absurd (List·Memᴰ·not-nil i)
-start-on (step {p = p} {ps = ps} s m w) q (List·Memᴰ·head e) =
-    (List·Memᴰ·head (ap start e ∙ s), List·Memᴰ·tail (subst (λ (x : ℕ). List·Memᴰ x (marksOn (stop p) ps)) (sym (ap stop e)) (first-on (stop p) ps)))
+start-on (step {p = p} {ps = ps} s m w) q (List·Memᴰ·head e) = (
+  List·Memᴰ·head (ap start e ∙ s),
+  List·Memᴰ·tail (subst (λ (x : ℕ). List·Memᴰ x (marksOn (stop p) ps)) (sym (ap stop e))
+      (first-on (stop p) ps)),
+)
   where
     first-on : (v : ℕ) (ps : List Pass) → List·Memᴰ v (marksOn v ps)
     first-on v [] = List·Memᴰ·head refl
@@ -76,7 +82,9 @@ no-line-twice rising (here e) d = no-pair
 no-line-twice {sub = sub} rising {u = u} (step {p = p} {ps = ps} s m w) (pairs f d) = pairs new (no-line-twice rising w d)
   where
     new : (q : Pass) → List·Memᴰ q ps → p .line .number ≡ q .line .number → ⊥
-    new q i z = go (ends-two (endsOf q) (subst (λ (l : Line). Ends l (stop p) (start p)) (unique sub rising (p .line) (q .line) m (pass-line w q i) z) (turn (endsOf p))))
+    new q i z =
+        go (ends-two (endsOf q) (subst (λ (l : Line). Ends l (stop p) (start p))
+        (unique sub rising (p .line) (q .line) m (pass-line w q i) z) (turn (endsOf p))))
       where
         go : (start p ≡ start q) ⊎ (start p ≡ stop q) → ⊥
         go (inl e) = f (start q) (start-on w q i .0) (sym s ∙ e)
@@ -85,12 +93,14 @@ no-line-twice {sub = sub} rising {u = u} (step {p = p} {ps = ps} s m w) (pairs f
 -- ---- a shortest path that runs in fewer lines is the shortest there
 
 -- a walk whose passes run over fewer lines is a walk along those
-pub walk-within : {all few : List Line} {r u : ℕ} {w : List Pass} → Walk all r u w → ((p : Pass) → List·Memᴰ p w → List·Memᴰ (p .line) few) → Walk few r u w
+pub walk-within : {all few : List Line} {r u : ℕ} {w : List Pass} → Walk all r u w
+    → ((p : Pass) → List·Memᴰ p w → List·Memᴰ (p .line) few) → Walk few r u w
 walk-within (here e) h = here e
 walk-within (step {p = p} s m w) h = step s (h p (List·Memᴰ·head refl)) (walk-within w (λ q i. h q (List·Memᴰ·tail i)))
 
 -- and if it is the shortest along all, it is the shortest along those
-pub shortest-of-fewer : {all few : List Line} → ((l : Line) → List·Memᴰ l few → List·Memᴰ l all) → {r u : ℕ} {p : List Pass} → IsShortest all r u p → Walk few r u p
+pub shortest-of-fewer : {all few : List Line} → ((l : Line) → List·Memᴰ l few → List·Memᴰ l all) → {r u : ℕ} {p : List Pass}
+    → IsShortest all r u p → Walk few r u p
     → IsShortest few r u p
 shortest-of-fewer h x w = record { isWalk = w; least = λ v. x .least (walk-wider h v); first = λ v e. x .first (walk-wider h v) e }
 

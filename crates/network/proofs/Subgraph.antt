@@ -3,7 +3,8 @@ use Prim.Native.Nat.{ℕ, zero, suc}
 use mathlib.Core.Path.{_≡_, refl, sym, _∙_, ap}
 use mathlib.Core.Logic.{_⊎_, inl, inr}
 use mathlib.Core.Bool.{Bool, true, false, _||_, false≢true}
-use mathlib.Core.List.{List, [], _∷_, List·Memᴰ, List·Memᴰ·head, List·Memᴰ·tail, Memᴰ·cast, List·Memᴰ·not-nil, List·Memᴰ·eq-of-singleton, List·Memᴰ·append-cases, Memᴰ·append-left, Memᴰ·append-right}
+use mathlib.Core.List.{List, [], _∷_, List·Memᴰ, List·Memᴰ·head, List·Memᴰ·tail, Memᴰ·cast, List·Memᴰ·not-nil, List·Memᴰ·eq-of-singleton}
+use mathlib.Core.List.{List·Memᴰ·append-cases, Memᴰ·append-left, Memᴰ·append-right}
 use mathlib.Core.Option.{Option, none, some}
 use lib.Dec.{eqb}
 use borrow.Author.Tests.{eqb-true, eq-eqb}
@@ -34,7 +35,8 @@ unfolding only
 of-only ns [] l m = absurd (List·Memᴰ·not-nil m)
 of-only ns (k ∷ ls) l m = go (isIn (k .number) ns) refl m (of-only ns ls l)
   where
-    go : (t : Bool) → isIn (k .number) ns ≡ t → List·Memᴰ l (keepIf t k (only ns ls)) → (List·Memᴰ l (only ns ls) → List·Memᴰ l ls × (isIn (l .number) ns ≡ true))
+    go : (t : Bool) → isIn (k .number) ns ≡ t → List·Memᴰ l (keepIf t k (only ns ls))
+        → (List·Memᴰ l (only ns ls) → List·Memᴰ l ls × (isIn (l .number) ns ≡ true))
         → List·Memᴰ l (k ∷ ls) × (isIn (l .number) ns ≡ true)
     go true x (List·Memᴰ·head e) ih = (List·Memᴰ·head e, ap (λ (x : Line). isIn (x .number) ns) e ∙ x)
     go true x (List·Memᴰ·tail i) ih = (List·Memᴰ·tail (ih i .0), ih i .1)
@@ -86,7 +88,8 @@ unfolding isIn
 isIn-numbers [] n h = absurd (false≢true h)
 isIn-numbers (k ∷ ls) n h = go (or-true (eqb (k .number) n) (isIn n (numbers ls)) h) (isIn-numbers ls n)
   where
-    go : (eqb (k .number) n ≡ true) ⊎ (isIn n (numbers ls) ≡ true) → (isIn n (numbers ls) ≡ true → (l : Line) × List·Memᴰ l ls × (l .number ≡ n))
+    go : (eqb (k .number) n ≡ true) ⊎ (isIn n (numbers ls) ≡ true)
+        → (isIn n (numbers ls) ≡ true → (l : Line) × List·Memᴰ l ls × (l .number ≡ n))
         → (l : Line) × List·Memᴰ l (k ∷ ls) × (l .number ≡ n)
     go (inl x) ih = (k, List·Memᴰ·head refl, eqb-true (k .number) n x)
     go (inr x) ih = let i = ih x in (i .0, List·Memᴰ·tail (i .1), i .2)
@@ -128,7 +131,8 @@ of-treeLines (x ∷ es) l m = go (x .by) refl m (of-treeLines es l)
     wide : InTree es l → InTree (x ∷ es) l
     wide (e, i, h) = (e, List·Memᴰ·tail i, h)
 
-    go : (o : Option Line) → x .by ≡ o → List·Memᴰ l (lines1 o (treeLines es)) → (List·Memᴰ l (treeLines es) → InTree es l) → InTree (x ∷ es) l
+    go : (o : Option Line) → x .by ≡ o → List·Memᴰ l (lines1 o (treeLines es)) → (List·Memᴰ l (treeLines es) → InTree es l)
+        → InTree (x ∷ es) l
     go none e i ih = wide (ih i)
     go (some k) e i ih = hit (List·Memᴰ·append-cases (treeLines es) i)
       where

@@ -42,7 +42,8 @@ way-back {u = u} (step {p = p} s m x) =
     let y = way-back x in (y .0 ++ (flip p ∷ []), walk-append (y .1) (step (flip-start p) m (here (flip-stop p ∙ s))))
 
 -- a walk along some lines is a walk along more
-pub walk-wider : {ls ms : List Line} → ((l : Line) → List·Memᴰ l ls → List·Memᴰ l ms) → {r u : ℕ} {w : List Pass} → Walk ls r u w → Walk ms r u w
+pub walk-wider : {ls ms : List Line} → ((l : Line) → List·Memᴰ l ls → List·Memᴰ l ms) → {r u : ℕ} {w : List Pass} → Walk ls r u w
+    → Walk ms r u w
 walk-wider f (here e) = here e
 walk-wider f (step s m x) = step s (f _ m) (walk-wider f x)
 

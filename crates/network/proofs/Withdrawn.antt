@@ -28,7 +28,8 @@ unfolding without
 not-withdrawn x [] l m e = List·Memᴰ·not-nil m
 not-withdrawn x (k ∷ ls) l m e = go (eqb (k .number) x) refl m (not-withdrawn x ls l)
   where
-    go : (t : Bool) → eqb (k .number) x ≡ t → List·Memᴰ l (keepIf (not t) k (without x ls)) → (List·Memᴰ l (without x ls) → l .number ≡ x → ⊥) → ⊥
+    go : (t : Bool) → eqb (k .number) x ≡ t → List·Memᴰ l (keepIf (not t) k (without x ls))
+        → (List·Memᴰ l (without x ls) → l .number ≡ x → ⊥) → ⊥
     go true h i ih = ih i e
     go false h (List·Memᴰ·head z) ih = eqb-false (k .number) x h (sym (ap (λ (y : Line). y .number) z) ∙ e)
     go false h (List·Memᴰ·tail i) ih = ih i e
@@ -39,7 +40,8 @@ unfolding without
 without-append x [] ms = refl
 without-append x (l ∷ ls) ms = go (not (eqb (l .number) x)) (without-append x ls ms)
   where
-    go : (t : Bool) → without x (ls ++ ms) ≡ without x ls ++ without x ms → keepIf t l (without x (ls ++ ms)) ≡ keepIf t l (without x ls) ++ without x ms
+    go : (t : Bool) → without x (ls ++ ms) ≡ without x ls ++ without x ms
+        → keepIf t l (without x (ls ++ ms)) ≡ keepIf t l (without x ls) ++ without x ms
     go true h = ap (λ (ks : List Line). l ∷ ks) h
     go false h = h
 
@@ -48,14 +50,17 @@ pub without-none : (x : ℕ) (lines : List Line) → ((l : Line) → List·Mem�
 unfolding without
 without-none x [] h = refl
 without-none x (l ∷ ls) h =
-    rw (ne-eqb (l .number) x (h l (List·Memᴰ·head refl))) (ap (λ (ks : List Line). l ∷ ks) (without-none x ls (λ k i. h k (List·Memᴰ·tail i))))
+    rw (ne-eqb (l .number) x (h l (List·Memᴰ·head refl))) (ap (λ (ks : List Line). l ∷ ks)
+    (without-none x ls (λ k i. h k (List·Memᴰ·tail i))))
 
 -- and where one has, one goes
-pub one-fewer : (lines : List Line) → Rising lines → (l : Line) → List·Memᴰ l lines → suc (length (without (l .number) lines)) ≡ length lines
+pub one-fewer : (lines : List Line) → Rising lines → (l : Line) → List·Memᴰ l lines
+    → suc (length (without (l .number) lines)) ≡ length lines
 unfolding without
 one-fewer (k ∷ ls) (then above r) l (List·Memᴰ·head e) =
     rw (eq-eqb (k .number) (l .number) (sym (ap (λ (y : Line). y .number) e)))
-    (ap (λ (ks : List Line). suc (length ks)) (without-none (l .number) ls (λ j i z. omega (arith, above j i, z, ap (λ (y : Line). y .number) e))))
+    (ap (λ (ks : List Line). suc (length ks)) (without-none (l .number) ls
+    (λ j i z. omega (arith, above j i, z, ap (λ (y : Line). y .number) e))))
 one-fewer (k ∷ ls) (then above r) l (List·Memᴰ·tail i) =
     rw (ne-eqb (k .number) (l .number) (λ z. omega (arith, above l i, z))) (ap suc (one-fewer ls r l i))
 
@@ -80,7 +85,8 @@ others x (c ∷ cs) = keepCandidate (not (eqb (c .line .number) x)) c (others x 
 
 in-others : (x : ℕ) (cs : List Candidate) (c : Candidate) → List·Memᴰ c cs → (c .line .number ≡ x → ⊥) → List·Memᴰ c (others x cs)
 unfolding others
-in-others x (d ∷ cs) c (List·Memᴰ·head e) h = rw (ne-eqb (d .line .number) x (λ z. h (ap (λ (y : Candidate). y .line .number) e ∙ z))) (List·Memᴰ·head e)
+in-others x (d ∷ cs) c (List·Memᴰ·head e) h =
+    rw (ne-eqb (d .line .number) x (λ z. h (ap (λ (y : Candidate). y .line .number) e ∙ z))) (List·Memᴰ·head e)
 in-others x (d ∷ cs) c (List·Memᴰ·tail i) h = go (not (eqb (d .line .number) x)) (in-others x cs c i h)
   where
     go : (t : Bool) → List·Memᴰ c (others x cs) → List·Memᴰ c (keepCandidate t d (others x cs))
@@ -99,7 +105,8 @@ of-others x (d ∷ cs) c m = go (eqb (d .line .number) x) refl m (of-others x cs
         → (List·Memᴰ c (others x cs) → List·Memᴰ c cs × (c .line .number ≡ x → ⊥))
         → List·Memᴰ c (d ∷ cs) × (c .line .number ≡ x → ⊥)
     go true h i ih = wide (ih i)
-    go false h (List·Memᴰ·head e) ih = (List·Memᴰ·head e, λ z. eqb-false (d .line .number) x h (sym (ap (λ (y : Candidate). y .line .number) e) ∙ z))
+    go false h (List·Memᴰ·head e) ih =
+        (List·Memᴰ·head e, λ z. eqb-false (d .line .number) x h (sym (ap (λ (y : Candidate). y .line .number) e) ∙ z))
     go false h (List·Memᴰ·tail i) ih = wide (ih i)
 
 order-others : (x : ℕ) {cs : List Candidate} → Pairwise Sooner cs → Pairwise Sooner (others x cs)
@@ -122,29 +129,43 @@ lines-others x (c ∷ cs) = go (not (eqb (c .line .number) x)) (lines-others x c
     go false h = h
 
 -- what closes at an entry without line x is what closes there, but for x: both lists are "by score, then number"
-closersAt-without : (x : ℕ) {lines : List Line} → Rising lines → (es : Tree) (e : Entry) → closersAt es e (without x lines) ≡ others x (closersAt es e lines)
+closersAt-without : (x : ℕ) {lines : List Line} → Rising lines → (es : Tree) (e : Entry)
+    → closersAt es e (without x lines) ≡ others x (closersAt es e lines)
 closersAt-without x {lines = lines} rising es e =
-    sooner-unique (order-closersAt es e (rising-without x lines rising)) (order-others x (order-closersAt es e rising)) (λ c. (to c, back c))
+    sooner-unique (order-closersAt es e (rising-without x lines rising)) (order-others x (order-closersAt es e rising))
+    (λ c. (to c, back c))
   where
     to : (c : Candidate) → List·Memᴰ c (closersAt es e (without x lines)) → List·Memᴰ c (others x (closersAt es e lines))
     to c i =
         let w = of-closersAt es e (without x lines) c i in
         in-others x (closersAt es e lines) c
-        (in-closersAt es e lines c (record { isLine = of-without x lines (c .line) (w .isLine); itsScore = w .itsScore; reaches = w .reaches; notEntered = w .notEntered }))
+        (in-closersAt es e lines c (record {
+          isLine = of-without x lines (c .line) (w .isLine);
+          itsScore = w .itsScore;
+          reaches
+              = w .reaches;
+          notEntered = w .notEntered;
+        }))
         (not-withdrawn x lines (c .line) (w .isLine))
 
     back : (c : Candidate) → List·Memᴰ c (others x (closersAt es e lines)) → List·Memᴰ c (closersAt es e (without x lines))
     back c i =
         let o = of-others x (closersAt es e lines) c i in
         let w = of-closersAt es e lines c (o .0) in
-        in-closersAt es e (without x lines) c (record { isLine = in-without x lines (c .line) (w .isLine) (o .1); itsScore = w .itsScore; reaches = w .reaches; notEntered = w .notEntered })
+        in-closersAt es e (without x lines) c (record {
+          isLine = in-without x lines (c .line) (w .isLine) (o .1);
+          itsScore = w .itsScore;
+          reaches = w .reaches;
+          notEntered = w .notEntered;
+        })
 
 -- the closing lines are the old ones without x, in the same order
 pub closing-without : (x : ℕ) {lines : List Line} → Rising lines → (es : Tree) → closing (without x lines) es ≡ without x (closing lines es)
 unfolding closing without
 closing-without x rising [] = refl
 closing-without x {lines = lines} rising (e ∷ es) =
-    ap₂ (λ (ls ms : List Line). ls ++ ms) (closing-without x rising es) (ap justLines (closersAt-without x rising es e) ∙ lines-others x (closersAt es e lines))
+    ap₂ (λ (ls ms : List Line). ls ++ ms) (closing-without x rising es)
+    (ap justLines (closersAt-without x rising es e) ∙ lines-others x (closersAt es e lines))
     ∙ sym (without-append x (closing lines es) (justLines (closersAt es e lines)))
 
 -- ---- the theorems
@@ -157,5 +178,7 @@ module _ (b : ℕ) (lines : List Line) (sound : Sound b lines) (c : Line) (close
       never-tree-line-and-closing-line b lines sound l c (in-treeLines (tree b lines) l (e, i, h)) closes (sym z))
 
   -- and the other closing lines in their order
-  pub withdrawal-keeps-closing-lines : closing (without (c .number) lines) (tree b (without (c .number) lines)) ≡ without (c .number) (closing lines (tree b lines))
-  withdrawal-keeps-closing-lines = ap (closing (without (c .number) lines)) withdrawal-keeps-tree ∙ closing-without (c .number) (sound .rising) (tree b lines)
+  pub withdrawal-keeps-closing-lines : closing (without (c .number) lines) (tree b (without (c .number) lines))
+      ≡ without (c .number) (closing lines (tree b lines))
+  withdrawal-keeps-closing-lines =
+      ap (closing (without (c .number) lines)) withdrawal-keeps-tree ∙ closing-without (c .number) (sound .rising) (tree b lines)

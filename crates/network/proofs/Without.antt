@@ -25,7 +25,8 @@ unfolding lowest
 lowest-first es (k ∷ ls) (then above r) c h l m s = go (score es k) (lowest es ls) refl refl h m (lowest-first es ls r c)
   where
     go : (a : Option ℕ) (d : Option Candidate) → score es k ≡ a → lowest es ls ≡ d → lowestOf a k d ≡ some c → List·Memᴰ l (k ∷ ls)
-        → (lowest es ls ≡ some c → (l : Line) → List·Memᴰ l ls → score es l ≡ some (c .score) → (c .line ≡ l) ⊎ (c .line .number < l .number))
+        → (lowest es ls ≡ some c → (l : Line) → List·Memᴰ l ls → score es l ≡ some (c .score) → (c .line ≡ l)
+        ⊎ (c .line .number < l .number))
         → (c .line ≡ l) ⊎ (c .line .number < l .number)
     go none d x y e (List·Memᴰ·head i) ih = never s (ap (score es) i ∙ x)
     go none d x y e (List·Memᴰ·tail i) ih = ih (y ∙ e) l i s
@@ -33,7 +34,8 @@ lowest-first es (k ∷ ls) (then above r) c h l m s = go (score es k) (lowest es
     go (some t) none x y e (List·Memᴰ·tail i) ih = never s (lowest-none es ls y l i)
     go (some t) (some d) x y e i ih = pick (leb t (d .score)) refl e i
       where
-        pick : (b : Bool) → leb t (d .score) ≡ b → lowerOf b (candidate t k) d ≡ some c → List·Memᴰ l (k ∷ ls) → (c .line ≡ l) ⊎ (c .line .number < l .number)
+        pick : (b : Bool) → leb t (d .score) ≡ b → lowerOf b (candidate t k) d ≡ some c → List·Memᴰ l (k ∷ ls)
+            → (c .line ≡ l) ⊎ (c .line .number < l .number)
         pick true z e (List·Memᴰ·head i) = inl (sym (lineOf _ _ e) ∙ sym i)
         pick true z e (List·Memᴰ·tail i) = inr (omega (arith, above l i, ap (λ (n : Line). n .number) (lineOf _ _ e)))
         pick false z e (List·Memᴰ·head i) =
@@ -70,7 +72,7 @@ rising-without x (k ∷ ls) (then above r) = go (not (eqb (k .number) x)) (risin
     go true ih = then (λ j i. above j (of-without x ls j i)) ih
     go false ih = ih
 
--- ---- the tree is the same where x is no line of it. What is lowest is settled by its laws alone, not by how `lowest` goes through the list
+-- ---- the tree is the same where x is no line of it: what is lowest is settled by its laws alone, not by how `lowest` goes through the list
 
 module _ (lines : List Line) (rising : Rising lines) (x : ℕ) where
   candidate-eq : (c d : Candidate) → c .line ≡ d .line → c .score ≡ d .score → c ≡ d
@@ -93,15 +95,20 @@ module _ (lines : List Line) (rising : Rising lines) (x : ℕ) where
           in-all = of-without x lines (c′ .line) (v .isLine)
 
           eq : c .score ≡ c′ .score
-          eq = le-antisymm (w .least (c′ .line) (c′ .score) in-all (v .itsScore)) (v .least (c .line) (c .score) (in-without x lines (c .line) (w .isLine) d) (w .itsScore))
+          eq =
+              le-antisymm (w .least (c′ .line) (c′ .score) in-all (v .itsScore))
+              (v .least (c .line) (c .score) (in-without x lines (c .line) (w .isLine) d) (w .itsScore))
 
           a : (c .line ≡ c′ .line) ⊎ (c .line .number < c′ .line .number)
           a = lowest-first es lines rising c h (c′ .line) in-all (v .itsScore ∙ ap some (sym eq))
 
           b : (c′ .line ≡ c .line) ⊎ (c′ .line .number < c .line .number)
-          b = lowest-first es (without x lines) (rising-without x lines rising) c′ e (c .line) (in-without x lines (c .line) (w .isLine) d) (w .itsScore ∙ ap some eq)
+          b =
+              lowest-first es (without x lines) (rising-without x lines rising) c′ e (c .line)
+              (in-without x lines (c .line) (w .isLine) d) (w .itsScore ∙ ap some eq)
 
-          pick : (c .line ≡ c′ .line) ⊎ (c .line .number < c′ .line .number) → (c′ .line ≡ c .line) ⊎ (c′ .line .number < c .line .number) → c′ .line ≡ c .line
+          pick : (c .line ≡ c′ .line) ⊎ (c .line .number < c′ .line .number)
+              → (c′ .line ≡ c .line) ⊎ (c′ .line .number < c .line .number) → c′ .line ≡ c .line
           pick (inl i) j = sym i
           pick (inr i) (inl j) = j
           pick (inr i) (inr j) = absurd (omega arith)
@@ -111,20 +118,26 @@ module _ (lines : List Line) (rising : Rising lines) (x : ℕ) where
     where
       go : (o : Option Candidate) → lowest es (without x lines) ≡ o → o ≡ none
       go none e = refl
-      go (some c) e = let v = lowest-some es (without x lines) c e in never (v .itsScore) (lowest-none es lines h (c .line) (of-without x lines (c .line) (v .isLine)))
+      go (some c) e =
+          let v = lowest-some es (without x lines) c e in never (v .itsScore)
+          (lowest-none es lines h (c .line) (of-without x lines (c .line) (v .isLine)))
 
   abbrev pub NotUsed : Tree → Type 0
   NotUsed es = (e : Entry) → List·Memᴰ e es → (l : Line) → e .by ≡ some l → l .number ≡ x → ⊥
 
   -- what is not used after a step was not before it, and the step is the same without x
-  step-without : (roots : List ℕ) (es : Tree) → NotUsed (step lines roots es) → (step (without x lines) roots es ≡ step lines roots es) × NotUsed es
+  step-without : (roots : List ℕ) (es : Tree) → NotUsed (step lines roots es)
+      → (step (without x lines) roots es ≡ step lines roots es) × NotUsed es
   unfolding step
   step-without roots es n = go (lowest es lines) (firstOut es roots) refl n
     where
       go : (a : Option Candidate) (r : Option ℕ) → lowest es lines ≡ a → NotUsed (next es a r)
           → (next es (lowest es (without x lines)) r ≡ next es a r) × NotUsed es
-      go (some c) r p n =
-          (ap (λ (o : Option Candidate). next es o r) (lowest-kept es c p (n _ (List·Memᴰ·head refl) (c .line) refl)), λ e i. n e (List·Memᴰ·tail i))
+      go (some c) r p n = (
+        ap (λ (o : Option Candidate). next es o r) (lowest-kept es c p (n _ (List·Memᴰ·head refl) (c .line) refl)),
+        λ e i. n e
+            (List·Memᴰ·tail i),
+      )
       go none (some m) p n = (ap (λ (o : Option Candidate). next es o (some m)) (lowest-still-none es p), λ e i. n e (List·Memᴰ·tail i))
       go none none p n = (ap (λ (o : Option Candidate). next es o none) (lowest-still-none es p), n)
 

@@ -10,8 +10,8 @@ use Rattle.network.specs.Pairwise.{Pairwise}
 use Rattle.network.specs.Tree.{Entry, Tree, Candidate, score, far}
 use Rattle.network.specs.Closing.{justLines}
 
--- "Every candidate that now has both ends in the tree": c was a candidate of the tree es before e entered, its far mark is the mark of e, and e did not
--- enter by it
+-- "Every candidate that now has both ends in the tree": c was a candidate of the tree es before e entered, its far mark is the mark of e,
+-- and e did not enter by it
 pub record ClosesAt (lines : List Line) (es : Tree) (e : Entry) (c : Candidate) : Type 0 where
   pub isLine : List·Memᴰ (c .line) lines
   pub itsScore : score es (c .line) ≡ some (c .score)

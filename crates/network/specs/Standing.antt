@@ -15,7 +15,8 @@ pub record Line : Type 0 where
 abbrev pub line : ℕ → ℕ → ℕ → ℤ → ℕ → Line
 line n f t d l = record { number = n; from = f; to = t; difference = d; length = l }
 
--- the line l in front of the others if it stands; "a withdrawn line keeps its number" and is left out. A book that passes its test has no standing but 0 and 1
+-- the line l in front of the others if it stands; "a withdrawn line keeps its number" and is left out. A book that passes its test has no
+-- standing but 0 and 1
 unfoldable pub keep : ℤ → Line → List Line → List Line
 keep (pos zero) l ls = ls
 keep (pos (suc k)) l ls = l ∷ ls

@@ -88,7 +88,8 @@ unfolding distance
 firstOut es [] = none
 firstOut es (m ∷ ms) = firstOf (distance es m) m (firstOut es ms)
 
--- "The candidate .. enters; its far mark takes the score as distance." Where there is none the piece is done, and the next root enters at 0.
+-- "The candidate .. enters; its far mark takes the score as distance." Where there is none the piece is done, and the next root enters at
+-- 0.
 abbrev pub next : Tree → Option Candidate → Option ℕ → Tree
 next es (some c) r = entry (far es (c .line)) (c .score) (some (c .line)) ∷ es
 next es none (some m) = entry m 0 none ∷ es

@@ -47,7 +47,8 @@ pub data Before : List Pass → List Pass → Type 0 where
   lower : {p q : Pass} {ps qs : List Pass} → p .line .number < q .line .number → Before (p ∷ ps) (q ∷ qs)
   alike : {p q : Pass} {ps qs : List Pass} → p ≡ q → Before ps qs → Before (p ∷ ps) (q ∷ qs)
 
--- "the shortest path in the subgraph": p is a walk along the lines sub from mark u to mark r, no walk is shorter, and of those as short it is the first by numbers
+-- "the shortest path in the subgraph": p is a walk along the lines sub from mark u to mark r, no walk is shorter, and of those as short
+-- it is the first by numbers
 pub record IsShortest (sub : List Line) (r u : ℕ) (p : List Pass) : Type 0 where
   pub isWalk : Walk sub r u p
   pub least : {w : List Pass} → Walk sub r u w → wayLength p ≤ wayLength w

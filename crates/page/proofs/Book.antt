@@ -24,14 +24,18 @@ use Rattle.page.specs.Page.{loopLines, loopsPage}
 
 module _ (k : Book) (ls : List ℤ) (g : GoodLines k ls) where
   -- the head and the loops
-  pub loops-put : {f : Found} → f ≡ foundIn (k .marks) ls → {out out₁ out₂ : List ℕ} {r s : ℕ} → Put out out₁ 0 r (headText (k .marks) (k .lines) (f .pieces) (f .count))
-      → Put out₁ out₂ r s (loopLines (k .tolerance) 1 (loopsOf (k .marks) ls)) → Put out out₂ 0 s (loopsPage (k .marks) (k .tolerance) (k .lines) ls)
+  pub loops-put : {f : Found} → f ≡ foundIn (k .marks) ls → {out out₁ out₂ : List ℕ} {r s : ℕ}
+      → Put out out₁ 0 r (headText (k .marks) (k .lines) (f .pieces) (f .count))
+      → Put out₁ out₂ r s (loopLines (k .tolerance) 1 (loopsOf (k .marks) ls))
+      → Put out out₂ 0 s (loopsPage (k .marks) (k .tolerance) (k .lines) ls)
   unfolding loopsPage
   loops-put e p q = (rw e at p) then q
 
   -- the list of the lines that are not checked, in room for the most there can be
-  module _ (out : List ℤ) {out′ : List ℤ} {r : Listed} (room : mostLines ≤ length out) (e : listing r out′ ≡ listOf (uncheckedOf (k .marks) ls) out) where
-    both : listing r out′ ≡ listing (entered (length (uncheckedOf (k .marks) ls))) (uncheckedOf (k .marks) ls ++ drop (length (uncheckedOf (k .marks) ls)) out)
+  module _ (out : List ℤ) {out′ : List ℤ} {r : Listed} (room : mostLines ≤ length out)
+      (e : listing r out′ ≡ listOf (uncheckedOf (k .marks) ls) out) where
+    both : listing r out′ ≡ listing (entered (length (uncheckedOf (k .marks) ls)))
+        (uncheckedOf (k .marks) ls ++ drop (length (uncheckedOf (k .marks) ls)) out)
     both = e ∙ sym (list-whole (uncheckedOf (k .marks) ls) out (omega (arith, few-listed k ls g)))
 
     entries-are : r .entries ≡ length (uncheckedOf (k .marks) ls)

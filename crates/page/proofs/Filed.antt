@@ -35,19 +35,23 @@ use Rattle.page.specs.Page.{bookPage, statedPage, pageOf}
 unfoldable pub readPage : Outcome → List ℕ
 readPage o =
     let a = o .answer in
-    cond (eqb (a .refusal .number) 0) (bookPage (a .b) (a .t) (a .n) (take (a .n * lineWords) (o .lines))) (refusedText (a .refusal .number) (a .refusal .place))
+    cond (eqb (a .refusal .number) 0) (bookPage (a .b) (a .t) (a .n) (take (a .n * lineWords) (o .lines)))
+    (refusedText (a .refusal .number) (a .refusal .place))
 
 lines-length : (file : List ℕ) (h n : ℕ) → length (linesOf file h n) ≡ n * lineWords
 unfolding linesOf
 lines-length file h n = entries-length Line file (13 + h * 10) n
 
-module _ (file : List ℕ) (held lines : List ℤ) (held-room : mostHeld * heldWords ≤ length held) (lines-room : mostLines * lineWords ≤ length lines) where
-  room-page : (k : Book) → k .held ≤ mostHeld → k .lines ≤ mostLines → readPage (roomOf file k held lines) ≡ bookPage (k .marks) (k .tolerance) (k .lines) (linesOf file (k .held) (k .lines))
+module _ (file : List ℕ) (held lines : List ℤ) (held-room : mostHeld * heldWords ≤ length held)
+    (lines-room : mostLines * lineWords ≤ length lines) where
+  room-page : (k : Book) → k .held ≤ mostHeld → k .lines ≤ mostLines
+      → readPage (roomOf file k held lines) ≡ bookPage (k .marks) (k .tolerance) (k .lines) (linesOf file (k .held) (k .lines))
   unfolding readPage roomOf
   room-page k h n = rw (
     le-ltb (length held) (k .held * 2) (omega arith),
     le-ltb (length lines) (k .lines * lineWords) (omega arith),
-    take-at (linesOf file (k .held) (k .lines)) (drop (k .lines * lineWords) lines) (k .lines * lineWords) (lines-length file (k .held) (k .lines)),
+    take-at (linesOf file (k .held) (k .lines)) (drop (k .lines * lineWords) lines) (k .lines * lineWords)
+        (lines-length file (k .held) (k .lines)),
   )
 
   body-page : (k : Book) → k .held ≤ mostHeld → k .lines ≤ mostLines
@@ -57,7 +61,8 @@ module _ (file : List ℕ) (held lines : List ℤ) (held-room : mostHeld * heldW
     where
       go : (o : Tested) → testOf (bookIn file k) ≡ o
           → readPage (ifGood o (λ r. answered held lines (refusedWith r)) (λ _. roomOf file k held lines))
-          ≡ ifGood o (λ r. refusedText (r .number) (r .place)) (λ _. bookPage (k .marks) (k .tolerance) (k .lines) (linesOf file (k .held) (k .lines)))
+          ≡ ifGood o (λ r. refusedText (r .number) (r .place))
+          (λ _. bookPage (k .marks) (k .tolerance) (k .lines) (linesOf file (k .held) (k .lines)))
       go (Refused r) e =
           let w = tested-numbered (bookIn file k) r e in
           rw (ne-eqb (r .number) 0 (λ z. omega (arith, w .low)))
@@ -79,25 +84,32 @@ module _ (file : List ℕ) (held lines : List ℤ) (held-room : mostHeld * heldW
     is-page = ap readPage e ∙ page-read
 
     -- a refusal
-    pub refused-page : (o .answer .refusal .number ≡ 0 → ⊥) → refusedText (o .answer .refusal .number) (o .answer .refusal .place) ≡ pageOf file
+    pub refused-page : (o .answer .refusal .number ≡ 0 → ⊥)
+        → refusedText (o .answer .refusal .number) (o .answer .refusal .place) ≡ pageOf file
     unfolding readPage
     refused-page n = rw (ne-eqb (o .answer .refusal .number) 0 n) at is-page
 
     -- a book
     module _ (zero : o .answer .refusal .number ≡ 0) where
       r : BookRead file held lines o
-      r = subst (λ (x : Outcome). BookRead file held lines x) (sym e) (zero-is-read file held lines (sym (ap (λ (x : Outcome). x .answer .refusal .number) e) ∙ zero))
+      r =
+          subst (λ (x : Outcome). BookRead file held lines x) (sym e)
+          (zero-is-read file held lines (sym (ap (λ (x : Outcome). x .answer .refusal .number) e) ∙ zero))
 
       lines-are : take (r .book .lines * lineWords) (o .lines) ≡ linesOf file (r .book .held) (r .book .lines)
       lines-are =
           ap (take (r .book .lines * lineWords)) (r .lines-now)
-          ∙ take-at (linesOf file (r .book .held) (r .book .lines)) (drop (r .book .lines * lineWords) lines) (r .book .lines * lineWords) (lines-length file (r .book .held) (r .book .lines))
+          ∙ take-at (linesOf file (r .book .held) (r .book .lines)) (drop (r .book .lines * lineWords) lines)
+          (r .book .lines * lineWords) (lines-length file (r .book .held) (r .book .lines))
 
       pub few-read : o .answer .n ≤ mostLines
       few-read = omega (arith, ap (λ (x : ReadAnswer). x .n) (r .answer), r .good .lines-good .few)
 
-      pub good-read : GoodLines (record { marks = o .answer .b; tolerance = o .answer .t; held = o .answer .h; lines = o .answer .n }) (take (o .answer .n * lineWords) (o .lines))
-      good-read = subst (λ (x : ReadAnswer). GoodLines (record { marks = x .b; tolerance = x .t; held = x .h; lines = x .n }) (take (x .n * lineWords) (o .lines))) (sym (r .answer))
+      pub good-read : GoodLines (record { marks = o .answer .b; tolerance = o .answer .t; held = o .answer .h; lines = o .answer .n })
+          (take (o .answer .n * lineWords) (o .lines))
+      good-read =
+          subst (λ (x : ReadAnswer). GoodLines (record { marks = x .b; tolerance = x .t; held = x .h; lines = x .n })
+          (take (x .n * lineWords) (o .lines))) (sym (r .answer))
           (subst (λ (l : List ℤ). GoodLines (r .book) l) (sym lines-are) (good-lines (r .book) (bookIn file (r .book)) (r .good)))
 
       pub book-page : bookPage (o .answer .b) (o .answer .t) (o .answer .n) (take (o .answer .n * lineWords) (o .lines)) ≡ pageOf file

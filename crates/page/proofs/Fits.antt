@@ -1,4 +1,5 @@
--- No report is longer than the room that the report program lends: 512 loops of at most 1,338 bytes, a head of 122 and 2,577 for the last line are 687,755.
+-- No report is longer than the room that the report program lends: 512 loops of at most 1,338 bytes, a head of 122 and 2,577 for the last
+-- line are 687,755.
 -- Assumes nothing.
 use Prim.Native.Nat.{ℕ, suc, _+_, _*_, _≤_}
 use native.Mathlib.Nat.{le-of-eq, le-trans}
@@ -53,7 +54,8 @@ module _ (k : Book) (ls : List ℤ) (g : GoodLines k ls) where
   sound = lines-sound k ls g
 
   -- a loop runs over standing lines, and over no more of them than there are marks
-  loop-numbers : (number : ℕ) → number ≤ mostLines → (lp : Loop) → List·Memᴰ lp (loopsOf (k .marks) ls) → LoopNumbers number (pos (wayLength lp)) (misclosure lp) (map listed lp)
+  loop-numbers : (number : ℕ) → number ≤ mostLines → (lp : Loop) → List·Memᴰ lp (loopsOf (k .marks) ls)
+      → LoopNumbers number (pos (wayLength lp)) (misclosure lp) (map listed lp)
   unfolding loopsOf
   loop-numbers number high lp i = record {
     few-loops = high;
@@ -70,12 +72,15 @@ module _ (k : Book) (ls : List ℤ) (g : GoodLines k ls) where
       limits p j = line-limits k ls g (p .line) (pass-line (all-closed (k .marks) (standing ls) sound lp i .1) p j)
 
   -- the lines of loops of the book, the first of them under this number
-  loops-room : (number : ℕ) (lps : List Loop) → ((lp : Loop) → List·Memᴰ lp lps → List·Memᴰ lp (loopsOf (k .marks) ls)) → number + length lps ≤ mostLines + 1
+  loops-room : (number : ℕ) (lps : List Loop) → ((lp : Loop) → List·Memᴰ lp lps → List·Memᴰ lp (loopsOf (k .marks) ls))
+      → number + length lps ≤ mostLines + 1
       → length (loopLines (k .tolerance) number lps) ≤ length lps * 1338
   unfolding loopLines loopLine
   loops-room number [] h few = omega arith
   loops-room number (lp ∷ lps) h few =
-      let a = loop-room number (pos (wayLength lp)) (misclosure lp) (verdict (k .tolerance) lp) (map listed lp) (loop-numbers number (omega arith) lp (h lp (List·Memᴰ·head refl))) in
+      let a =
+      loop-room number (pos (wayLength lp)) (misclosure lp) (verdict (k .tolerance) lp) (map listed lp)
+      (loop-numbers number (omega arith) lp (h lp (List·Memᴰ·head refl))) in
       let r = loops-room (suc number) lps (λ x i. h x (List·Memᴰ·tail i)) (omega arith) in
       rw length-append (omega arith)
 
@@ -89,21 +94,24 @@ module _ (k : Book) (ls : List ℤ) (g : GoodLines k ls) where
       let p = tree-lines-count b (standing ls) sound in
       le-trans
       (together (headText b (k .lines) (piecesOf b ls) (length lps)) (loopLines (k .tolerance) 1 lps) (notCheckedText list)
-      (head-room b (k .lines) (piecesOf b ls) (length lps) (omega (arith, g .few-marks)) (omega (arith, g .good .few)) (omega (arith, g .few-marks)) (omega (arith, g .good .few)))
+      (head-room b (k .lines) (piecesOf b ls) (length lps) (omega (arith, g .few-marks)) (omega (arith, g .good .few))
+      (omega (arith, g .few-marks)) (omega (arith, g .good .few)))
       (loops-room 1 lps (λ lp i. i) (omega (arith, g .good .few)))
       (not-checked-room list (few-listed k ls g) (listed-numbers k ls g)))
       (omega (arith, g .good .few))
 
 -- ---- of every file, as it is read into buffers that have room for every book
 
-module _ (file : List ℕ) (held lines : List ℤ) (held-room : mostHeld * heldWords ≤ length held) (lines-room : mostLines * lineWords ≤ length lines) where
+module _ (file : List ℕ) (held lines : List ℤ) (held-room : mostHeld * heldWords ≤ length held)
+    (lines-room : mostLines * lineWords ≤ length lines) where
   abbrev o : Outcome
   o = readOf file held lines
 
   read-fits : ReadOrRefused file held lines (readOf file held lines) → Fits (pageOf file)
   read-fits (inl r) =
       let zero : o .answer .refusal .number ≡ 0 = ap (λ (a : ReadAnswer). a .refusal .number) (r .answer) in
-      subst Fits (book-page file held lines held-room lines-room o refl zero) (book-fits _ _ (good-read file held lines held-room lines-room o refl zero))
+      subst Fits (book-page file held lines held-room lines-room o refl zero)
+      (book-fits _ _ (good-read file held lines held-room lines-room o refl zero))
   read-fits (inr f) =
       let n = ap (λ (a : ReadAnswer). a .refusal .number) (f .answer) in
       let p = ap (λ (a : ReadAnswer). a .refusal .place) (f .answer) in
@@ -114,8 +122,10 @@ pub page-fits : (file : List ℕ) → length (pageOf file) ≤ pageRoom
 page-fits file =
     let held = replicate (mostHeld * heldWords) (pos 0) in
     let lines = replicate (mostLines * lineWords) (pos 0) in
-    read-fits file held lines (le-of-eq (sym (length-replicate (mostHeld * heldWords) (pos 0)))) (le-of-eq (sym (length-replicate (mostLines * lineWords) (pos 0)))) (read-or-refused file held lines)
+    read-fits file held lines (le-of-eq (sym (length-replicate (mostHeld * heldWords) (pos 0))))
+    (le-of-eq (sym (length-replicate (mostLines * lineWords) (pos 0)))) (read-or-refused file held lines)
 
 -- so that the program prints the whole report: what it hands on are the bytes up to the place after the page
-pub page-whole : (file out out′ : List ℕ) (next : ℕ) → pageRoom ≤ length out → Put out out′ 0 next (pageOf file) → take next out′ ≡ pageOf file
+pub page-whole : (file out out′ : List ℕ) (next : ℕ) → pageRoom ≤ length out → Put out out′ 0 next (pageOf file)
+    → take next out′ ≡ pageOf file
 page-whole file out out′ next room p = put-whole p (omega (arith, page-fits file))

@@ -40,28 +40,35 @@ pub run-coded : {ls : List ℤ} {run : List ℕ} → Measured ls → RunIn ls ru
 run-coded m r i h = omega (arith, m .few-lines, r .each i h .high)
 
 -- a run's lines, listed in front
-pub list-front : (run : List ℕ) (list list′ : List ℤ) → list′ ≡ map listedBy run ++ drop (length run) list → take (length run) list′ ≡ map listedBy run
-list-front run list list′ e = ap (take (length run)) e ∙ take-at (map listedBy run) (drop (length run) list) (length run) (length-map run listedBy)
+pub list-front : (run : List ℕ) (list list′ : List ℤ) → list′ ≡ map listedBy run ++ drop (length run) list
+    → take (length run) list′ ≡ map listedBy run
+list-front run list list′ e =
+    ap (take (length run)) e ∙ take-at (map listedBy run) (drop (length run) list) (length run) (length-map run listedBy)
 
 -- the line of a run, from its row and its list
-pub line-put : (t number : ℕ) (ls : List ℤ) (run : List ℕ) {at after : ℕ} {vs list : List ℤ} {out out′ : List ℕ} → vs ≡ rowOf t ls run → list ≡ map listedBy run
-    → Put out out′ at after (loopText number (getD vs 2 (pos 0)) (getD vs 3 (pos 0)) (getD vs 4 (pos 0)) list) → Put out out′ at after (runLine t number ls run)
+pub line-put : (t number : ℕ) (ls : List ℤ) (run : List ℕ) {at after : ℕ} {vs list : List ℤ} {out out′ : List ℕ} → vs ≡ rowOf t ls run
+    → list ≡ map listedBy run
+    → Put out out′ at after (loopText number (getD vs 2 (pos 0)) (getD vs 3 (pos 0)) (getD vs 4 (pos 0)) list)
+    → Put out out′ at after (runLine t number ls run)
 unfolding runLine
 line-put t number ls run {at = at} {after = after} {out = out} {out′ = out′} v l p =
     subst (λ (text : List ℕ). Put out out′ at after text)
     (ap₂ (λ (r : List ℤ) (l : List ℤ). loopText number (getD r 2 (pos 0)) (getD r 3 (pos 0)) (getD r 4 (pos 0)) l) v l) p
 
-lines-more : (t number : ℕ) (done : List Loop) (lp : Loop) → loopLines t number (done ++ (lp ∷ [])) ≡ loopLines t number done ++ loopLine t (number + length done) lp
+lines-more : (t number : ℕ) (done : List Loop) (lp : Loop)
+    → loopLines t number (done ++ (lp ∷ [])) ≡ loopLines t number done ++ loopLine t (number + length done) lp
 unfolding loopLines
 lines-more t number [] lp = append-nil (loopLine t number lp) ∙ ap (λ (k : ℕ). loopLine t k lp) (omega arith)
 lines-more t number (l ∷ done) lp =
     let e : suc number + length done ≡ number + suc (length done) = omega arith in
-    ap (λ (r : List ℕ). loopLine t number l ++ r) (lines-more t (suc number) done lp ∙ ap (λ (k : ℕ). loopLines t (suc number) done ++ loopLine t k lp) e)
+    ap (λ (r : List ℕ). loopLine t number l ++ r) (lines-more t (suc number) done lp
+    ∙ ap (λ (k : ℕ). loopLines t (suc number) done ++ loopLine t k lp) e)
     ∙ sym (append-assoc (loopLine t number l) (loopLines t (suc number) done) (loopLine t (number + suc (length done)) lp))
 
 -- the lines of the first i loops are put, of whatever book the table is
 pub record AllPut (lines : List ℤ) (starts runs : List ℕ) (count t : ℕ) (out₀ : List ℕ) (at : ℕ) (out : List ℕ) (after i : ℕ) : Type 0 where
-  pub of : (k : Book) → GoodLines k lines → Table (loopsOf (k .marks) lines) starts runs count → Put out₀ out at after (loopLines t 1 (take i (loopsOf (k .marks) lines)))
+  pub of : (k : Book) → GoodLines k lines → Table (loopsOf (k .marks) lines) starts runs count
+      → Put out₀ out at after (loopLines t 1 (take i (loopsOf (k .marks) lines)))
 
 module _ {lines : List ℤ} {starts runs : List ℕ} {count t : ℕ} {out₀ : List ℕ} {at : ℕ} where
   pub all-put-start : AllPut lines starts runs count t out₀ at out₀ at 0
@@ -77,12 +84,16 @@ module _ {lines : List ℤ} {starts runs : List ℕ} {count t : ℕ} {out₀ : L
         let left : i < length (loopsOf (k .marks) lines) = omega (arith, tb .counted) in
         let more : take (i + 1) ls ≡ take i ls ++ (loopAt ls i ∷ []) = rw (add-one i, loop-is ls i left) (take-suc ls i [] left) in
         let numbered : i + 1 ≡ 1 + length (take i ls) = omega (arith, length-take-le i ls (omega arith)) in
-        let line = ap (runLine t (i + 1) lines) (run-is tb i left) ∙ line-is k lines good t (i + 1) i left ∙ ap (λ (m : ℕ). loopLine t m (loopAt ls i)) numbered in
+        let line =
+        ap (runLine t (i + 1) lines) (run-is tb i left) ∙ line-is k lines good t (i + 1) i left
+        ∙ ap (λ (m : ℕ). loopLine t m (loopAt ls i)) numbered in
         subst (λ (text : List ℕ). Put out₀ out′ at after′ text) (sym (ap (loopLines t 1) more ∙ lines-more t 1 (take i ls) (loopAt ls i)))
         (w .of k good tb then subst (λ (text : List ℕ). Put out out′ after after′ text) line p);
   }
 
-  pub all-put-end : {out : List ℕ} {after i : ℕ} → AllPut lines starts runs count t out₀ at out after i → i ≡ count → (k : Book) → GoodLines k lines
+  pub all-put-end : {out : List ℕ} {after i : ℕ} → AllPut lines starts runs count t out₀ at out after i → i ≡ count → (k : Book)
+      → GoodLines k lines
       → Table (loopsOf (k .marks) lines) starts runs count → Put out₀ out at after (loopLines t 1 (loopsOf (k .marks) lines))
   all-put-end {out = out} {after = after} {i = i} w e k good tb =
-      subst (λ (l : List Loop). Put out₀ out at after (loopLines t 1 l)) (take-all i (loopsOf (k .marks) lines) (omega (arith, tb .counted))) (w .of k good tb)
+      subst (λ (l : List Loop). Put out₀ out at after (loopLines t 1 l))
+      (take-all i (loopsOf (k .marks) lines) (omega (arith, tb .counted))) (w .of k good tb)

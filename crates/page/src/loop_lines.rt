@@ -15,7 +15,9 @@ const RUN: usize = Book::MAX_MARKS as usize;
 
 // The line of the loop with this run, under this number of the report.
 fn put_loop(lines: &[i64], run: &[u16], t: usize, number: usize, out: &mut [u8], at: usize) -> usize
-    requires { ⌜ Measured (now lines) ⌝ ∗ ⌜ RunIn (now lines) (now run) ⌝ ∗ ⌜ t ≤ mostTolerance ⌝ }
+    requires { ⌜ Measured (now lines) ⌝
+        ∗ ⌜ RunIn (now lines) (now run) ⌝
+        ∗ ⌜ t ≤ mostTolerance ⌝ }
     ensures { λ r. ⌜ Put (now (out .entry)) (now (out .exit)) at r (runLine t number (now (lines .entry)) (now (run .entry))) ⌝ }
 {
     let mut row = [0i64; rows::ROW_WORDS];
@@ -46,7 +48,8 @@ pub(crate) fn put_loops(
 ) -> usize
     requires { ⌜ GoodLines book (now lines) ⌝
         ∗ ⌜ Table (loopsOf (book .marks) (now lines)) (now starts) (now runs) count ⌝ }
-    ensures { λ r. ⌜ Put (now (out .entry)) (now (out .exit)) at r (loopLines (book .tolerance) 1 (loopsOf (book .marks) (now (lines .entry)))) ⌝ }
+    ensures { λ r. ⌜ Put (now (out .entry)) (now (out .exit)) at r
+        (loopLines (book .tolerance) 1 (loopsOf (book .marks) (now (lines .entry)))) ⌝ }
 {
     let t = book.tolerance;
     let mut after = at;

@@ -10,7 +10,8 @@ use book::Book;
 // The head and the loops.
 fn put_loops_of(book: Book, lines: &[i64], out: &mut [u8]) -> usize
     requires { ⌜ GoodLines book (now lines) ⌝ }
-    ensures { λ r. ⌜ Put (now (out .entry)) (now (out .exit)) 0 r (loopsPage (book .marks) (book .tolerance) (book .lines) (now (lines .entry))) ⌝ }
+    ensures { λ r. ⌜ Put (now (out .entry)) (now (out .exit)) 0 r
+        (loopsPage (book .marks) (book .tolerance) (book .lines) (now (lines .entry))) ⌝ }
 {
     let mut starts = [0u64; table::STARTS];
     let mut runs = [0u16; table::RUNS];
@@ -34,7 +35,8 @@ fn put_unchecked(book: Book, lines: &[i64], out: &mut [u8], at: usize) -> usize
 // The whole report.
 pub(crate) fn put_book(book: Book, lines: &[i64], out: &mut [u8]) -> usize
     requires { ⌜ GoodLines book (now lines) ⌝ }
-    ensures { λ r. ⌜ Put (now (out .entry)) (now (out .exit)) 0 r (bookPage (book .marks) (book .tolerance) (book .lines) (now (lines .entry))) ⌝ }
+    ensures { λ r. ⌜ Put (now (out .entry)) (now (out .exit)) 0 r
+        (bookPage (book .marks) (book .tolerance) (book .lines) (now (lines .entry))) ⌝ }
 {
     let at = put_loops_of(book, lines, out);
     put_unchecked(book, lines, out, at)

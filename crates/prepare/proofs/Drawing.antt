@@ -148,14 +148,18 @@ module _ (n : ℕ) (ls : List ℤ) where
       more-lines = stands-here ls j there (good .standing) (rw stands-is at st)
 
       ends-other : (h : ℕ) → (h ≡ suc j * 2 → ⊥) → (h ≡ suc j * 2 + 1 → ⊥) → getD ends′ h 0 ≡ getD ends h 0
-      ends-other h a b = rw en (getD-set-other (set ends (suc j * 2) new-to) (suc j * 2 + 1) h new-from 0 b ∙ getD-set-other ends (suc j * 2) h new-to 0 a)
+      ends-other h a b =
+          rw en (getD-set-other (set ends (suc j * 2) new-to) (suc j * 2 + 1) h new-from 0 b
+          ∙ getD-set-other ends (suc j * 2) h new-to 0 a)
 
       ends-to : getD ends′ (suc j * 2) 0 ≡ lineHere ls j .length * halves + lineHere ls j .to
       ends-to = rw en (getD-set-other (set ends (suc j * 2) new-to) (suc j * 2 + 1) (suc j * 2) new-from 0 (λ q. omega arith)
           ∙ getD-set-same ends (suc j * 2) new-to 0 (omega (arith, d .bounded .ends-at)) ∙ omega (arith, length-is, to-is))
 
       ends-from : getD ends′ (suc j * 2 + 1) 0 ≡ lineHere ls j .length * halves + lineHere ls j .from
-      ends-from = rw en (getD-set-same (set ends (suc j * 2) new-to) (suc j * 2 + 1) new-from 0 (simp length-set (omega (arith, d .bounded .ends-at)))
+      ends-from =
+          rw en (getD-set-same (set ends (suc j * 2) new-to) (suc j * 2 + 1) new-from 0
+          (simp length-set (omega (arith, d .bounded .ends-at)))
           ∙ omega (arith, length-is, from-is))
 
       told-new : (u v h : ℕ) → Half (lineHere ls j) u v h → getD ends′ h 0 ≡ lineHere ls j .length * halves + v
@@ -167,7 +171,9 @@ module _ (n : ℕ) (ls : List ℤ) where
           ap (λ (x : ℕ). getD ends′ x 0) w ∙ ends-from ∙ ap (λ (x : ℕ). lineHere ls j .length * halves + x) q
 
       ends-old : (l : Line) (u v h : ℕ) → List·Memᴰ l rest → Half l u v h → getD ends′ h 0 ≡ getD ends h 0
-      ends-old l u v h i hf = let num = d .numbered l i in let no = half-no hf in ends-other h (λ q. omega (arith, num .0, no .0)) (λ q. omega (arith, num .0, no .0))
+      ends-old l u v h i hf =
+          let num = d .numbered l i in let no = half-no hf in ends-other h (λ q. omega (arith, num .0, no .0))
+          (λ q. omega (arith, num .0, no .0))
 
       along-it : Half (lineHere ls j) (lineHere ls j .from) (lineHere ls j .to) (suc j * 2)
       along-it = fore refl refl (omega arith)
@@ -199,7 +205,8 @@ module _ (n : ℕ) (ls : List ℤ) where
           short = λ h l. short h l (ℕ-discrete h (suc j * 2)) (ℕ-discrete h (suc j * 2 + 1));
         };
         sound = rw more-lines (λ l i. sounds l i);
-        drawn = rw more-lines (join-draws rest (lineHere ls j ∷ rest) (lineHere ls j) (d .sound) fresh wider new-line from-end to-end room jn
+        drawn =
+            rw more-lines (join-draws rest (lineHere ls j ∷ rest) (lineHere ls j) (d .sound) fresh wider new-line from-end to-end room jn
             (d .drawn .heads) (d .drawn .chains));
         ordered = rw more-lines (join-order rest (lineHere ls j) fresh new-line from-end to-end jn (d .ordered));
         told = rw more-lines (λ l u v h i hf. told l u v h i hf);
@@ -222,7 +229,8 @@ module _ (n : ℕ) (ls : List ℤ) where
           sounds l (List·Memᴰ·tail i) = d .sound l i
 
           told : (l : Line) (u v h : ℕ) → List·Memᴰ l (lineHere ls j ∷ rest) → Half l u v h → getD ends′ h 0 ≡ l .length * halves + v
-          told l u v h (List·Memᴰ·head q) hf = told-new u v h (subst (λ (z : Line). Half z u v h) q hf) ∙ ap (λ (z : Line). z .length * halves + v) (sym q)
+          told l u v h (List·Memᴰ·head q) hf =
+              told-new u v h (subst (λ (z : Line). Half z u v h) q hf) ∙ ap (λ (z : Line). z .length * halves + v) (sym q)
           told l u v h (List·Memᴰ·tail i) hf = ends-old l u v h i hf ∙ d .told l u v h i hf
 
           numbered : (l : Line) → List·Memᴰ l (lineHere ls j ∷ rest) → (j < l .number) × (l .number ≤ lineCount ls)
@@ -233,7 +241,9 @@ module _ (n : ℕ) (ls : List ℤ) where
               → (l : Line) × List·Memᴰ l (lineHere ls j ∷ rest) × (l .number ≡ i)
           lineOf i l h (yes q) = (lineHere ls j, List·Memᴰ·head refl, sym q)
           lineOf i l h (no q) =
-              let w = d .lineOf i l (omega (arith, h, ends-other (i * 2) (λ z. omega arith) (λ z. omega arith))) in (w .0, List·Memᴰ·tail (w .1), w .2)
+              let w =
+              d .lineOf i l (omega (arith, h, ends-other (i * 2) (λ z. omega arith) (λ z. omega arith))) in
+              (w .0, List·Memᴰ·tail (w .1), w .2)
 
     pub draw-next : Drew (suc j) (entryAt ls j) ends head next ends′ head′ next′ → DrawingAt j ends′ head′ next′
     draw-next (withdrawn w ei eh ex) = rw (ei, eh, ex) (skipped w)
@@ -323,7 +333,8 @@ module _ {n number : ℕ} {e : List ℤ} {ends head next : List ℕ} (en : Entry
     from-ok = omega (
       arith,
       entry-short,
-      getD-set-same (set ends (number * 2) (l * halves + t)) (number * 2 + 1) (l * halves + f) 0 (simp length-set (omega (arith, en .ends-at, en .number-ok))),
+      getD-set-same (set ends (number * 2) (l * halves + t)) (number * 2 + 1) (l * halves + f) 0
+          (simp length-set (omega (arith, en .ends-at, en .number-ok))),
       en .few-marks,
     );
     to-ok = omega (

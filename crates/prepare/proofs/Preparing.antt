@@ -13,7 +13,8 @@ use Rattle.tree.specs.Plant.{RoomTree}
 use Rattle.prepare.specs.Drawn.{Sheet}
 use Rattle.prepare.specs.Prepared.{RoomBook}
 
-module _ (k : Book) (ls : List ℤ) (g : GoodLines k ls) {ends head next best seg order : List ℕ} (room : RoomBook ends head next best seg order) where
+module _ (k : Book) (ls : List ℤ) (g : GoodLines k ls) {ends head next best seg order : List ℕ}
+    (room : RoomBook ends head next best seg order) where
   pub sheet-of : Sheet (k .marks + 1) ls ends head next
   sheet-of =
       let lines-are : lineCount ls ≡ k .lines = count-of ls (k .lines) (g .good .whole) in

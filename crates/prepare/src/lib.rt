@@ -63,7 +63,8 @@ pub fn plant_book(
 )
     requires { ⌜ GoodLines book (now lines) ⌝
         ∗ ⌜ RoomBook (now ends) (now head) (now next) (now best) (now seg) (now order) ⌝ }
-    ensures { λ _. ⌜ BookPlanted (book .marks + 1) (now (lines .entry)) (now (ends .exit)) (now (head .exit)) (now (next .exit)) (now (best .exit))
+    ensures { λ _. ⌜ BookPlanted (book .marks + 1) (now (lines .entry)) (now (ends .exit)) (now (head .exit)) (now (next .exit))
+        (now (best .exit))
         (now (order .exit)) ⌝ }
 {
     let n = book.marks + 1;

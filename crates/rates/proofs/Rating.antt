@@ -30,7 +30,9 @@ unfolding firstHigh workHeightOut
 working-lent hs b e z = record { all = e; inside = λ j. by j (ltb j (length hs)) refl }
   where
     by : (j : ℕ) (t : Bool) → ltb j (length hs) ≡ t → natAbs (getD hs j (pos 0)) ≤ mostHeight
-    by j true t = size-within mostHeight (getD hs j (pos 0)) (none-bad (λ i. workHeightOut (getD hs i (pos 0))) (length hs) z j (ltb-true j (length hs) t))
+    by j true t =
+        size-within mostHeight (getD hs j (pos 0)) (none-bad (λ i. workHeightOut (getD hs i (pos 0))) (length hs) z j
+        (ltb-true j (length hs) t))
     by j false t = rw (past-end hs j (ltb-false j (length hs) t)) zero-le
 
 -- b heights
@@ -46,10 +48,12 @@ module _ (book : Lent) (heights : List ℤ) (line : ℤ) (r : RateAnswer) where
   unfolding rateAnswer
   rate-four q e = rw q e
 
-  pub rate-refused : eqZ (pos (length heights)) (book .b) ≡ true → (f : Refusal) → testOf book ≡ Refused f → r ≡ refusedWith f → r ≡ rateAnswer book heights line
+  pub rate-refused : eqZ (pos (length heights)) (book .b) ≡ true → (f : Refusal) → testOf book ≡ Refused f → r ≡ refusedWith f
+      → r ≡ rateAnswer book heights line
   unfolding rateAnswer
   rate-refused q f h e = rw (q, h) e
 
-  pub rate-good : eqZ (pos (length heights)) (book .b) ≡ true → (k : Book) → testOf book ≡ Good k → r ≡ goodRate heights (book .lines) k line → r ≡ rateAnswer book heights line
+  pub rate-good : eqZ (pos (length heights)) (book .b) ≡ true → (k : Book) → testOf book ≡ Good k
+      → r ≡ goodRate heights (book .lines) k line → r ≡ rateAnswer book heights line
   unfolding rateAnswer
   rate-good q k h e = rw (q, h) e

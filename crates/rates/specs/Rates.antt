@@ -58,7 +58,13 @@ unfolding correctionAt quotient
 lineRate heights lines line i =
     cond (eqZ (standingAt lines i) (pos 0))
     (record { refusal = noRefusal; line = line; correction = pos 0; rate = Withdrawn })
-    (record { refusal = noRefusal; line = line; correction = correctionAt heights lines i; rate = PerKm (quotient (correctionAt heights lines i) (lengthAt lines i)) })
+    (record {
+      refusal = noRefusal;
+      line = line;
+      correction = correctionAt heights lines i;
+      rate = PerKm
+          (quotient (correctionAt heights lines i) (lengthAt lines i));
+    })
 
 -- 13: "a height .. lent, outside its limit", "of lent ones the lowest"
 unfoldable pub firstHigh : List ℤ → ℕ
@@ -70,7 +76,8 @@ unfoldable pub goodRate : List ℤ → List ℤ → Book → ℤ → RateAnswer
 unfolding refusedWith firstHigh lineRate
 goodRate heights lines book line =
     cond (outZ (pos 1) (pos (book .lines)) line) (refusedWith (refusal 8 0))
-    (cond (ltb 0 (firstHigh heights)) (refusedWith (refusal 13 (firstHigh heights))) (lineRate heights lines (natAbs line) (natAbs line - 1)))
+    (cond (ltb 0 (firstHigh heights)) (refusedWith (refusal 13 (firstHigh heights)))
+    (lineRate heights lines (natAbs line) (natAbs line - 1)))
 
 -- 4: "heights lent to be read not b in number"; then the book's own refusals
 unfoldable pub rateAnswer : Lent → List ℤ → ℤ → RateAnswer

@@ -39,7 +39,8 @@ pub struct RateAnswer {
 
 // Both numbers are below 2 to the 53rd, so that the casts are exact; the quotient is rounded once.
 fn per_km(correction: i64, length: i64) -> f64
-    requires { ⌜ natAbs correction < 2 ^ 53 ⌝ ∗ ⌜ natAbs length < 2 ^ 53 ⌝ }
+    requires { ⌜ natAbs correction < 2 ^ 53 ⌝
+        ∗ ⌜ natAbs length < 2 ^ 53 ⌝ }
     ensures { λ r. ⌜ r ≡ quotient correction length ⌝ }
 {
     correction as f64 / length as f64
@@ -98,7 +99,8 @@ fn first_high(heights: &[i64]) -> usize
 
 // Adjusted minus observed difference of a line.
 fn correction_of(line: Line, heights: &[i64], b: usize) -> i64
-    requires { ⌜ OfBook b line ⌝ ∗ ⌜ Working (now heights) b ⌝ }
+    requires { ⌜ OfBook b line ⌝
+        ∗ ⌜ Working (now heights) b ⌝ }
     ensures { λ r. ⌜ (r ≡ correctionOf (now (heights .entry)) line) × (natAbs r < 2 ^ 53) ⌝ }
 {
     let to = signed::index(line.to);
@@ -140,7 +142,8 @@ fn line_rate(lines: &[i64], heights: &[i64], b: usize, line: usize) -> RateAnswe
 
 // The answer for a book that has passed its test: 8, then 13.
 pub fn good_rate(lines: &[i64], heights: &[i64], book: Book, line: i64) -> RateAnswer
-    requires { ⌜ Lines (now lines) (book .marks) (book .lines) ⌝ ∗ ⌜ length (now heights) ≡ book .marks ⌝ }
+    requires { ⌜ Lines (now lines) (book .marks) (book .lines) ⌝
+        ∗ ⌜ length (now heights) ≡ book .marks ⌝ }
     ensures { λ r. ⌜ r ≡ goodRate (now (heights .entry)) (now (lines .entry)) book line ⌝ }
 {
     if signed::outside(line, 1, signed::signed_count(book.lines)) {

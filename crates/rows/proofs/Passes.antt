@@ -58,7 +58,8 @@ module _ (ls : List ℤ) where
   unfolding lengthBy
   length-one p m = let w = place-of ls (p .line) m in rw (code-line (p .forward) (p .line .number) (w .i) (w .number)) (w .length)
 
-  rise-one : (p : Pass) → List·Memᴰ (p .line) (standing ls) → riseBy ls (codeOf (p .forward) (p .line .number)) ≡ signed (p .forward) (p .line .difference)
+  rise-one : (p : Pass) → List·Memᴰ (p .line) (standing ls)
+      → riseBy ls (codeOf (p .forward) (p .line .number)) ≡ signed (p .forward) (p .line .difference)
   unfolding riseBy
   rise-one p m = go (p .forward)
     where
@@ -68,7 +69,8 @@ module _ (ls : List ℤ) where
       at-line : (forward : Bool) → differenceAt ls (lineOf (codeOf forward (p .line .number))) ≡ p .line .difference
       at-line forward = rw (code-line forward (p .line .number) (w .i) (w .number)) (w .difference)
 
-      go : (forward : Bool) → cond (eqb (codeOf forward (p .line .number) % 2) 0) (differenceAt ls (lineOf (codeOf forward (p .line .number))))
+      go : (forward : Bool)
+          → cond (eqb (codeOf forward (p .line .number) % 2) 0) (differenceAt ls (lineOf (codeOf forward (p .line .number))))
           (negℤ (differenceAt ls (lineOf (codeOf forward (p .line .number))))) ≡ signed forward (p .line .difference)
       go true = rw (eq-eqb (2 * p .line .number % 2) 0 (omega arith)) (at-line true)
       go false = rw (ne-eqb ((2 * p .line .number + 1) % 2) 0 (λ z. omega arith)) (ap negℤ (at-line false))
@@ -85,7 +87,8 @@ module _ (ls : List ℤ) where
 
   verdict-is : (t : ℕ) (lp : Loop) → verdict t lp ≡ verdictOf t (misclosure lp) (wayLength lp)
   unfolding verdict within verdictOf
-  verdict-is t lp = ap (λ (x : ℕ). cond (leb (natAbs (misclosure lp) * natAbs (misclosure lp)) (10 * x)) (pos 0) (pos 1)) (allowances-sum t lp)
+  verdict-is t lp =
+      ap (λ (x : ℕ). cond (leb (natAbs (misclosure lp) * natAbs (misclosure lp)) (10 * x)) (pos 0) (pos 1)) (allowances-sum t lp)
 
   first-is : (lp : Loop) → getD (codes lp) 0 0 / 2 ≡ closingNumber lp
   unfolding codes

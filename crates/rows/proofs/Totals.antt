@@ -71,10 +71,12 @@ rise-aft ls code e = rw (ne-eqb (code % 2) 0 e) (sym (+ℤ-idl (negℤ (differen
 
 -- ---- the verdict
 
-pub allow : (t len : ℕ) → t ≤ mostTolerance → len ≤ mostMarks * mostLength → t * t * len ≤ mostTolerance * mostTolerance * (mostMarks * mostLength)
+pub allow : (t len : ℕ) → t ≤ mostTolerance → len ≤ mostMarks * mostLength
+    → t * t * len ≤ mostTolerance * mostTolerance * (mostMarks * mostLength)
 allow t len ht hl = mul-le-mul (mul-le-mul ht ht) hl
 
-pub verdict-big : (t : ℕ) (m : ℤ) (len size : ℕ) → t ≤ mostTolerance → len ≤ mostMarks * mostLength → size ≡ natAbs m → squareLimit ≤ size → verdictOf t m len ≡ pos 1
+pub verdict-big : (t : ℕ) (m : ℤ) (len size : ℕ) → t ≤ mostTolerance → len ≤ mostMarks * mostLength → size ≡ natAbs m
+    → squareLimit ≤ size → verdictOf t m len ≡ pos 1
 unfolding verdictOf
 verdict-big t m len size ht hl e h =
     let a = allow t len ht hl in
@@ -97,7 +99,8 @@ row-stored out {a} {b} {c} {d} {e} h p q r s t = filled (a ∷ b ∷ c ∷ d ∷
 
 -- ---- a row by its sums
 
-pub row-made : (t : ℕ) (ls : List ℤ) (run : List ℕ) (metres : ℕ) (m v : ℤ) → metres ≡ lengthOf ls run → m ≡ riseOf ls run → v ≡ verdictOf t m metres
+pub row-made : (t : ℕ) (ls : List ℤ) (run : List ℕ) (metres : ℕ) (m v : ℤ) → metres ≡ lengthOf ls run → m ≡ riseOf ls run
+    → v ≡ verdictOf t m metres
     → pos (getD run 0 0 / 2) ∷ pos (length run) ∷ pos metres ∷ m ∷ v ∷ [] ≡ rowOf t ls run
 unfolding rowOf
 row-made t ls run metres m v p q r = rw (r, p, q)

@@ -30,7 +30,8 @@ rows-more t (l ∷ done) lp = ap (λ (r : List ℤ). row t l ++ r) (rows-more t 
 abbrev pub Written : ℕ → List Loop → List ℤ → List ℤ → ℕ → Type 0
 Written t ls out₀ out i = out ≡ rows t (take i ls) ++ drop (i * rowWords) out₀
 
-pub written-next : (t : ℕ) (ls : List Loop) (out₀ out vs : List ℤ) (i : ℕ) → i < length ls → Written t ls out₀ out i → vs ≡ row t (loopAt ls i)
+pub written-next : (t : ℕ) (ls : List Loop) (out₀ out vs : List ℤ) (i : ℕ) → i < length ls → Written t ls out₀ out i
+    → vs ≡ row t (loopAt ls i)
     → Written t ls out₀ (putMid (i * rowWords) (i * rowWords + rowWords - i * rowWords) out vs) (i + 1)
 written-next t ls out₀ out vs i lt w e =
     let before : length (rows t (take i ls)) ≡ i * rowWords = omega (arith, rows-length t (take i ls), length-take-le i ls (omega arith)) in
@@ -41,10 +42,12 @@ written-next t ls out₀ out vs i lt w e =
 
 pub written-end : (t : ℕ) (ls : List Loop) (out₀ out : List ℤ) (i count : ℕ) → count ≡ length ls → i ≡ count → Written t ls out₀ out i
     → out ≡ rows t ls ++ drop (count * rowWords) out₀
-written-end t ls out₀ out i count e z w = w ∙ ap₂ (λ (l : List Loop) (k : ℕ). rows t l ++ drop (k * rowWords) out₀) (take-all i ls (omega arith)) z
+written-end t ls out₀ out i count e z w =
+    w ∙ ap₂ (λ (l : List Loop) (k : ℕ). rows t l ++ drop (k * rowWords) out₀) (take-all i ls (omega arith)) z
 
 -- loop i of a good book, read off the table
-module _ (k : Book) (lines : List ℤ) (good : GoodLines k lines) {starts runs : List ℕ} {count : ℕ} (tb : Table (loopsOf (k .marks) lines) starts runs count)
+module _ (k : Book) (lines : List ℤ) (good : GoodLines k lines) {starts runs : List ℕ} {count : ℕ}
+    (tb : Table (loopsOf (k .marks) lines) starts runs count)
     (i : ℕ) (lt : i < count) where
   abbrev pub run : List ℕ
   run = take (getD starts (i + 1) 0 - getD starts i 0) (drop (getD starts i 0) runs)
@@ -53,14 +56,18 @@ module _ (k : Book) (lines : List ℤ) (good : GoodLines k lines) {starts runs :
   left = omega (arith, tb .counted)
 
   pub run-in : RunIn lines run
-  run-in = rw (run-is tb i left) (loop-run k lines good (loopAt (loopsOf (k .marks) lines) i) (loop-at-is (loopsOf (k .marks) lines) i left))
+  run-in =
+      rw (run-is tb i left) (loop-run k lines good (loopAt (loopsOf (k .marks) lines) i) (loop-at-is (loopsOf (k .marks) lines) i left))
 
   pub run-row : (t : ℕ) → rowOf t lines run ≡ row t (loopAt (loopsOf (k .marks) lines) i)
-  run-row t = ap (rowOf t lines) (run-is tb i left) ∙ loop-row k lines good (loopAt (loopsOf (k .marks) lines) i) (loop-at-is (loopsOf (k .marks) lines) i left) t
+  run-row t =
+      ap (rowOf t lines) (run-is tb i left) ∙ loop-row k lines good (loopAt (loopsOf (k .marks) lines) i)
+      (loop-at-is (loopsOf (k .marks) lines) i left) t
 
 -- the first i rows are written, of whatever book the table is
 pub record AllWritten (lines : List ℤ) (starts runs : List ℕ) (count : ℕ) (out₀ : List ℤ) (t : ℕ) (out : List ℤ) (i : ℕ) : Type 0 where
-  pub of : (k : Book) → GoodLines k lines → Table (loopsOf (k .marks) lines) starts runs count → Written t (loopsOf (k .marks) lines) out₀ out i
+  pub of : (k : Book) → GoodLines k lines → Table (loopsOf (k .marks) lines) starts runs count
+      → Written t (loopsOf (k .marks) lines) out₀ out i
 
 module _ {lines : List ℤ} {starts runs : List ℕ} {count : ℕ} {out₀ : List ℤ} {t : ℕ} where
   pub all-written-start : AllWritten lines starts runs count out₀ t out₀ 0
@@ -71,5 +78,6 @@ module _ {lines : List ℤ} {starts runs : List ℕ} {count : ℕ} {out₀ : Lis
       → (vs : List ℤ) → vs ≡ rowOf t lines (take (getD starts (i + 1) 0 - getD starts i 0) (drop (getD starts i 0) runs))
       → AllWritten lines starts runs count out₀ t (putMid (i * rowWords) (i * rowWords + rowWords - i * rowWords) out vs) (i + 1)
   all-written-next {out = out} {i = i} lt w vs e = record {
-    of = λ k good tb. written-next t (loopsOf (k .marks) lines) out₀ out vs i (omega (arith, tb .counted)) (w .of k good tb) (e ∙ run-row k lines good tb i lt t);
+    of = λ k good tb. written-next t (loopsOf (k .marks) lines) out₀ out vs i (omega (arith, tb .counted)) (w .of k good tb)
+        (e ∙ run-row k lines good tb i lt t);
   }

@@ -33,7 +33,8 @@ const SQUARE_LIMIT: usize = 2147483648;
 
 // The length of the line that a code runs.
 fn length_by(lines: &[i64], code: usize) -> usize
-    requires { ⌜ Measured (now lines) ⌝ ∗ ⌜ Runs (now lines) code ⌝ }
+    requires { ⌜ Measured (now lines) ⌝
+        ∗ ⌜ Runs (now lines) code ⌝ }
     ensures { λ r. ⌜ r ≡ lengthBy (now (lines .entry)) code ⌝ }
 {
     signed::index(lines[(code / 2 - 1) * Line::WORDS + Line::LENGTH])
@@ -41,7 +42,8 @@ fn length_by(lines: &[i64], code: usize) -> usize
 
 // Its difference, in the sense of the code.
 fn rise_by(lines: &[i64], code: usize) -> i64
-    requires { ⌜ Measured (now lines) ⌝ ∗ ⌜ Runs (now lines) code ⌝ }
+    requires { ⌜ Measured (now lines) ⌝
+        ∗ ⌜ Runs (now lines) code ⌝ }
     ensures { λ r. ⌜ r ≡ riseBy (now (lines .entry)) code ⌝ }
 {
     let d = lines[(code / 2 - 1) * Line::WORDS + Line::DIFFERENCE];
@@ -53,7 +55,8 @@ fn rise_by(lines: &[i64], code: usize) -> i64
 
 // The length of a run.
 fn run_length(lines: &[i64], run: &[u16]) -> usize
-    requires { ⌜ Measured (now lines) ⌝ ∗ ⌜ RunIn (now lines) (now run) ⌝ }
+    requires { ⌜ Measured (now lines) ⌝
+        ∗ ⌜ RunIn (now lines) (now run) ⌝ }
     ensures { λ r. ⌜ (r ≡ lengthOf (now (lines .entry)) (now (run .entry))) × (r ≤ mostMarks * mostLength) ⌝ }
 {
     let mut sum = 0;
@@ -67,7 +70,8 @@ fn run_length(lines: &[i64], run: &[u16]) -> usize
 
 // The rise of a run.
 fn run_rise(lines: &[i64], run: &[u16]) -> i64
-    requires { ⌜ Measured (now lines) ⌝ ∗ ⌜ RunIn (now lines) (now run) ⌝ }
+    requires { ⌜ Measured (now lines) ⌝
+        ∗ ⌜ RunIn (now lines) (now run) ⌝ }
     ensures { λ r. ⌜ (r ≡ riseOf (now (lines .entry)) (now (run .entry))) × (natAbs r ≤ mostMarks * mostDifference) ⌝ }
 {
     let mut sum = 0i64;
@@ -79,9 +83,11 @@ fn run_rise(lines: &[i64], run: &[u16]) -> i64
     sum
 }
 
-// 0 where the misclosure is within the allowable, 1 where it is over. A size of 2 to the 31st or more is over in any case; below it the square fits.
+// 0 where the misclosure is within the allowable, 1 where it is over. A size of 2 to the 31st or more is over in any case; below it the
+// square fits.
 fn verdict(misclosure: i64, t: usize, metres: usize) -> i64
-    requires { ⌜ t ≤ mostTolerance ⌝ ∗ ⌜ metres ≤ mostMarks * mostLength ⌝ }
+    requires { ⌜ t ≤ mostTolerance ⌝
+        ∗ ⌜ metres ≤ mostMarks * mostLength ⌝ }
     ensures { λ r. ⌜ r ≡ verdictOf t misclosure metres ⌝ }
 {
     let size = signed::magnitude(misclosure);
@@ -103,7 +109,8 @@ fn write_row(
     misclosure: i64,
     verdict: i64,
 )
-    requires { ⌜ length (now out) ≡ rowWords ⌝ ∗ ⌜ (number < 2 ^ 63) × (count < 2 ^ 63) × (metres < 2 ^ 63) ⌝ }
+    requires { ⌜ length (now out) ≡ rowWords ⌝
+        ∗ ⌜ (number < 2 ^ 63) × (count < 2 ^ 63) × (metres < 2 ^ 63) ⌝ }
     ensures { λ _. ⌜ now (out .exit) ≡ pos number ∷ pos count ∷ pos metres ∷ misclosure ∷ verdict ∷ [] ⌝ }
 {
     out[ROW_CLOSING] = signed::signed_count(number);
@@ -115,7 +122,10 @@ fn write_row(
 
 // The row of the loop with this run, at the tolerance t.
 pub fn row_of(lines: &[i64], run: &[u16], out: &mut [i64], t: usize)
-    requires { ⌜ Measured (now lines) ⌝ ∗ ⌜ RunIn (now lines) (now run) ⌝ ∗ ⌜ t ≤ mostTolerance ⌝ ∗ ⌜ length (now out) ≡ rowWords ⌝ }
+    requires { ⌜ Measured (now lines) ⌝
+        ∗ ⌜ RunIn (now lines) (now run) ⌝
+        ∗ ⌜ t ≤ mostTolerance ⌝
+        ∗ ⌜ length (now out) ≡ rowWords ⌝ }
     ensures { λ _. ⌜ now (out .exit) ≡ rowOf t (now (lines .entry)) (now (run .entry)) ⌝ }
 {
     let metres = run_length(lines, run);

@@ -12,7 +12,8 @@ use Rattle.network.specs.Standing.{Line}
 use Rattle.network.specs.Tree.{Entry, entry, Tree, Candidate, distance, score, far, lowest, firstOut, step, grow}
 use Rattle.network.specs.Tree as tr
 use Rattle.network.specs.Path.{Pass, start, stop, down, descent, onward, descend, orZero, shortest}
-use Rattle.network.proofs.Grown.{Scored, scored, score-of, After, new, old, after, keeps, lowest-some, firstOut-some, grown, Stepped, line, root, stepped, isNew}
+use Rattle.network.proofs.Grown.{Scored, scored, score-of, After, new, old, after, keeps, lowest-some, firstOut-some, grown, Stepped}
+use Rattle.network.proofs.Grown.{line, root, stepped, isNew}
 use Rattle.network.specs.Walk.{Ends}
 use Rattle.network.specs.Walk as walk
 use Rattle.network.proofs.Grown as gr

@@ -12,16 +12,19 @@ use lib.Seq.{getD-set-same, getD-set-other}
 use Rattle.book.specs.Limits.{mostLength}
 use Rattle.network.specs.Standing.{Line}
 use Rattle.network.specs.Tree.{Entry, entry, Tree, Candidate, candidate, distance, score, far, lowest, firstOut, next, step, grow}
-use Rattle.network.proofs.Grown.{scored, After, new, old, after, keeps, lowest-some, ByLine, Grown, grown, Stepped, line, root, stop, stepped}
+use Rattle.network.proofs.Grown.{scored, After, new, old, after, keeps, lowest-some, ByLine, Grown, grown, Stepped, line, root, stop}
+use Rattle.network.proofs.Grown.{stepped}
 use Rattle.network.proofs.Shortest.{same, never, turn, frontier, rising}
 use Rattle.nearest.specs.Heap.{Changed, leafLimit}
 use Rattle.nearest.specs.Heap as hp
 use Rattle.nearest.proofs.Tournament.{cleared}
 use Rattle.chains.specs.Chains.{Half, flip, markOf, AllSound, Given, halves}
-use Rattle.search.specs.Front.{Stage, Relaxed, Key, Keyed, Front, Nothing, Rest, Begun, Two, top, lead, Turned, more, found, nothing, limit, Outcome, reached, cut-off}
+use Rattle.search.specs.Front.{Stage, Relaxed, Key, Keyed, Front, Nothing, Rest, Begun, Two, top, lead, Turned, more, found}
+use Rattle.search.specs.Front.{nothing, limit, Outcome, reached, cut-off}
 use Rattle.search.specs.Front as f
 use Rattle.chains.proofs.Halves.{half-ends, half-flip, half-low-end, mark-of}
-use Rattle.search.proofs.Enter.{lowest-gone, far-half, step-some, Pop, pop-none, pop-some, came-new, keyed-enter, front-enter, front-relaxed}
+use Rattle.search.proofs.Enter.{lowest-gone, far-half, step-some, Pop, pop-none, pop-some, came-new, keyed-enter, front-enter}
+use Rattle.search.proofs.Enter.{front-relaxed}
 
 -- ---- distances stay small
 

@@ -16,7 +16,8 @@ use Rattle.network.specs.Path.{Pass, shortest}
 use Rattle.network.specs.Codes.{codes}
 use Rattle.chains.specs.Chains.{flip, markOf, AllSound, Given, halves}
 use Rattle.chains.proofs.Halves.{half-ok}
-use Rattle.search.specs.Front.{came, orBy, viaOf, orPath, lineage, By, Key, Keyed, Way, rooted, onward, Leads, Put, Walked, Written, Outcome, reached, cut-off}
+use Rattle.search.specs.Front.{came, orBy, viaOf, orPath, lineage, By, Key, Keyed, Way, rooted, onward, Leads, Put, Walked, Written}
+use Rattle.search.specs.Front.{Outcome, reached, cut-off}
 use Rattle.search.specs.Front as f
 use Rattle.search.proofs.Lineage.{Back, backed, root-came, way-few, code-half}
 use Rattle.search.proofs.Same.{shortest-lineage, shortest-none}

@@ -14,7 +14,8 @@ use Rattle.sights.specs.Table.{taken}
 use Rattle.fields.proofs.Fair.{Fairs, no-line, and-line}
 
 -- a line is seen at most once from a mark
-seen-once : (t f : Bool) (s r : Sight) (ss : List Sight) → (t ≡ true → f ≡ true → ⊥) → length (sightIf t s (sightIf f r ss)) ≤ suc (length ss)
+seen-once : (t f : Bool) (s r : Sight) (ss : List Sight) → (t ≡ true → f ≡ true → ⊥)
+    → length (sightIf t s (sightIf f r ss)) ≤ suc (length ss)
 seen-once true true s r ss h = absurd (h refl refl)
 seen-once true false s r ss h = omega arith
 seen-once false true s r ss h = omega arith
@@ -24,7 +25,9 @@ pub few-sights : {b k : ℕ} {ls : List Line} → Fairs b k ls → (m : ℕ) →
 unfolding sightsOf
 few-sights no-line m = zero-le
 few-sights {ls = l ∷ ls} (and-line f fs) m =
-    let h : length (sightsOf (l ∷ ls) m) ≤ suc (length (sightsOf ls m)) = seen-once (eqb (l .to) m) (eqb (l .from) m) _ _ (sightsOf ls m) (λ t g. f .apart (eqb-true (l .from) m g ∙ sym (eqb-true (l .to) m t))) in
+    let h : length (sightsOf (l ∷ ls) m) ≤ suc (length (sightsOf ls m)) =
+    seen-once (eqb (l .to) m) (eqb (l .from) m) _ _ (sightsOf ls m)
+    (λ t g. f .apart (eqb-true (l .from) m g ∙ sym (eqb-true (l .to) m t))) in
     omega (arith, few-sights fs m)
 
 bit : Bool → ℕ

@@ -20,30 +20,50 @@ length-seen other rise weight a (suc k) = ap suc (length-seen other rise weight 
 
 -- one sight more at the end
 seen-more : (other : List ℕ) (rise : List ℤ) (weight : List ℕ) (a k : ℕ)
-    → seen other rise weight a (suc k) ≡ seen other rise weight a k ++ (sight (suc (getD other (a + k) 0)) (getD rise (a + k) (pos 0)) (getD weight (a + k) 0) ∷ [])
+    → seen other rise weight a (suc k) ≡ seen other rise weight a k
+    ++ (sight (suc (getD other (a + k) 0)) (getD rise (a + k) (pos 0)) (getD weight (a + k) 0) ∷ [])
 unfolding seen
 seen-more other rise weight a zero = rw (add-zero a)
 seen-more other rise weight a (suc k) =
     let e : a + suc k ≡ suc a + k = omega arith in
-    rw e (ap (λ (r : List Sight). sight (suc (getD other a 0)) (getD rise a (pos 0)) (getD weight a 0) ∷ r) (seen-more other rise weight (suc a) k))
+    rw e (ap (λ (r : List Sight). sight (suc (getD other a 0)) (getD rise a (pos 0)) (getD weight a 0) ∷ r)
+    (seen-more other rise weight (suc a) k))
 
-module _ (other : List ℕ) (rise : List ℤ) (weight : List ℕ) (other′ : List ℕ) (rise′ : List ℤ) (weight′ : List ℕ) (c : ℕ) (s : Sight) (w : Written other rise weight other′ rise′ weight′ c s) where
+module _ (other : List ℕ) (rise : List ℤ) (weight : List ℕ) (other′ : List ℕ) (rise′ : List ℤ) (weight′ : List ℕ) (c : ℕ) (s : Sight)
+    (w : Written other rise weight other′ rise′ weight′ c s) where
   -- what stands before is as it was
   seen-before : (i k : ℕ) → i + k ≤ c → seen other′ rise′ weight′ i k ≡ seen other rise weight i k
   unfolding seen
   seen-before i zero l = refl
   seen-before i (suc k) l =
       rw (seen-before (suc i) k (omega arith))
-      (rw (w .others, w .rises, w .weighed, getD-set-other other c i (s .other - 1) 0 (λ e. omega arith), getD-set-other rise c i (s .rise) (pos 0) (λ e. omega arith), getD-set-other weight c i (s .weight) 0 (λ e. omega arith)))
+      (rw (
+        w .others,
+        w .rises,
+        w .weighed,
+        getD-set-other other c i (s .other - 1) 0 (λ e. omega arith),
+        getD-set-other rise c i
+            (s .rise) (pos 0) (λ e. omega arith),
+        getD-set-other weight c i (s .weight) 0 (λ e. omega arith),
+      ))
 
   -- the sight itself
   seen-here : 0 < s .other → Upto other rise weight (c + 1) → sight (suc (getD other′ c 0)) (getD rise′ c (pos 0)) (getD weight′ c 0) ≡ s
   seen-here p u =
-      rw (w .others, w .rises, w .weighed, getD-set-same other c (s .other - 1) 0 (omega (arith, u .others)), getD-set-same rise c (s .rise) (pos 0) (omega (arith, u .rises)), getD-set-same weight c (s .weight) 0 (omega (arith, u .weighed)))
+      rw (
+        w .others,
+        w .rises,
+        w .weighed,
+        getD-set-same other c (s .other - 1) 0 (omega (arith, u .others)),
+        getD-set-same rise c
+            (s .rise) (pos 0) (omega (arith, u .rises)),
+        getD-set-same weight c (s .weight) 0 (omega (arith, u .weighed)),
+      )
       (let e : suc (s .other - 1) ≡ s .other = omega arith in ap (λ (o : ℕ). sight o (s .rise) (s .weight)) e)
 
 -- before the first, after one more, and after the last
-pub filling-start : (other : List ℕ) (rise : List ℤ) (weight : List ℕ) (b a : ℕ) (all : List Sight) → InRange other rise weight b → Upto other rise weight (a + length all)
+pub filling-start : (other : List ℕ) (rise : List ℤ) (weight : List ℕ) (b a : ℕ) (all : List Sight) → InRange other rise weight b
+    → Upto other rise weight (a + length all)
     → Filling other rise weight other rise weight b a a all all
 unfolding seen
 filling-start other rise weight b a all r u = record {
@@ -54,9 +74,12 @@ filling-start other rise weight b a all r u = record {
   before = λ i k l. refl;
 }
 
-pub filling-next : (other₀ : List ℕ) (rise₀ : List ℤ) (weight₀ : List ℕ) (other : List ℕ) (rise : List ℤ) (weight : List ℕ) (other′ : List ℕ) (rise′ : List ℤ) (weight′ : List ℕ)
-    (b a c : ℕ) (s : Sight) (rest all : List Sight) → 0 < s .other → Written other rise weight other′ rise′ weight′ c s → InRange other′ rise′ weight′ b
-    → Filling other₀ rise₀ weight₀ other rise weight b a c (s ∷ rest) all → Filling other₀ rise₀ weight₀ other′ rise′ weight′ b a (c + 1) rest all
+pub filling-next : (other₀ : List ℕ) (rise₀ : List ℤ) (weight₀ : List ℕ) (other : List ℕ) (rise : List ℤ) (weight : List ℕ)
+    (other′ : List ℕ) (rise′ : List ℤ) (weight′ : List ℕ)
+    (b a c : ℕ) (s : Sight) (rest all : List Sight) → 0 < s .other → Written other rise weight other′ rise′ weight′ c s
+    → InRange other′ rise′ weight′ b
+    → Filling other₀ rise₀ weight₀ other rise weight b a c (s ∷ rest) all
+    → Filling other₀ rise₀ weight₀ other′ rise′ weight′ b a (c + 1) rest all
 filling-next other₀ rise₀ weight₀ other rise weight other′ rise′ weight′ b a c s rest all p w r f = record {
   range = r;
   room = record {
@@ -70,25 +93,44 @@ filling-next other₀ rise₀ weight₀ other rise weight other′ rise′ weigh
 }
   where
     here : sight (suc (getD other′ c 0)) (getD rise′ c (pos 0)) (getD weight′ c 0) ≡ s
-    here = seen-here other rise weight other′ rise′ weight′ c s w p (record { others = omega (arith, f .room .others); rises = omega (arith, f .room .rises); weighed = omega (arith, f .room .weighed) })
+    here =
+        seen-here other rise weight other′ rise′ weight′ c s w p
+        (record {
+          others = omega (arith, f .room .others);
+          rises = omega (arith, f .room .rises);
+          weighed
+              = omega (arith, f .room .weighed);
+        })
 
     grown : seen other′ rise′ weight′ a (c + 1 - a) ≡ seen other rise weight a (c - a) ++ (s ∷ [])
     grown =
         let e : c + 1 - a ≡ suc (c - a) = omega (arith, f .reached) in
         let g : a + (c - a) ≡ c = omega (arith, f .reached) in
-        rw (e, seen-more other′ rise′ weight′ a (c - a), g, here, seen-before other rise weight other′ rise′ weight′ c s w a (c - a) (omega (arith, f .reached)))
+        rw (
+          e,
+          seen-more other′ rise′ weight′ a (c - a),
+          g,
+          here,
+          seen-before other rise weight other′ rise′ weight′ c s w a (c - a)
+              (omega (arith, f .reached)),
+        )
 
-pub filling-end : (other₀ : List ℕ) (rise₀ : List ℤ) (weight₀ : List ℕ) (other : List ℕ) (rise : List ℤ) (weight : List ℕ) (b a c : ℕ) (rest all : List Sight) → rest ≡ []
-    → Filling other₀ rise₀ weight₀ other rise weight b a c rest all → (c ≡ a + length all) × Filled other₀ rise₀ weight₀ other rise weight b a all
+pub filling-end : (other₀ : List ℕ) (rise₀ : List ℤ) (weight₀ : List ℕ) (other : List ℕ) (rise : List ℤ) (weight : List ℕ) (b a c : ℕ)
+    (rest all : List Sight) → rest ≡ []
+    → Filling other₀ rise₀ weight₀ other rise weight b a c rest all
+    → (c ≡ a + length all) × Filled other₀ rise₀ weight₀ other rise weight b a all
 filling-end other₀ rise₀ weight₀ other rise weight b a c rest all e f =
-    let d : seen other rise weight a (c - a) ≡ all = sym (append-nil (seen other rise weight a (c - a))) ∙ ap (λ (r : List Sight). seen other rise weight a (c - a) ++ r) (sym e) ∙ f .done in
+    let d : seen other rise weight a (c - a) ≡ all =
+    sym (append-nil (seen other rise weight a (c - a))) ∙ ap (λ (r : List Sight). seen other rise weight a (c - a) ++ r) (sym e)
+    ∙ f .done in
     let l : c - a ≡ length all = sym (length-seen other rise weight a (c - a)) ∙ ap length d in
     (omega (arith, f .reached), record { range = f .range; here = ap (seen other rise weight a) (sym l) ∙ d; before = f .before })
 
 -- ---- along a chain
 
 -- the half h is next, and place c; what its chain leads by is left
-pub record Walking (lines : List ℤ) (n : ℕ) (next other₀ : List ℕ) (rise₀ : List ℤ) (weight₀ other : List ℕ) (rise : List ℤ) (weight : List ℕ)
+pub record Walking (lines : List ℤ) (n : ℕ) (next other₀ : List ℕ) (rise₀ : List ℤ) (weight₀ other : List ℕ) (rise : List ℤ)
+    (weight : List ℕ)
     (b a c h : ℕ) (all : List Sight) : Type 0 where
   pub rest : List Sight
   pub leads : Leads lines n next h rest
@@ -106,7 +148,8 @@ pub record Turn (lines : List ℤ) (n : ℕ) (next other₀ : List ℕ) (rise₀
   pub room : Upto other rise weight (c + 1)
   pub more : c < a + length all
 
-module _ {lines : List ℤ} {n : ℕ} {next other₀ : List ℕ} {rise₀ : List ℤ} {weight₀ other : List ℕ} {rise : List ℤ} {weight : List ℕ} {b a c h : ℕ} {all : List Sight}
+module _ {lines : List ℤ} {n : ℕ} {next other₀ : List ℕ} {rise₀ : List ℤ} {weight₀ other : List ℕ} {rise : List ℤ} {weight : List ℕ}
+    {b a c h : ℕ} {all : List Sight}
     (w : Walking lines n next other₀ rise₀ weight₀ other rise weight b a c h all) where
   pub turn-of : 0 < h → Turn lines n next other₀ rise₀ weight₀ other rise weight b a c h all
   turn-of lt = go (w .leads) (w .filling)
@@ -116,7 +159,8 @@ module _ {lines : List ℤ} {n : ℕ} {next other₀ : List ℕ} {rise₀ : List
       go (no-more z) f = absurd (omega arith)
       go (one-more {ss = ss} low high fit l) f =
           let all-in : c - a + suc (length ss) ≡ length all =
-          ap (λ (k : ℕ). k + suc (length ss)) (sym (length-seen other rise weight a (c - a))) ∙ sym (length-append (seen other rise weight a (c - a)) (sightAt lines h ∷ ss)) ∙ ap length (f .done) in
+          ap (λ (k : ℕ). k + suc (length ss)) (sym (length-seen other rise weight a (c - a)))
+          ∙ sym (length-append (seen other rise weight a (c - a)) (sightAt lines h ∷ ss)) ∙ ap length (f .done) in
           record {
             some-line = low;
             inside = high;
@@ -124,7 +168,12 @@ module _ {lines : List ℤ} {n : ℕ} {next other₀ : List ℕ} {rise₀ : List
             rest = ss;
             leads = l;
             filling = f;
-            room = record { others = omega (arith, f .room .others); rises = omega (arith, f .room .rises); weighed = omega (arith, f .room .weighed) };
+            room = record {
+              others = omega (arith, f .room .others);
+              rises = omega (arith, f .room .rises);
+              weighed
+                  = omega (arith, f .room .weighed);
+            };
             more = omega (arith, f .reached);
           }
 

@@ -35,13 +35,19 @@ range-zeros w b l = record {
   weightIn = λ j. rw (all-zero w j) zero-le;
 }
 
-pub broad-zeros : (lines : List ℤ) (b n f w t : ℕ) → Lines lines b n → b < f → b ≤ t → 2 * n ≤ w → Broad (sightsOf (standing lines)) (zeros f) (zeros w) (nulls w) (zeros w) (zeros t) b
+pub broad-zeros : (lines : List ℤ) (b n f w t : ℕ) → Lines lines b n → b < f → b ≤ t → 2 * n ≤ w
+    → Broad (sightsOf (standing lines)) (zeros f) (zeros w) (nulls w) (zeros w) (zeros t) b
 broad-zeros lines b n f w t good lf lt lw =
     let fairs = fair-lines lines b n good in
     let most = taken-most fairs b in
     record {
       firsts = rw (length-replicate f) lf;
       totals = rw (length-replicate t) lt;
-      upto = record { others = rw (length-replicate w) (omega arith); rises = rw (length-replicate w) (omega arith); weighed = rw (length-replicate w) (omega arith) };
+      upto = record {
+        others = rw (length-replicate w) (omega arith);
+        rises = rw (length-replicate w) (omega arith);
+        weighed
+            = rw (length-replicate w) (omega arith);
+      };
       few = λ m. omega (arith, few-sights fairs m, good .few);
     }

@@ -23,7 +23,8 @@ module _ (lines : List ℤ) (h : ℕ) where
   unfolding sightAt
   along-half e = rw e
 
-  pub against-half : (h % 2 ≡ 0 → ⊥) → sightAt lines h ≡ sight (natAbs (fromAt lines (placeOf h))) (differenceAt lines (placeOf h)) weightHere
+  pub against-half : (h % 2 ≡ 0 → ⊥)
+      → sightAt lines h ≡ sight (natAbs (fromAt lines (placeOf h))) (differenceAt lines (placeOf h)) weightHere
   unfolding sightAt
   against-half e = let m : h % 2 ≡ 1 = omega arith in rw m
 

@@ -26,21 +26,25 @@ data Seen (lines : List ℤ) (n : ℕ) : List ℕ → List Sight → Type 0 wher
   none : Seen lines n [] []
   one : {h : ℕ} {hs : List ℕ} {ss : List Sight} → 2 ≤ h → placeOf h < n → Seen lines n hs ss → Seen lines n (h ∷ hs) (sightAt lines h ∷ ss)
 
-leads-by : {lines : List ℤ} {n : ℕ} {next : List ℕ} {i : ℕ} {hs : List ℕ} {ss : List Sight} → Chain next i hs → Seen lines n hs ss → Leads lines n next i ss
+leads-by : {lines : List ℤ} {n : ℕ} {next : List ℕ} {i : ℕ} {hs : List ℕ} {ss : List Sight} → Chain next i hs → Seen lines n hs ss
+    → Leads lines n next i ss
 leads-by (no-half z) none = no-more z
 leads-by (first p lt c) (one a b s) = one-more a b lt (leads-by c s)
 
 module _ (lines : List ℤ) (b n : ℕ) (good : Lines lines b n) (m : ℕ) where
-  seen-if : (t : Bool) (h : ℕ) (s : Sight) {hs : List ℕ} {ss : List Sight} → 2 ≤ h → placeOf h < n → sightAt lines h ≡ s → Seen lines n hs ss
+  seen-if : (t : Bool) (h : ℕ) (s : Sight) {hs : List ℕ} {ss : List Sight} → 2 ≤ h → placeOf h < n → sightAt lines h ≡ s
+      → Seen lines n hs ss
       → Seen lines n (leftBy t h hs) (sightIf t s ss)
   seen-if true h s {hs = hs} {ss = ss} low high e r = subst (λ (x : Sight). Seen lines n (h ∷ hs) (x ∷ ss)) e (one low high r)
   seen-if false h s low high e r = r
 
   -- the two halves of the line at place i
-  along : (i : ℕ) → sightAt lines (2 * suc i) ≡ sight (natAbs (toAt lines i)) (negℤ (differenceAt lines i)) (weightOf (natAbs (lengthAt lines i)))
+  along : (i : ℕ)
+      → sightAt lines (2 * suc i) ≡ sight (natAbs (toAt lines i)) (negℤ (differenceAt lines i)) (weightOf (natAbs (lengthAt lines i)))
   along i = let p : placeOf (2 * suc i) ≡ i = omega arith in along-half lines (2 * suc i) (omega arith) ∙ rw p
 
-  against : (i : ℕ) → sightAt lines (2 * suc i + 1) ≡ sight (natAbs (fromAt lines i)) (differenceAt lines i) (weightOf (natAbs (lengthAt lines i)))
+  against : (i : ℕ)
+      → sightAt lines (2 * suc i + 1) ≡ sight (natAbs (fromAt lines i)) (differenceAt lines i) (weightOf (natAbs (lengthAt lines i)))
   against i = let p : placeOf (2 * suc i + 1) ≡ i = omega arith in against-half lines (2 * suc i + 1) (λ e. omega arith) ∙ rw p
 
   abbrev SeenFrom : ℕ → Type 0
@@ -59,7 +63,8 @@ module _ (lines : List ℤ) (b n : ℕ) (good : Lines lines b n) (m : ℕ) where
   from-place zero i e = rw (stands-none lines i (omega (arith, good .whole))) none
   from-place (suc k) i e = one-line i (omega arith) (from-place k (suc i) (omega arith)) (eqZ (standingAt lines i) (pos 0)) refl
 
-  pub leads-all : {head next : List ℕ} → InOrder (standing lines) (b + 1) head next → m ≤ b → Leads lines n next (getD head m 0) (sightsOf (standing lines) m)
+  pub leads-all : {head next : List ℕ} → InOrder (standing lines) (b + 1) head next → m ≤ b
+      → Leads lines n next (getD head m 0) (sightsOf (standing lines) m)
   leads-all o le =
       leads-by (o .chain m (omega arith)) (rw (stands-all lines 0 refl) (from-place n 0 (omega arith)))
 

@@ -21,14 +21,16 @@ weighed-is other rise weight a zero = refl
 weighed-is other rise weight a (suc k) = ap (λ (x : ℕ). getD weight a 0 + x) (weighed-is other rise weight (suc a) k)
 
 -- one turn of that sum, and its end
-pub weighed-turn : (weight : List ℕ) (a e j s : ℕ) → j < e → s + weighed weight j (e - j) ≡ weighed weight a (e - a) → s + getD weight j 0 + weighed weight (j + 1) (e - (j + 1)) ≡ weighed weight a (e - a)
+pub weighed-turn : (weight : List ℕ) (a e j s : ℕ) → j < e → s + weighed weight j (e - j) ≡ weighed weight a (e - a)
+    → s + getD weight j 0 + weighed weight (j + 1) (e - (j + 1)) ≡ weighed weight a (e - a)
 unfolding weighed
 weighed-turn weight a e j s l inv =
     let k : e - j ≡ suc (e - (j + 1)) = omega arith in
     let i : s + weighed weight j (suc (e - (j + 1))) ≡ weighed weight a (e - a) = rw k at inv in
     rw (add-one j) (omega (arith, rw (add-one j) at i))
 
-pub weighed-end : (weight : List ℕ) (a e j s : ℕ) → e ≤ j → s + weighed weight j (e - j) ≡ weighed weight a (e - a) → s ≡ weighed weight a (e - a)
+pub weighed-end : (weight : List ℕ) (a e j s : ℕ) → e ≤ j → s + weighed weight j (e - j) ≡ weighed weight a (e - a)
+    → s ≡ weighed weight a (e - a)
 unfolding weighed
 weighed-end weight a e j s l inv = let k : e - j ≡ 0 = omega arith in omega (arith, rw k at inv)
 
@@ -45,21 +47,33 @@ module _ (sights : ℕ → List Sight) where
   pub taken-up : (v b : ℕ) → v ≤ b → taken sights v ≤ taken sights b
   taken-up v b l = let e : b - v + v ≡ b = omega arith in subst (λ (x : ℕ). taken sights v ≤ taken sights x) e (taken-le v (b - v))
 
-  pub rowed-none : (first other : List ℕ) (rise : List ℤ) (weight total : List ℕ) (b : ℕ) → InRange other rise weight b → Rowed sights first other rise weight total b 0 0
+  pub rowed-none : (first other : List ℕ) (rise : List ℤ) (weight total : List ℕ) (b : ℕ) → InRange other rise weight b
+      → Rowed sights first other rise weight total b 0 0
   unfolding taken
   rowed-none first other rise weight total b r =
-      record { range = r; next = refl; firsts = λ u l. absurd (omega arith); rowAt = λ u l. absurd (omega arith); totals = λ u l. absurd (omega arith) }
+      record {
+        range = r;
+        next = refl;
+        firsts = λ u l. absurd (omega arith);
+        rowAt = λ u l. absurd (omega arith);
+        totals = λ u l. absurd
+            (omega arith);
+      }
 
-  module _ (first other : List ℕ) (rise : List ℤ) (weight total first′ other′ : List ℕ) (rise′ : List ℤ) (weight′ total′ : List ℕ) (b v c r t : ℕ)
+  module _ (first other : List ℕ) (rise : List ℤ) (weight total first′ other′ : List ℕ) (rise′ : List ℤ) (weight′ total′ : List ℕ)
+      (b v c r t : ℕ)
       (l : v < length first) (l′ : v < length total) (h : Rowed sights first other rise weight total b v c)
-      (ef : first′ ≡ set first v c) (filled : Filled other rise weight other′ rise′ weight′ b c (sights (suc v))) (er : r ≡ c + length (sights (suc v)))
+      (ef : first′ ≡ set first v c) (filled : Filled other rise weight other′ rise′ weight′ b c (sights (suc v)))
+      (er : r ≡ c + length (sights (suc v)))
       (et : total′ ≡ set total v t) (ew : t ≡ weighed weight′ c (r - c)) where
     total-here : t ≡ weights (sights (suc v))
     total-here =
         let e : r - c ≡ length (sights (suc v)) = omega arith in
         ew ∙ ap (weighed weight′ c) e ∙ sym (weighed-is other′ rise′ weight′ c (length (sights (suc v)))) ∙ ap weights (filled .here)
 
-    old : (u : ℕ) → u < v → (getD first′ u 0 ≡ taken sights u) × (seen other′ rise′ weight′ (taken sights u) (length (sights (suc u))) ≡ sights (suc u)) × (getD total′ u 0 ≡ weights (sights (suc u)))
+    old : (u : ℕ) → u < v
+        → (getD first′ u 0 ≡ taken sights u) × (seen other′ rise′ weight′ (taken sights u) (length (sights (suc u))) ≡ sights (suc u))
+        × (getD total′ u 0 ≡ weights (sights (suc u)))
     old u s =
         let w : taken sights u + length (sights (suc u)) ≤ c = omega (arith, h .next, taken-more u, taken-up (suc u) v s) in (
           rw (ef, getD-set-other first v u c 0 (λ e. omega arith)) (h .firsts u s),
@@ -67,17 +81,22 @@ module _ (sights : ℕ → List Sight) where
           rw (et, getD-set-other total v u t 0 (λ e. omega arith)) (h .totals u s),
         )
 
-    new : (getD first′ v 0 ≡ taken sights v) × (seen other′ rise′ weight′ (taken sights v) (length (sights (suc v))) ≡ sights (suc v)) × (getD total′ v 0 ≡ weights (sights (suc v)))
+    new : (getD first′ v 0 ≡ taken sights v) × (seen other′ rise′ weight′ (taken sights v) (length (sights (suc v))) ≡ sights (suc v))
+        × (getD total′ v 0 ≡ weights (sights (suc v)))
     new = (
       rw (ef, getD-set-same first v c 0 l) (h .next),
       rw (← h .next) (filled .here),
       rw (et, getD-set-same total v t 0 l′) total-here,
     )
 
-    each : (u : ℕ) → u < v + 1 → (getD first′ u 0 ≡ taken sights u) × (seen other′ rise′ weight′ (taken sights u) (length (sights (suc u))) ≡ sights (suc u)) × (getD total′ u 0 ≡ weights (sights (suc u)))
+    each : (u : ℕ) → u < v + 1
+        → (getD first′ u 0 ≡ taken sights u) × (seen other′ rise′ weight′ (taken sights u) (length (sights (suc u))) ≡ sights (suc u))
+        × (getD total′ u 0 ≡ weights (sights (suc u)))
     each u s =
         let q : u ≤ v = omega arith in
-        ⊎-elim (λ (e : u ≡ v). subst (λ (x : ℕ). (getD first′ x 0 ≡ taken sights x) × (seen other′ rise′ weight′ (taken sights x) (length (sights (suc x))) ≡ sights (suc x)) × (getD total′ x 0 ≡ weights (sights (suc x)))) (sym e) new)
+        ⊎-elim (λ (e : u ≡ v). subst (λ (x : ℕ). (getD first′ x 0 ≡ taken sights x)
+        × (seen other′ rise′ weight′ (taken sights x) (length (sights (suc x))) ≡ sights (suc x))
+        × (getD total′ x 0 ≡ weights (sights (suc x)))) (sym e) new)
         (λ (p : u < v). old u p) (eq-or-lt-of-le q)
 
     pub rowed-next : Rowed sights first′ other′ rise′ weight′ total′ b (v + 1) r
@@ -90,7 +109,8 @@ module _ (sights : ℕ → List Sight) where
     }
 
   -- the last row ends at place c, which is written too: the table
-  module _ (first other : List ℕ) (rise : List ℤ) (weight total first′ : List ℕ) (b c : ℕ) (broad : Broad sights first′ other rise weight total b)
+  module _ (first other : List ℕ) (rise : List ℤ) (weight total first′ : List ℕ) (b c : ℕ)
+      (broad : Broad sights first′ other rise weight total b)
       (h : Rowed sights first other rise weight total b b c) (l : b < length first) (ef : first′ ≡ set first b c) where
     first-at : (u : ℕ) → u ≤ b → getD first′ u 0 ≡ taken sights u
     first-at u s =
@@ -108,7 +128,8 @@ module _ (sights : ℕ → List Sight) where
     table-is = record {
       firsts = broad .firsts;
       totals = broad .totals;
-      span = λ v s. rw (add-one v, first-at v (omega arith), first-at (suc v) s) (record { order = omega (arith, taken-more v); few = omega (arith, taken-more v, broad .few (suc v)) });
+      span = λ v s. rw (add-one v, first-at v (omega arith), first-at (suc v) s)
+          (record { order = omega (arith, taken-more v); few = omega (arith, taken-more v, broad .few (suc v)) });
       ends = λ v s. rw (add-one v, first-at (suc v) s) (record {
         others = omega (arith, taken-up (suc v) b s, broad .upto .others);
         rises = omega (arith, taken-up (suc v) b s, broad .upto .rises);
@@ -121,7 +142,8 @@ module _ (sights : ℕ → List Sight) where
     }
 
   -- there is room for the next row, and its weights can be summed
-  module _ (first other : List ℕ) (rise : List ℤ) (weight total : List ℕ) (b v c : ℕ) (broad : Broad sights first other rise weight total b) (h : Rowed sights first other rise weight total b v c) (l : v < b)
+  module _ (first other : List ℕ) (rise : List ℤ) (weight total : List ℕ) (b v c : ℕ)
+      (broad : Broad sights first other rise weight total b) (h : Rowed sights first other rise weight total b v c) (l : v < b)
       (ss : List Sight) (es : ss ≡ sights (suc v)) where
     end-here : c + length ss ≤ taken sights b
     end-here = let e = ap length es in omega (arith, h .next, taken-more v, taken-up (suc v) b l)
@@ -132,19 +154,27 @@ module _ (sights : ℕ → List Sight) where
         let e = end-here in
         record { others = omega (arith, u .others); rises = omega (arith, u .rises); weighed = omega (arith, u .weighed) }
 
-    pub row-weights : (weight′ : List ℕ) (e : ℕ) → e ≡ c + length ss → length weight′ ≡ length weight → ((j : ℕ) → getD weight′ j 0 ≤ mostWeight) → Weighable weight′ c e
+    pub row-weights : (weight′ : List ℕ) (e : ℕ) → e ≡ c + length ss → length weight′ ≡ length weight
+        → ((j : ℕ) → getD weight′ j 0 ≤ mostWeight) → Weighable weight′ c e
     row-weights weight′ e ee k s =
         let f = broad .few (suc v) in
         let n = ap length es in
         record { long = omega (arith, end-here, broad .upto .weighed); span = record { order = omega arith; few = omega arith }; small = s }
 
   -- room is kept where lengths are
-  pub broad-kept : (first other : List ℕ) (rise : List ℤ) (weight total first′ other′ : List ℕ) (rise′ : List ℤ) (weight′ total′ : List ℕ) (b : ℕ) → Broad sights first other rise weight total b
-      → length first′ ≡ length first → length other′ ≡ length other → length rise′ ≡ length rise → length weight′ ≡ length weight → length total′ ≡ length total
+  pub broad-kept : (first other : List ℕ) (rise : List ℤ) (weight total first′ other′ : List ℕ) (rise′ : List ℤ)
+      (weight′ total′ : List ℕ) (b : ℕ) → Broad sights first other rise weight total b
+      → length first′ ≡ length first → length other′ ≡ length other → length rise′ ≡ length rise → length weight′ ≡ length weight
+      → length total′ ≡ length total
       → Broad sights first′ other′ rise′ weight′ total′ b
   broad-kept first other rise weight total first′ other′ rise′ weight′ total′ b h ef eo er ew et = record {
     firsts = omega (arith, h .firsts);
     totals = omega (arith, h .totals);
-    upto = record { others = omega (arith, h .upto .others); rises = omega (arith, h .upto .rises); weighed = omega (arith, h .upto .weighed) };
+    upto = record {
+      others = omega (arith, h .upto .others);
+      rises = omega (arith, h .upto .rises);
+      weighed
+          = omega (arith, h .upto .weighed);
+    };
     few = h .few;
   }

@@ -25,7 +25,8 @@ unfolding weightOf
 sightAt lines h =
     let i = placeOf h in
     let weight = weightOf (natAbs (lengthAt lines i)) in
-    sideOf (h % 2) (sight (natAbs (toAt lines i)) (negℤ (differenceAt lines i)) weight) (sight (natAbs (fromAt lines i)) (differenceAt lines i) weight)
+    sideOf (h % 2) (sight (natAbs (toAt lines i)) (negℤ (differenceAt lines i)) weight)
+    (sight (natAbs (fromAt lines i)) (differenceAt lines i) weight)
 
 -- h is a half of one of the n lines
 pub record HalfHere (lines : List ℤ) (b n h : ℕ) : Type 0 where
@@ -35,4 +36,5 @@ pub record HalfHere (lines : List ℤ) (b n h : ℕ) : Type 0 where
 -- the chain from the half h on, as it is seen from its mark
 pub data Leads (lines : List ℤ) (n : ℕ) (next : List ℕ) : ℕ → List Sight → Type 0 where
   no-more : {h : ℕ} → h ≡ 0 → Leads lines n next h []
-  one-more : {h : ℕ} {ss : List Sight} → 2 ≤ h → placeOf h < n → h < halves → Leads lines n next (getD next h 0) ss → Leads lines n next h (sightAt lines h ∷ ss)
+  one-more : {h : ℕ} {ss : List Sight} → 2 ≤ h → placeOf h < n → h < halves → Leads lines n next (getD next h 0) ss
+      → Leads lines n next h (sightAt lines h ∷ ss)

@@ -56,13 +56,15 @@ pub record Upto (other : List ℕ) (rise : List ℤ) (weight : List ℕ) (e : �
   pub weighed : e ≤ length weight
 
 -- The sight s is written at place c
-pub record Written (other : List ℕ) (rise : List ℤ) (weight : List ℕ) (other′ : List ℕ) (rise′ : List ℤ) (weight′ : List ℕ) (c : ℕ) (s : Sight) : Type 0 where
+pub record Written (other : List ℕ) (rise : List ℤ) (weight : List ℕ) (other′ : List ℕ) (rise′ : List ℤ) (weight′ : List ℕ) (c : ℕ)
+    (s : Sight) : Type 0 where
   pub others : other′ ≡ set other c (s .other - 1)
   pub rises : rise′ ≡ set rise c (s .rise)
   pub weighed : weight′ ≡ set weight c (s .weight)
 
 -- The sights ss are written from place a on: what stands before is as it was, and all is in range
-pub record Filled (other : List ℕ) (rise : List ℤ) (weight : List ℕ) (other′ : List ℕ) (rise′ : List ℤ) (weight′ : List ℕ) (b a : ℕ) (ss : List Sight) : Type 0 where
+pub record Filled (other : List ℕ) (rise : List ℤ) (weight : List ℕ) (other′ : List ℕ) (rise′ : List ℤ) (weight′ : List ℕ) (b a : ℕ)
+    (ss : List Sight) : Type 0 where
   pub range : InRange other′ rise′ weight′ b
   pub here : seen other′ rise′ weight′ a (length ss) ≡ ss
   pub before : (i k : ℕ) → i + k ≤ a → seen other′ rise′ weight′ i k ≡ seen other rise weight i k
@@ -73,7 +75,8 @@ weighed weight a zero = 0
 weighed weight a (suc k) = getD weight a 0 + weighed weight (suc a) k
 
 -- While the sights `all` are written from place a on: place c is next, and `rest` is left
-pub record Filling (other₀ : List ℕ) (rise₀ : List ℤ) (weight₀ : List ℕ) (other : List ℕ) (rise : List ℤ) (weight : List ℕ) (b a c : ℕ) (rest all : List Sight) : Type 0 where
+pub record Filling (other₀ : List ℕ) (rise₀ : List ℤ) (weight₀ : List ℕ) (other : List ℕ) (rise : List ℤ) (weight : List ℕ) (b a c : ℕ)
+    (rest all : List Sight) : Type 0 where
   pub range : InRange other rise weight b
   pub room : Upto other rise weight (c + length rest)
   pub reached : a ≤ c

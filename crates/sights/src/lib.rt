@@ -13,7 +13,8 @@ ghost use Rattle.sights.specs.Table.{Upto, InRange, Written, Filled, Wei
 ghost use Rattle.sights.specs.Halves.{sightAt, HalfHere};
 use book::line::Line;
 
-// Half h as it is seen from the mark that it leaves: the place of the mark that it leads to, the rise from there, and the weight of its line.
+// Half h as it is seen from the mark that it leaves: the place of the mark that it leads to, the rise from there, and the weight of its
+// line.
 fn other_of(lines: &[i64], b: usize, n: usize, h: usize) -> usize
     requires { ⌜ HalfHere (now lines) b n h ⌝ }
     ensures { λ r. ⌜ (r ≡ sightAt (now (lines .entry)) h .other - 1) × (r < b) ⌝ }
@@ -83,7 +84,8 @@ fn write_chain(
         ∗ ⌜ InRange (now other) (now rise) (now weight) b ⌝
         ∗ ⌜ Upto (now other) (now rise) (now weight) (a + length (sightsOf (standing (now lines)) m)) ⌝ }
     ensures { λ r. ⌜ r ≡ a + length (sightsOf (standing (now (lines .entry))) m) ⌝
-        ∗ ⌜ Filled (now (other .entry)) (now (rise .entry)) (now (weight .entry)) (now (other .exit)) (now (rise .exit)) (now (weight .exit)) b a
+        ∗ ⌜ Filled (now (other .entry)) (now (rise .entry)) (now (weight .entry)) (now (other .exit)) (now (rise .exit))
+        (now (weight .exit)) b a
         (sightsOf (standing (now (lines .entry))) m) ⌝ }
 {
     let mut c = a;

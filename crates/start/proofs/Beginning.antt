@@ -15,10 +15,12 @@ use Rattle.fields.specs.Heights.{height}
 use Rattle.start.specs.Start.{heldHeight, rootedBy, startOf, heightsFrom, start, startHeights}
 
 -- one place more
-pub fill-next : {A : Type 0} (d : A) (f : ℕ → A) (l : List A) (v : ℕ) (x : A) → v < length l → x ≡ f v → ((u : ℕ) → u < v → getD l u d ≡ f u) → (u : ℕ) → u < v + 1 → getD (set l v x) u d ≡ f u
+pub fill-next : {A : Type 0} (d : A) (f : ℕ → A) (l : List A) (v : ℕ) (x : A) → v < length l → x ≡ f v
+    → ((u : ℕ) → u < v → getD l u d ≡ f u) → (u : ℕ) → u < v + 1 → getD (set l v x) u d ≡ f u
 fill-next d f l v x h e g u s =
     let q : u ≤ v = omega arith in
-    ⊎-elim (λ (p : u ≡ v). rw (p, getD-set-same l v x d h) e) (λ (p : u < v). rw (getD-set-other l v u x d (λ r. omega arith)) (g u p)) (eq-or-lt-of-le q)
+    ⊎-elim (λ (p : u ≡ v). rw (p, getD-set-same l v x d h) e) (λ (p : u < v). rw (getD-set-other l v u x d (λ r. omega arith)) (g u p))
+    (eq-or-lt-of-le q)
 
 -- the heights of k marks from m on
 length-from : (f : ℕ → ℤ) (m k : ℕ) → length (heightsFrom f m k) ≡ k

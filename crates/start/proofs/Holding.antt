@@ -20,7 +20,8 @@ use Rattle.fields.proofs.Setting.{set-all}
 
 module _ (held : List ℤ) where
   -- one entry more in front
-  pub held-step : (i : ℕ) → i * 2 + 2 ≤ length held → (m : ℕ) → heldFrom held i m ≡ cond (eqb (natAbs (markAt held i)) m) (some (heightAt held i)) (heldFrom held (i + 1) m)
+  pub held-step : (i : ℕ) → i * 2 + 2 ≤ length held → (m : ℕ)
+      → heldFrom held i m ≡ cond (eqb (natAbs (markAt held i)) m) (some (heightAt held i)) (heldFrom held (i + 1) m)
   unfolding heldHeight
   held-step i h m =
       let e₀ : 2 * i ≡ i * 2 + 0 = omega arith in
@@ -31,10 +32,12 @@ module _ (held : List ℤ) where
       rw (d, e₂, e₁, e₀)
 
   -- the entry at place i: the mark at place v has the height z
-  module _ (flags : List Bool) (own : List ℤ) (b i v : ℕ) (z : ℤ) (p : HeldPlace held b i) (g : Given (heldFrom held (i + 1)) flags own b mostHeldHeight)
+  module _ (flags : List Bool) (own : List ℤ) (b i v : ℕ) (z : ℤ) (p : HeldPlace held b i)
+      (g : Given (heldFrom held (i + 1)) flags own b mostHeldHeight)
       (ev : natAbs (markAt held i) ≡ suc v) (ez : z ≡ heightAt held i) where
     at-mark : (u : ℕ) → u < b → (t : Bool) → eqb (natAbs (markAt held i)) (suc u) ≡ t
-        → optional (getD (set flags v true) u false) (getD (set own v z) u (pos 0)) ≡ cond t (some (heightAt held i)) (heldFrom held (i + 1) (suc u))
+        → optional (getD (set flags v true) u false) (getD (set own v z) u (pos 0))
+        ≡ cond t (some (heightAt held i)) (heldFrom held (i + 1) (suc u))
     at-mark u l true e =
         let q : u ≡ v = omega (arith, eqb-true (natAbs (markAt held i)) (suc u) e) in
         rw (q, getD-set-same flags v true false (omega (arith, g .flagged)), getD-set-same own v z (pos 0) (omega (arith, g .heighted)), ez)
@@ -51,7 +54,8 @@ module _ (held : List ℤ) where
     }
 
   -- after the last entry, and before the first
-  pub held-all : (flags : List Bool) (own : List ℤ) (b i : ℕ) → i ≤ 0 → Given (heldFrom held i) flags own b mostHeldHeight → Given (heldHeight held) flags own b mostHeldHeight
+  pub held-all : (flags : List Bool) (own : List ℤ) (b i : ℕ) → i ≤ 0 → Given (heldFrom held i) flags own b mostHeldHeight
+      → Given (heldHeight held) flags own b mostHeldHeight
   held-all flags own b zero l g = g
   held-all flags own b (suc i) l g = absurd (omega arith)
 
@@ -61,7 +65,8 @@ module _ (held : List ℤ) where
   past : {b : ℕ} (h : ℕ) → HeldEntries held b h → length held ≤ 2 * h
   past h e = omega (arith, e .whole)
 
-  pub held-none : (flags : List Bool) (own : List ℤ) (b h : ℕ) → HeldEntries held b h → length flags ≡ b → length own ≡ b → ((v : ℕ) → getD flags v false ≡ false) → ((v : ℕ) → getD own v (pos 0) ≡ pos 0)
+  pub held-none : (flags : List Bool) (own : List ℤ) (b h : ℕ) → HeldEntries held b h → length flags ≡ b → length own ≡ b
+      → ((v : ℕ) → getD flags v false ≡ false) → ((v : ℕ) → getD own v (pos 0) ≡ pos 0)
       → Given (heldFrom held h) flags own b mostHeldHeight
   unfolding heldHeight
   held-none flags own b h e ef eo hf ho = record {

@@ -24,7 +24,8 @@ use Rattle.network.proofs.Marks.{size, grows}
 use Rattle.fields.specs.Heights.{height, Working}
 use Rattle.fields.proofs.Fair.{Fair, fair-lines, fairs-each}
 use Rattle.fields.proofs.Setting.{place, past-end}
-use Rattle.start.specs.Start.{heldHeight, isSome, Rooted, rootedBy, rootHeight, rootOf, unheldPiece, along, own, startOf, startHeights}
+use Rattle.start.specs.Start.{heldHeight, isSome, Rooted, rootedBy, rootHeight, rootOf, unheldPiece, along, own, startOf}
+use Rattle.start.specs.Start.{startHeights}
 use Rattle.start.specs.Along.{heldFrom}
 use Rattle.start.proofs.Lifting.{free-mark, held-here, held-elsewhere}
 use Rattle.start.proofs.Holding.{held-step}
@@ -48,18 +49,38 @@ some-is x y e = cc
 
 module _ (at : ℕ → Rooted) (held : ℕ → Option ℤ) (r : ℕ) where
   later : (m k : ℕ) (y : ℤ) → GivenBy at held (suc m) k y → GivenBy at held m (suc k) y
-  later m k y g = record { mark = g .mark; low = omega (arith, g .low); high = omega (arith, g .high); height = g .height; holds = g .holds; is = g .is }
+  later m k y g =
+      record {
+        mark = g .mark;
+        low = omega (arith, g .low);
+        high = omega (arith, g .high);
+        height = g .height;
+        holds = g .holds;
+        is
+            = g .is;
+      }
 
   given-by : (m k : ℕ) (y : ℤ) → rootHeight at held r m k ≡ some y → GivenBy at held m k y
   unfolding rootHeight
   given-by m zero y e = absurd (none-some y e)
   given-by m (suc k) y e = by (λ f. later m k y (given-by (suc m) k y f)) (held m) refl
     where
-      here : (rootHeight at held r (suc m) k ≡ some y → GivenBy at held m (suc k) y) → (z : ℤ) → held m ≡ some z → (t : Bool) → eqb (at m .root) r ≡ t → GivenBy at held m (suc k) y
-      here rest z h true t = record { mark = m; low = omega arith; high = omega arith; height = z; holds = h; is = some-is y (z -ℤ at m .over) (sym e ∙ held-here at held r m k z h t) }
+      here : (rootHeight at held r (suc m) k ≡ some y → GivenBy at held m (suc k) y) → (z : ℤ) → held m ≡ some z → (t : Bool)
+          → eqb (at m .root) r ≡ t → GivenBy at held m (suc k) y
+      here rest z h true t =
+          record {
+            mark = m;
+            low = omega arith;
+            high = omega arith;
+            height = z;
+            holds = h;
+            is = some-is y (z -ℤ at m .over)
+                (sym e ∙ held-here at held r m k z h t);
+          }
       here rest z h false t = rest (sym (held-elsewhere at held r m k z h t) ∙ e)
 
-      by : (rootHeight at held r (suc m) k ≡ some y → GivenBy at held m (suc k) y) → (o : Option ℤ) → held m ≡ o → GivenBy at held m (suc k) y
+      by : (rootHeight at held r (suc m) k ≡ some y → GivenBy at held m (suc k) y) → (o : Option ℤ) → held m ≡ o
+          → GivenBy at held m (suc k) y
       by rest none h = rest (sym (free-mark at held r m k h) ∙ e)
       by rest (some z) h = here rest z h (eqb (at m .root) r) refl
 
@@ -67,13 +88,21 @@ swap : (z p v : ℤ) → (z -ℤ p) +ℤ v ≡ z +ℤ (v -ℤ p)
 swap z p v = simp ring
 
 -- a start by the places of the marks in the tree, no two of them further apart than a line for each mark
-module _ (b : ℕ) (few : b ≤ mostMarks) (at : ℕ → Rooted) (held : ℕ → Option ℤ) (small : (m : ℕ) (z : ℤ) → 0 < m → m ≤ b → held m ≡ some z → natAbs z ≤ mostHeldHeight)
+module _ (b : ℕ) (few : b ≤ mostMarks) (at : ℕ → Rooted) (held : ℕ → Option ℤ)
+    (small : (m : ℕ) (z : ℤ) → 0 < m → m ≤ b → held m ≡ some z → natAbs z ≤ mostHeldHeight)
     (near : (m p : ℕ) → natAbs (at m .over -ℤ at p .over) ≤ b * mostDifference) where
   start-size : (m : ℕ) (y : ℤ) → rootOf at held b m ≡ some y → natAbs (y +ℤ at m .over) ≤ mostHeight
   start-size m y e =
       let g = given-by at held (at m .root) 1 b y e in
-      let s : y +ℤ at m .over ≡ g .height +ℤ (at m .over -ℤ at (g .mark) .over) = ap (λ (x : ℤ). x +ℤ at m .over) (g .is) ∙ swap (g .height) (at (g .mark) .over) (at m .over) in
-      rw s (omega (arith, size-add (g .height) (at m .over -ℤ at (g .mark) .over), small (g .mark) (g .height) (g .low) (omega (arith, g .high)) (g .holds), near m (g .mark)))
+      let s : y +ℤ at m .over ≡ g .height +ℤ (at m .over -ℤ at (g .mark) .over) =
+      ap (λ (x : ℤ). x +ℤ at m .over) (g .is) ∙ swap (g .height) (at (g .mark) .over) (at m .over) in
+      rw s (omega (
+        arith,
+        size-add (g .height) (at m .over -ℤ at (g .mark) .over),
+        small (g .mark) (g .height) (g .low)
+            (omega (arith, g .high)) (g .holds),
+        near m (g .mark),
+      ))
 
   start-of-size : (m : ℕ) → 0 < m → m ≤ b → (y : ℤ) → rootOf at held b m ≡ some y → natAbs (startOf at held b m) ≤ mostHeight
   unfolding startOf
@@ -87,7 +116,8 @@ module _ (b : ℕ) (few : b ≤ mostMarks) (at : ℕ → Rooted) (held : ℕ →
       → ((v : ℕ) → v < b → isSome (rootOf at held b (suc v)) ≡ true) → Working hs b
   start-inside hs e h g = record { all = e; inside = λ j. by j (ltb j b) refl }
     where
-      known : (m : ℕ) (o : Option ℤ) → rootOf at held b m ≡ o → isSome (rootOf at held b m) ≡ true → 0 < m → m ≤ b → natAbs (startOf at held b m) ≤ mostHeight
+      known : (m : ℕ) (o : Option ℤ) → rootOf at held b m ≡ o → isSome (rootOf at held b m) ≡ true → 0 < m → m ≤ b
+          → natAbs (startOf at held b m) ≤ mostHeight
       known m none q i l u = absurd (true≢false (sym i ∙ ap isSome q))
       known m (some y) q i l u = start-of-size m l u y q
 
@@ -107,7 +137,8 @@ module _ (held : List ℤ) (b h : ℕ) (entries : HeldEntries held b h) (m : ℕ
       let d : drop (2 * i) held ≡ [] = drop-of-length-le held past in
       absurd (none-some z (rw d at q))
   from-small (suc k) i e q =
-      by (λ s. from-small k (i + 1) (omega arith) s) (eqb (natAbs (markAt held i)) m) (sym (held-step held i (omega (arith, entries .whole)) m) ∙ q)
+      by (λ s. from-small k (i + 1) (omega arith) s) (eqb (natAbs (markAt held i)) m)
+      (sym (held-step held i (omega (arith, entries .whole)) m) ∙ q)
     where
       by : (heldFrom held (i + 1) m ≡ some z → natAbs z ≤ mostHeldHeight) → (t : Bool)
           → cond t (some (heightAt held i)) (heldFrom held (i + 1) m) ≡ some z → natAbs z ≤ mostHeldHeight
@@ -122,9 +153,11 @@ pub start-working : (b n h : ℕ) (held lines : List ℤ) → b ≤ mostMarks �
     → unheldPiece (rootedBy (tree b (standing lines))) (heldHeight held) b ≡ 0 → Working (startHeights b held lines) b
 unfolding unheldPiece
 start-working b n h held lines few good entries none-unheld =
-    start-inside b few at (heldHeight held) (λ m z l u. held-small held b h entries m z) near (startHeights b held lines) (start-length b held lines)
+    start-inside b few at (heldHeight held) (λ m z l u. held-small held b h entries m z) near (startHeights b held lines)
+    (start-length b held lines)
     (λ m l u. start-height b held lines m l u)
-    (λ v l. not-false (isSome (rootOf at (heldHeight held) b (suc v))) (none-bad (λ i. not (isSome (rootOf at (heldHeight held) b (suc i)))) b none-unheld v l))
+    (λ v l. not-false (isSome (rootOf at (heldHeight held) b (suc v)))
+    (none-bad (λ i. not (isSome (rootOf at (heldHeight held) b (suc i)))) b none-unheld v l))
   where
     es : Tree
     es = tree b (standing lines)
@@ -140,5 +173,6 @@ start-working b n h held lines few good entries none-unheld =
 
     near : (m q : ℕ) → natAbs (at m .over -ℤ at q .over) ≤ b * mostDifference
     near m q =
-        let apart = tree-apart es (λ e i l is. fair l (treeLine (standing lines) (grows b (standing lines) placed) e i l is) .difference) m q in
+        let apart =
+        tree-apart es (λ e i l is. fair l (treeLine (standing lines) (grows b (standing lines) placed) e i l is) .difference) m q in
         omega (arith, apart, size b (standing lines) placed)

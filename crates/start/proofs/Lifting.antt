@@ -22,16 +22,19 @@ module _ (at : ℕ → Rooted) (held : ℕ → Option ℤ) where
   unfolding rootHeight
   free-mark r m k e = rw (e, rootHeight)
 
-  pub held-here : (r m k : ℕ) (z : ℤ) → held m ≡ some z → eqb (at m .root) r ≡ true → rootHeight at held r m (suc k) ≡ some (z -ℤ at m .over)
+  pub held-here : (r m k : ℕ) (z : ℤ) → held m ≡ some z → eqb (at m .root) r ≡ true
+      → rootHeight at held r m (suc k) ≡ some (z -ℤ at m .over)
   unfolding rootHeight
   held-here r m k z e f = rw (e, rootHeight, f)
 
-  pub held-elsewhere : (r m k : ℕ) (z : ℤ) → held m ≡ some z → eqb (at m .root) r ≡ false → rootHeight at held r m (suc k) ≡ rootHeight at held r (suc m) k
+  pub held-elsewhere : (r m k : ℕ) (z : ℤ) → held m ≡ some z → eqb (at m .root) r ≡ false
+      → rootHeight at held r m (suc k) ≡ rootHeight at held r (suc m) k
   unfolding rootHeight
   held-elsewhere r m k z e f = rw (e, rootHeight, f)
 
 module _ (flags : List Bool) (own : List ℤ) (root : List ℕ) (over : List ℤ) (has : List Bool) (base : List ℤ) (b v : ℕ)
-    (known : Known flags own root over b) (l : v < b) (g : Given (rootsFrom (spots root over) (gives flags own) b (v + 1)) has base b mostRoot) where
+    (known : Known flags own root over b) (l : v < b) (g : Given (rootsFrom (spots root over) (gives flags own) b (v + 1)) has base b
+    mostRoot) where
   left : b - v ≡ suc (b - (v + 1))
   left = omega arith
 
@@ -41,13 +44,17 @@ module _ (flags : List Bool) (own : List ℤ) (root : List ℕ) (over : List ℤ
   spot-here : spots root over (suc v) ≡ rooted (getD root v 0) (getD over v (pos 0))
   spot-here = ap (λ (i : ℕ). rooted (getD root i 0) (getD over i (pos 0))) (place v)
 
-  rest : (r : ℕ) → rootHeight (spots root over) (gives flags own) r (suc (suc v)) (b - (v + 1)) ≡ rootsFrom (spots root over) (gives flags own) b (v + 1) r
+  rest : (r : ℕ)
+      → rootHeight (spots root over) (gives flags own) r (suc (suc v)) (b - (v + 1))
+      ≡ rootsFrom (spots root over) (gives flags own) b (v + 1) r
   rest r = rw add-one
 
-  free-root : getD flags v false ≡ false → (r : ℕ) → rootsFrom (spots root over) (gives flags own) b v r ≡ rootsFrom (spots root over) (gives flags own) b (v + 1) r
+  free-root : getD flags v false ≡ false → (r : ℕ)
+      → rootsFrom (spots root over) (gives flags own) b v r ≡ rootsFrom (spots root over) (gives flags own) b (v + 1) r
   free-root e r =
       ap (rootHeight (spots root over) (gives flags own) r (suc v)) left
-      ∙ free-mark (spots root over) (gives flags own) r (suc v) (b - (v + 1)) (gives-here ∙ ap (λ (t : Bool). optional t (getD own v (pos 0))) e) ∙ rest r
+      ∙ free-mark (spots root over) (gives flags own) r (suc v) (b - (v + 1))
+      (gives-here ∙ ap (λ (t : Bool). optional t (getD own v (pos 0))) e) ∙ rest r
 
   pub lift-free : getD flags v false ≡ false → Given (rootsFrom (spots root over) (gives flags own) b v) has base b mostRoot
   lift-free e = record {
@@ -68,7 +75,8 @@ module _ (flags : List Bool) (own : List ℤ) (root : List ℕ) (over : List ℤ
     value = ez ∙ ap (λ (s : Rooted). getD own v (pos 0) -ℤ s .over) (sym spot-here)
 
     at-root : (u : ℕ) → u < b → (t : Bool) → eqb (getD root v 0) (suc u) ≡ t
-        → optional (getD (set has (getD root v 0 - 1) true) u false) (getD (set base (getD root v 0 - 1) z) u (pos 0)) ≡ rootsFrom (spots root over) (gives flags own) b v (suc u)
+        → optional (getD (set has (getD root v 0 - 1) true) u false) (getD (set base (getD root v 0 - 1) z) u (pos 0))
+        ≡ rootsFrom (spots root over) (gives flags own) b v (suc u)
     at-root u h true t =
         let q : getD root v 0 - 1 ≡ u = omega (arith, eqb-true (getD root v 0) (suc u) t) in
         let s : eqb (spots root over (suc v) .root) (suc u) ≡ true = ap (λ (x : Rooted). eqb (x .root) (suc u)) spot-here ∙ t in
@@ -86,9 +94,17 @@ module _ (flags : List Bool) (own : List ℤ) (root : List ℕ) (over : List ℤ
         ∙ sym (ap (rootHeight (spots root over) (gives flags own) (suc u) (suc v)) left))
 
     z-size : natAbs z ≤ mostRoot
-    z-size = rw ez (omega (arith, size-sub (getD own v (pos 0)) (getD over v (pos 0)), known .held .small v, known .spotted .size v, known .held .few))
+    z-size =
+        rw ez (omega (
+          arith,
+          size-sub (getD own v (pos 0)) (getD over v (pos 0)),
+          known .held .small v,
+          known .spotted .size v,
+          known .held .few,
+        ))
 
-    pub lift-held : Given (rootsFrom (spots root over) (gives flags own) b v) (set has (getD root v 0 - 1) true) (set base (getD root v 0 - 1) z) b mostRoot
+    pub lift-held : Given (rootsFrom (spots root over) (gives flags own) b v) (set has (getD root v 0 - 1) true)
+        (set base (getD root v 0 - 1) z) b mostRoot
     lift-held = record {
       flagged = simp length-set (g .flagged);
       heighted = simp length-set (g .heighted);
@@ -97,7 +113,8 @@ module _ (flags : List Bool) (own : List ℤ) (root : List ℕ) (over : List ℤ
     }
 
 -- before the first
-pub lift-none : (flags : List Bool) (own : List ℤ) (root : List ℕ) (over : List ℤ) (has : List Bool) (base : List ℤ) (b : ℕ) → Blank has base b
+pub lift-none : (flags : List Bool) (own : List ℤ) (root : List ℕ) (over : List ℤ) (has : List Bool) (base : List ℤ) (b : ℕ)
+    → Blank has base b
     → Given (rootsFrom (spots root over) (gives flags own) b b) has base b mostRoot
 unfolding rootHeight
 lift-none flags own root over has base b k = record {

@@ -63,9 +63,12 @@ pub by-side : (before : ℕ → Rooted) (l : Line) (m : ℕ) (t : Bool) → eqb 
 by-side before l m t e = ap (bySide before l) e
 
 -- it has the root of the mark at the line's other end
-comes-by : (before : ℕ → Rooted) (l : Line) (near m : ℕ) → Ends l near m → (near ≡ m → ⊥) → start.enters before m (some l) .root ≡ before near .root
-comes-by before l near m (along p q) d = ap (λ (x : Rooted). x .root) (by-side before l m true (eq-eqb (l .to) m q)) ∙ ap (λ (x : ℕ). before x .root) p
-comes-by before l near m (against p q) d = ap (λ (x : Rooted). x .root) (by-side before l m false (ne-eqb (l .to) m (λ z. d (sym p ∙ z)))) ∙ ap (λ (x : ℕ). before x .root) p
+comes-by : (before : ℕ → Rooted) (l : Line) (near m : ℕ) → Ends l near m → (near ≡ m → ⊥)
+    → start.enters before m (some l) .root ≡ before near .root
+comes-by before l near m (along p q) d =
+    ap (λ (x : Rooted). x .root) (by-side before l m true (eq-eqb (l .to) m q)) ∙ ap (λ (x : ℕ). before x .root) p
+comes-by before l near m (against p q) d =
+    ap (λ (x : Rooted). x .root) (by-side before l m false (ne-eqb (l .to) m (λ z. d (sym p ∙ z)))) ∙ ap (λ (x : ℕ). before x .root) p
 
 module _ (b : ℕ) (lines : List Line) (sound : Sound b lines) where
   -- the root of a mark of the tree is a root, and a walk leads to it
@@ -80,7 +83,8 @@ module _ (b : ℕ) (lines : List Line) (sound : Sound b lines) where
       let x = rooted-old e es m (λ z. never isIn (ap (distance es) (sym z) ∙ out)) in
       record {
         isRoot = ap (λ (p : Rooted). rootAt (e ∷ es) (p .root)) x
-            ∙ root-old e es (rootedBy es m .root) (λ z. true≢false (sym (t .isRoot) ∙ root-out es (rootedBy es m .root) (ap (distance es) (sym z) ∙ out)))
+            ∙ root-old e es (rootedBy es m .root) (λ z. true≢false
+            (sym (t .isRoot) ∙ root-out es (rootedBy es m .root) (ap (distance es) (sym z) ∙ out)))
             ∙ t .isRoot;
         low = subst (λ (p : Rooted). 0 < p .root) (sym x) (t .low);
         way = subst (λ (p : Rooted). Way lines (p .root) m) (sym x) (t .way);
@@ -105,11 +109,13 @@ module _ (b : ℕ) (lines : List Line) (sound : Sound b lines) where
       go (new p q) ih near =
           let ends : Ends (c .line) (sc .near) m = ends-to (sym (sc .isFar) ∙ p) (sc .ends) in
           let same : rootedBy (e ∷ es) m .root ≡ rootedBy es (sc .near) .root =
-          ap (λ (y : Rooted). y .root) (rooted-new e es m p) ∙ comes-by (λ k. rootedBy es k) (c .line) (sc .near) m ends (λ z. never (sc .isIn) (ap (distance es) (z ∙ sym p) ∙ out)) in
+          ap (λ (y : Rooted). y .root) (rooted-new e es m p)
+          ∙ comes-by (λ k. rootedBy es k) (c .line) (sc .near) m ends (λ z. never (sc .isIn) (ap (distance es) (z ∙ sym p) ∙ out)) in
           let o = over (c .line) m (sc .near) (x .isLine) (turn ends) in
           record {
             isRoot = ap (rootAt (e ∷ es)) same
-                ∙ root-old e es (rootedBy es (sc .near) .root) (λ z. true≢false (sym (near .isRoot) ∙ root-out es (rootedBy es (sc .near) .root) (ap (distance es) (sym z) ∙ out)))
+                ∙ root-old e es (rootedBy es (sc .near) .root)
+                (λ z. true≢false (sym (near .isRoot) ∙ root-out es (rootedBy es (sc .near) .root) (ap (distance es) (sym z) ∙ out)))
                 ∙ near .isRoot;
             low = subst (λ (r : ℕ). 0 < r) (sym same) (near .low);
             way = subst (λ (r : ℕ). Way lines r m) (sym same) (o .0 ++ near .way .0, walk-append (o .1) (near .way .1));
@@ -139,7 +145,8 @@ module _ (b : ℕ) (lines : List Line) (sound : Sound b lines) where
   not-below : (a c : ℕ) → InPiece (tree b lines) a → InPiece (tree b lines) c → Way lines a c → at a .root < at c .root → ⊥
   not-below a c x y w l =
       let back = way-back (y .way .1) in
-      root-is-lowest b lines sound (tree-grows b lines sound) (at c .root) (at a .root) (y .isRoot) (x .low) l (walk-append (walk-append (back .1) (w .1)) (x .way .1))
+      root-is-lowest b lines sound (tree-grows b lines sound) (at c .root) (at a .root) (y .isRoot) (x .low) l
+      (walk-append (walk-append (back .1) (w .1)) (x .way .1))
 
   pub joined-one-root : (a c : ℕ) → 0 < a → a ≤ b → 0 < c → c ≤ b → Way lines a c → at a .root ≡ at c .root
   joined-one-root a c al au cl cu w = go (decLt (at a .root) (at c .root)) (decLt (at c .root) (at a .root))
@@ -173,7 +180,8 @@ module _ (at : ℕ → Rooted) (held : ℕ → Option ℤ) (r : ℕ) where
   held-there m zero e = absurd (true≢false (sym e))
   held-there m (suc k) e = go (held m) refl (eqb (at m .root) r) refl (held-there (suc m) k)
     where
-      go : (o : Option ℤ) → held m ≡ o → (t : Bool) → eqb (at m .root) r ≡ t → (isSome (rootHeight at held r (suc m) k) ≡ true → HeldFrom (suc m) k) → HeldFrom m (suc k)
+      go : (o : Option ℤ) → held m ≡ o → (t : Bool) → eqb (at m .root) r ≡ t
+          → (isSome (rootHeight at held r (suc m) k) ≡ true → HeldFrom (suc m) k) → HeldFrom m (suc k)
       go none p t q ih = later m k (ih (ap isSome (sym (free-mark at held r m k p)) ∙ e))
       go (some z) p true q ih = here-is z p (eqb-true (at m .root) r q)
         where
@@ -183,9 +191,12 @@ module _ (at : ℕ → Rooted) (held : ℕ → Option ℤ) (r : ℕ) where
 
   there-held : (m k : ℕ) → HeldFrom m k → isSome (rootHeight at held r m k) ≡ true
   there-held m zero h = absurd (omega (arith, h .1, h .2))
-  there-held m (suc k) h = go (held m) refl (eqb (at m .root) r) refl (ℕ-discrete (h .0) m) (λ d. there-held (suc m) k (h .0, omega (arith, h .1, d), omega (arith, h .2), h .3, h .4))
+  there-held m (suc k) h =
+      go (held m) refl (eqb (at m .root) r) refl (ℕ-discrete (h .0) m)
+      (λ d. there-held (suc m) k (h .0, omega (arith, h .1, d), omega (arith, h .2), h .3, h .4))
     where
-      go : (o : Option ℤ) → held m ≡ o → (t : Bool) → eqb (at m .root) r ≡ t → Dec (h .0 ≡ m) → ((h .0 ≡ m → ⊥) → isSome (rootHeight at held r (suc m) k) ≡ true) → isSome (rootHeight at held r m (suc k)) ≡ true
+      go : (o : Option ℤ) → held m ≡ o → (t : Bool) → eqb (at m .root) r ≡ t → Dec (h .0 ≡ m)
+          → ((h .0 ≡ m → ⊥) → isSome (rootHeight at held r (suc m) k) ≡ true) → isSome (rootHeight at held r m (suc k)) ≡ true
       go none p t q (yes z) ih = absurd (true≢false (sym (h .3) ∙ ap (λ (x : ℕ). isSome (held x)) z ∙ ap isSome p))
       go none p t q (no d) ih = ap isSome (free-mark at held r m k p) ∙ ih d
       go (some z) p true q d ih = ap isSome (held-here at held r m k z p q)
@@ -194,10 +205,18 @@ module _ (at : ℕ → Rooted) (held : ℕ → Option ℤ) (r : ℕ) where
 
 -- a root has a height exactly if a walk joins the mark with a held one
 module _ (b : ℕ) (lines : List Line) (sound : Sound b lines) (held : ℕ → Option ℤ) (m : ℕ) (low : 0 < m) (high : m ≤ b) where
-  pub piece-is-held : (isSome (rootOf (rootedBy (tree b lines)) held b m) ≡ true) ↔ ((k : ℕ) × (0 < k) × (k ≤ b) × (isSome (held k) ≡ true) × Way lines k m)
+  pub piece-is-held : (isSome (rootOf (rootedBy (tree b lines)) held b m) ≡ true)
+      ↔ ((k : ℕ) × (0 < k) × (k ≤ b) × (isSome (held k) ≡ true) × Way lines k m)
   piece-is-held = (
     λ e.
-        let h = held-there (rootedBy (tree b lines)) held (rootedBy (tree b lines) m .root) 1 b e in
-        (h .0, omega (arith, h .1), omega (arith, h .2), h .3, one-root-joined b lines sound (h .0) m (omega (arith, h .1)) (omega (arith, h .2)) low high (h .4)),
-    λ h. there-held (rootedBy (tree b lines)) held (rootedBy (tree b lines) m .root) 1 b (h .0, omega (arith, h .1), omega (arith, h .2), h .3, joined-one-root b lines sound (h .0) m (h .1) (h .2) low high (h .4)),
+        let h = held-there (rootedBy (tree b lines)) held (rootedBy (tree b lines) m .root) 1 b e in (
+          h .0,
+          omega (arith, h .1),
+          omega (arith, h .2),
+          h .3,
+          one-root-joined b lines sound (h .0) m (omega (arith, h .1))
+              (omega (arith, h .2)) low high (h .4),
+        ),
+    λ h. there-held (rootedBy (tree b lines)) held (rootedBy (tree b lines) m .root) 1 b
+        (h .0, omega (arith, h .1), omega (arith, h .2), h .3, joined-one-root b lines sound (h .0) m (h .1) (h .2) low high (h .4)),
   )

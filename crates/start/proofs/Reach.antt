@@ -52,7 +52,8 @@ module _ (before : ℕ → Rooted) (k : ℕ) (reach : (p : ℕ) → natAbs (befo
   new-apart g m none q d = omega (arith, size-sub (pos 0) (before q .over), reach q)
   new-apart g m (some l) q d = by (d l refl) (eqb (l .to) m)
     where
-      by : natAbs (l .difference) ≤ mostDifference → (t : Bool) → natAbs (bySide before l t .over -ℤ before q .over) ≤ suc k * mostDifference
+      by : natAbs (l .difference) ≤ mostDifference → (t : Bool)
+          → natAbs (bySide before l t .over -ℤ before q .over) ≤ suc k * mostDifference
       by s true = omega (arith, plus-size (before (l .from) .over) (l .difference) (before q .over), g (l .from) q)
       by s false = omega (arith, minus-size (before (l .to) .over) (l .difference) (before q .over), g (l .to) q)
 
@@ -84,8 +85,10 @@ tree-apart (e ∷ es) d m p =
     N : ℕ → Rooted
     N x = enters F x (e .by)
 
-    by : ((q : ℕ) → natAbs (F q .over) ≤ length es * mostDifference) → ((q r : ℕ) → natAbs (F q .over -ℤ F r .over) ≤ length es * mostDifference)
-        → (t u : Bool) → eqb (e .mark) m ≡ t → eqb (e .mark) p ≡ u → natAbs (sideOf t (N m) (F m) .over -ℤ sideOf u (N p) (F p) .over) ≤ suc (length es) * mostDifference
+    by : ((q : ℕ) → natAbs (F q .over) ≤ length es * mostDifference)
+        → ((q r : ℕ) → natAbs (F q .over -ℤ F r .over) ≤ length es * mostDifference)
+        → (t u : Bool) → eqb (e .mark) m ≡ t → eqb (e .mark) p ≡ u
+        → natAbs (sideOf t (N m) (F m) .over -ℤ sideOf u (N p) (F p) .over) ≤ suc (length es) * mostDifference
     by h g true true et eu =
         let same : m ≡ p = sym (eqb-true (e .mark) m et) ∙ eqb-true (e .mark) p eu in
         let none-apart : N m .over -ℤ N p .over ≡ pos 0 = ap (λ (x : ℕ). N x .over -ℤ N p .over) same ∙ +ℤ-invr (N p .over) in

@@ -20,8 +20,10 @@ pub is-some : (t : Bool) (z : ℤ) → isSome (optional t z) ≡ t
 is-some true z = refl
 is-some false z = refl
 
-module _ (b : ℕ) (at : ℕ → Rooted) (held : ℕ → Option ℤ) (flags : List Bool) (ownH : List ℤ) (root : List ℕ) (over : List ℤ) (has : List Bool) (base : List ℤ)
-    (placing : Placing at root over b b) (given : Given held flags ownH b mostHeldHeight) (lifted : Given (rootsFrom (spots root over) (gives flags ownH) b 0) has base b mostRoot) where
+module _ (b : ℕ) (at : ℕ → Rooted) (held : ℕ → Option ℤ) (flags : List Bool) (ownH : List ℤ) (root : List ℕ) (over : List ℤ)
+    (has : List Bool) (base : List ℤ)
+    (placing : Placing at root over b b) (given : Given held flags ownH b mostHeldHeight)
+    (lifted : Given (rootsFrom (spots root over) (gives flags ownH) b 0) has base b mostRoot) where
   at-mark : (m : ℕ) → 0 < m → m ≤ b → spots root over m ≡ at m
   at-mark m l u = let e : suc (m - 1) ≡ m = omega arith in placing .place (m - 1) (omega arith) ∙ ap at e
 
@@ -38,9 +40,11 @@ module _ (b : ℕ) (at : ℕ → Rooted) (held : ℕ → Option ℤ) (flags : Li
       let z : b - 0 ≡ b = omega arith in
       lifted .is (r - 1) (omega arith) ∙ ap (λ (x : ℕ). rootHeight (spots root over) (gives flags ownH) x 1 (b - 0)) e
       ∙ ap (rootHeight (spots root over) (gives flags ownH) r 1) z
-      ∙ root-same (spots root over) at (gives flags ownH) held r 1 b (λ j lo hi. at-mark j lo (omega arith)) (λ j lo hi. held-mark j lo (omega arith))
+      ∙ root-same (spots root over) at (gives flags ownH) held r 1 b (λ j lo hi. at-mark j lo (omega arith))
+      (λ j lo hi. held-mark j lo (omega arith))
 
-  of-mark : (v : ℕ) → v < b → optional (getD has (getD root v 0 - 1) false) (getD base (getD root v 0 - 1) (pos 0)) ≡ rootOf at held b (suc v)
+  of-mark : (v : ℕ) → v < b
+      → optional (getD has (getD root v 0 - 1) false) (getD base (getD root v 0 - 1) (pos 0)) ≡ rootOf at held b (suc v)
   of-mark v l =
       let g = placing .spotted .marks v l in
       root-height (getD root v 0) (g .0) (g .1) ∙ ap (λ (r : ℕ). rootHeight at held r 1 b) (sym (root-is v l))
@@ -65,12 +69,16 @@ module _ (b : ℕ) (at : ℕ → Rooted) (held : ℕ → Option ℤ) (flags : Li
     start-is v l = by (getD flags v false) refl
       where
         by : (t : Bool) → getD flags v false ≡ t
-            → cond (getD flags v false) (getD ownH v (pos 0)) (getD base (getD root v 0 - 1) (pos 0) +ℤ getD over v (pos 0)) ≡ own (held (suc v)) (along (at (suc v)) (rootOf at held b (suc v)))
+            → cond (getD flags v false) (getD ownH v (pos 0)) (getD base (getD root v 0 - 1) (pos 0) +ℤ getD over v (pos 0))
+            ≡ own (held (suc v)) (along (at (suc v)) (rootOf at held b (suc v)))
         by true t =
-            let h : held (suc v) ≡ some (getD ownH v (pos 0)) = sym (given .is v l) ∙ ap (λ (x : Bool). optional x (getD ownH v (pos 0))) t in
-            ap (λ (x : Bool). cond x (getD ownH v (pos 0)) (getD base (getD root v 0 - 1) (pos 0) +ℤ getD over v (pos 0))) t ∙ sym (ap (λ (x : Option ℤ). own x (along (at (suc v)) (rootOf at held b (suc v)))) h)
+            let h : held (suc v) ≡ some (getD ownH v (pos 0)) =
+            sym (given .is v l) ∙ ap (λ (x : Bool). optional x (getD ownH v (pos 0))) t in
+            ap (λ (x : Bool). cond x (getD ownH v (pos 0)) (getD base (getD root v 0 - 1) (pos 0) +ℤ getD over v (pos 0))) t
+            ∙ sym (ap (λ (x : Option ℤ). own x (along (at (suc v)) (rootOf at held b (suc v)))) h)
         by false t =
             let h : held (suc v) ≡ none = sym (given .is v l) ∙ ap (λ (x : Bool). optional x (getD ownH v (pos 0))) t in
             ap (λ (x : Bool). cond x (getD ownH v (pos 0)) (getD base (getD root v 0 - 1) (pos 0) +ℤ getD over v (pos 0))) t
             ∙ sym (ap (λ (x : Option ℤ). own x (along (at (suc v)) (rootOf at held b (suc v)))) h
-            ∙ ap (along (at (suc v))) (root-some v l) ∙ ap (λ (x : Rooted). getD base (getD root v 0 - 1) (pos 0) +ℤ x .over) (sym (placing .place v l)))
+            ∙ ap (along (at (suc v))) (root-some v l) ∙ ap (λ (x : Rooted). getD base (getD root v 0 - 1) (pos 0) +ℤ x .over)
+            (sym (placing .place v l)))

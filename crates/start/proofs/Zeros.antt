@@ -18,7 +18,14 @@ pub so-many : {A : Type 0} (d : A) (k w : ℕ) → k ≤ w → length (take k (r
 so-many d k w h = simp (length-take, length-replicate) (omega arith)
 
 pub blank : (b w : ℕ) → b ≤ w → Blank (take b (replicate w false)) (take b (replicate w (pos 0))) b
-blank b w h = record { flagged = so-many false b w h; heighted = so-many (pos 0) b w h; none = λ v. at-any false b w v; zero = λ v. at-any (pos 0) b w v }
+blank b w h =
+    record {
+      flagged = so-many false b w h;
+      heighted = so-many (pos 0) b w h;
+      none = λ v. at-any false b w v;
+      zero = λ v. at-any (pos 0)
+          b w v;
+    }
 
 pub bare : (b w : ℕ) → b ≤ w → Bare (take b (replicate w 0)) (take b (replicate w (pos 0))) b
 bare b w h = record { roots = so-many 0 b w h; overs = so-many (pos 0) b w h; zero = λ v. at-any (pos 0) b w v }

@@ -40,13 +40,15 @@ sideOf false a b = b
 abbrev pub cameIn : (ℕ → Rooted) → List ℤ → ℕ → ℕ → Rooted
 cameIn before lines m zero = rooted m (pos 0)
 cameIn before lines m (suc i) =
-    sideOf (eqb (natAbs (toAt lines i)) m) (up (before (natAbs (fromAt lines i))) (differenceAt lines i)) (down (before (natAbs (toAt lines i))) (differenceAt lines i))
+    sideOf (eqb (natAbs (toAt lines i)) m) (up (before (natAbs (fromAt lines i))) (differenceAt lines i))
+    (down (before (natAbs (toAt lines i))) (differenceAt lines i))
 
 -- the places of the marks after k have entered
 unfoldable pub rooting : List ℤ → List ℕ → List ℕ → ℕ → ℕ → Rooted
 rooting lines order best zero m = rooted m (pos 0)
 rooting lines order best (suc k) m =
-    sideOf (eqb (getD order k 0) m) (cameIn (rooting lines order best k) lines m (lineIn best (getD order k 0))) (rooting lines order best k m)
+    sideOf (eqb (getD order k 0) m) (cameIn (rooting lines order best k) lines m (lineIn best (getD order k 0)))
+    (rooting lines order best k m)
 
 -- An array of flags and one of heights are a height or none at each place
 abbrev pub optional : Bool → ℤ → Option ℤ
@@ -116,7 +118,8 @@ pub record Known (flags : List Bool) (own : List ℤ) (root : List ℕ) (over : 
 
 -- the height at the start of the mark at place v, by the arrays: a held mark has its own
 unfoldable pub startAt : List Bool → List ℤ → List ℕ → List ℤ → List ℤ → ℕ → ℤ
-startAt flags own root over base v = cond (getD flags v false) (getD own v (pos 0)) (getD base (getD root v 0 - 1) (pos 0) +ℤ getD over v (pos 0))
+startAt flags own root over base v =
+    cond (getD flags v false) (getD own v (pos 0)) (getD base (getD root v 0 - 1) (pos 0) +ℤ getD over v (pos 0))
 
 -- whether the root of the mark at place v has no height
 abbrev pub unheld : List ℕ → List Bool → ℕ → Bool

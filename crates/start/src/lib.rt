@@ -8,7 +8,8 @@ ghost use Rattle.book.specs.Limits.{mostMarks, mostHeldHeight};
 ghost use Rattle.book.specs.Good.{Lines, HeldEntries};
 ghost use Rattle.laws.specs.Scan.{firstBad};
 ghost use Rattle.start.specs.Along.{Growth, cameIn, rooting, spots, Spotted, Spot, Placing, Given, heldFrom, HeldPlace};
-ghost use Rattle.start.specs.Along.{rootsFrom, mostRoot, gives, HeldIn, Known, Seeded, Rooting, Based, unheld, startAt, Begun, Blank, Bare};
+ghost use Rattle.start.specs.Along.{rootsFrom, mostRoot, gives, HeldIn, Known, Seeded};
+ghost use Rattle.start.specs.Along.{Rooting, Based, unheld, startAt, Begun, Blank, Bare};
 ghost use Rattle.start.specs.Along.{Started, Raised};
 ghost use Rattle.start.specs.Start.{heldHeight};
 use book::Book;
@@ -37,8 +38,11 @@ fn come_in(
     m: usize,
     j: usize,
 ) -> Rooted
-    requires { ⌜ Lines (now lines) b n ⌝ ∗ ⌜ Spotted (now root) (now over) b k ⌝ ∗ ⌜ (0 < m) × (m ≤ b) × (j ≤ n) × (k ≤ mostMarks) ⌝ }
-    ensures { λ r. ⌜ Spot (cameIn (spots (now (root .entry)) (now (over .entry))) (now (lines .entry)) m j) b (k + 1) (r .root) (r .over) ⌝ }
+    requires { ⌜ Lines (now lines) b n ⌝
+        ∗ ⌜ Spotted (now root) (now over) b k ⌝
+        ∗ ⌜ (0 < m) × (m ≤ b) × (j ≤ n) × (k ≤ mostMarks) ⌝ }
+    ensures { λ r. ⌜ Spot (cameIn (spots (now (root .entry)) (now (over .entry))) (now (lines .entry)) m j) b (k + 1) (r .root)
+        (r .over) ⌝ }
 {
     if j == 0 {
         return Rooted { root: m, over: 0 };
@@ -69,8 +73,12 @@ fn enter(
     n: usize,
     k: usize,
 )
-    requires { ⌜ Lines (now lines) b n ⌝ ∗ ⌜ Growth (now order) (now best) b n ⌝ ∗ ⌜ Placing (rooting (now lines) (now order) (now best) k) (now root) (now over) b k ⌝ ∗ ⌜ (k < b) × (b ≤ mostMarks) ⌝ }
-    ensures { λ _. ⌜ Placing (rooting (now (lines .entry)) (now (order .entry)) (now (best .entry)) (k + 1)) (now (root .exit)) (now (over .exit)) b (k + 1) ⌝ }
+    requires { ⌜ Lines (now lines) b n ⌝
+        ∗ ⌜ Growth (now order) (now best) b n ⌝
+        ∗ ⌜ Placing (rooting (now lines) (now order) (now best) k) (now root) (now over) b k ⌝
+        ∗ ⌜ (k < b) × (b ≤ mostMarks) ⌝ }
+    ensures { λ _. ⌜ Placing (rooting (now (lines .entry)) (now (order .entry)) (now (best .entry)) (k + 1)) (now (root .exit))
+        (now (over .exit)) b (k + 1) ⌝ }
 {
     let m = order[k] as usize;
     let j = (best[m] % chains::HALVES / 2) as usize;
@@ -91,8 +99,12 @@ fn place_all(
     b: usize,
     n: usize,
 )
-    requires { ⌜ Lines (now lines) b n ⌝ ∗ ⌜ Growth (now order) (now best) b n ⌝ ∗ ⌜ Placing (rooting (now lines) (now order) (now best) 0) (now root) (now over) b 0 ⌝ ∗ ⌜ b ≤ mostMarks ⌝ }
-    ensures { λ _. ⌜ Placing (rooting (now (lines .entry)) (now (order .entry)) (now (best .entry)) b) (now (root .exit)) (now (over .exit)) b b ⌝ }
+    requires { ⌜ Lines (now lines) b n ⌝
+        ∗ ⌜ Growth (now order) (now best) b n ⌝
+        ∗ ⌜ Placing (rooting (now lines) (now order) (now best) 0) (now root) (now over) b 0 ⌝
+        ∗ ⌜ b ≤ mostMarks ⌝ }
+    ensures { λ _. ⌜ Placing (rooting (now (lines .entry)) (now (order .entry)) (now (best .entry)) b) (now (root .exit))
+        (now (over .exit)) b b ⌝ }
 {
     let mut k = 0;
     while k < b {
@@ -103,7 +115,8 @@ fn place_all(
 
 // The held entry at place i: its mark has its height.
 fn hold(held: &[i64], flags: &mut [bool], own: &mut [i64], b: usize, i: usize)
-    requires { ⌜ HeldPlace (now held) b i ⌝ ∗ ⌜ Given (heldFrom (now held) (i + 1)) (now flags) (now own) b mostHeldHeight ⌝ }
+    requires { ⌜ HeldPlace (now held) b i ⌝
+        ∗ ⌜ Given (heldFrom (now held) (i + 1)) (now flags) (now own) b mostHeldHeight ⌝ }
     ensures { λ _. ⌜ Given (heldFrom (now (held .entry)) i) (now (flags .exit)) (now (own .exit)) b mostHeldHeight ⌝ }
 {
     let at = i * Held::WORDS;
@@ -115,7 +128,8 @@ fn hold(held: &[i64], flags: &mut [bool], own: &mut [i64], b: usize, i: usize)
 
 // Every held mark has its own height, by the entry that names it first.
 pub fn hold_all(held: &[i64], flags: &mut [bool], own: &mut [i64], b: usize, h: usize)
-    requires { ⌜ HeldEntries (now held) b h ⌝ ∗ ⌜ Blank (now flags) (now own) b ⌝ }
+    requires { ⌜ HeldEntries (now held) b h ⌝
+        ∗ ⌜ Blank (now flags) (now own) b ⌝ }
     ensures { λ _. ⌜ Given (heldHeight (now (held .entry))) (now (flags .exit)) (now (own .exit)) b mostHeldHeight ⌝ }
 {
     let mut i = h;
@@ -136,8 +150,11 @@ fn lift(
     b: usize,
     v: usize,
 )
-    requires { ⌜ v < b ⌝ ∗ ⌜ Known (now flags) (now own) (now root) (now over) b ⌝ ∗ ⌜ Given (rootsFrom (spots (now root) (now over)) (gives (now flags) (now own)) b (v + 1)) (now has) (now base) b mostRoot ⌝ }
-    ensures { λ _. ⌜ Given (rootsFrom (spots (now (root .entry)) (now (over .entry))) (gives (now (flags .entry)) (now (own .entry))) b v) (now (has .exit)) (now (base .exit)) b mostRoot ⌝ }
+    requires { ⌜ v < b ⌝
+        ∗ ⌜ Known (now flags) (now own) (now root) (now over) b ⌝
+        ∗ ⌜ Given (rootsFrom (spots (now root) (now over)) (gives (now flags) (now own)) b (v + 1)) (now has) (now base) b mostRoot ⌝ }
+    ensures { λ _. ⌜ Given (rootsFrom (spots (now (root .entry)) (now (over .entry))) (gives (now (flags .entry)) (now (own .entry))) b
+        v) (now (has .exit)) (now (base .exit)) b mostRoot ⌝ }
 {
     if flags[v] {
         let r = root[v] - 1;
@@ -157,8 +174,10 @@ fn lift_all(
     base: &mut [i64],
     b: usize,
 )
-    requires { ⌜ Known (now flags) (now own) (now root) (now over) b ⌝ ∗ ⌜ Given (rootsFrom (spots (now root) (now over)) (gives (now flags) (now own)) b b) (now has) (now base) b mostRoot ⌝ }
-    ensures { λ _. ⌜ Given (rootsFrom (spots (now (root .entry)) (now (over .entry))) (gives (now (flags .entry)) (now (own .entry))) b 0) (now (has .exit)) (now (base .exit)) b mostRoot ⌝ }
+    requires { ⌜ Known (now flags) (now own) (now root) (now over) b ⌝
+        ∗ ⌜ Given (rootsFrom (spots (now root) (now over)) (gives (now flags) (now own)) b b) (now has) (now base) b mostRoot ⌝ }
+    ensures { λ _. ⌜ Given (rootsFrom (spots (now (root .entry)) (now (over .entry))) (gives (now (flags .entry)) (now (own .entry))) b
+        0) (now (has .exit)) (now (base .exit)) b mostRoot ⌝ }
 {
     let mut v = b;
     while 0 < v {
@@ -181,7 +200,8 @@ fn seed(root: &mut [usize], b: usize)
 
 // The lowest mark whose piece has no held mark, or 0.
 fn first_unheld(root: &[usize], has: &[bool], b: usize) -> usize
-    requires { ⌜ Rooting (now root) b ⌝ ∗ ⌜ length (now has) ≡ b ⌝ }
+    requires { ⌜ Rooting (now root) b ⌝
+        ∗ ⌜ length (now has) ≡ b ⌝ }
     ensures { λ r. ⌜ r ≡ firstBad (unheld (now (root .entry)) (now (has .entry))) b ⌝ }
 {
     let mut v = 0;
@@ -211,7 +231,9 @@ fn start_at(
     b: usize,
     v: usize,
 ) -> i64
-    requires { ⌜ v < b ⌝ ∗ ⌜ Known (now flags) (now own) (now root) (now over) b ⌝ ∗ ⌜ Based (now base) b ⌝ }
+    requires { ⌜ v < b ⌝
+        ∗ ⌜ Known (now flags) (now own) (now root) (now over) b ⌝
+        ∗ ⌜ Based (now base) b ⌝ }
     ensures { λ r. ⌜ r ≡ startAt (now (flags .entry)) (now (own .entry)) (now (root .entry)) (now (over .entry)) (now (base .entry)) v ⌝ }
 {
     let followed = signed::add(base[root[v] - 1], over[v]);
@@ -228,8 +250,11 @@ fn begin(
     h: &mut [i64],
     b: usize,
 )
-    requires { ⌜ length (now h) ≡ b ⌝ ∗ ⌜ Known (now flags) (now own) (now root) (now over) b ⌝ ∗ ⌜ Based (now base) b ⌝ }
-    ensures { λ _. ⌜ Begun (startAt (now (flags .entry)) (now (own .entry)) (now (root .entry)) (now (over .entry)) (now (base .entry))) (now (h .exit)) b ⌝ }
+    requires { ⌜ length (now h) ≡ b ⌝
+        ∗ ⌜ Known (now flags) (now own) (now root) (now over) b ⌝
+        ∗ ⌜ Based (now base) b ⌝ }
+    ensures { λ _. ⌜ Begun (startAt (now (flags .entry)) (now (own .entry)) (now (root .entry)) (now (over .entry)) (now (base .entry)))
+        (now (h .exit)) b ⌝ }
 {
     let mut v = 0;
     while v < b {
@@ -299,7 +324,8 @@ fn place_and_raise(
         ∗ ⌜ HeldIn (now flags) (now own) b ⌝
         ∗ ⌜ Bare (now root) (now over) b ⌝
         ∗ ⌜ length (now z) ≡ b ⌝ }
-    ensures { λ r. ⌜ Started (rooting (now (lines .entry)) (now (order .entry)) (now (best .entry)) b) (now (flags .entry)) (now (own .entry))
+    ensures { λ r. ⌜ Started (rooting (now (lines .entry)) (now (order .entry)) (now (best .entry)) b) (now (flags .entry))
+        (now (own .entry))
         (now (z .exit)) b r ⌝ }
 {
     seed(root, b);
@@ -322,7 +348,8 @@ pub fn start_heights(
         ∗ ⌜ Growth (now order) (now best) b n ⌝
         ∗ ⌜ HeldIn (now flags) (now own) b ⌝
         ∗ ⌜ length (now z) ≡ b ⌝ }
-    ensures { λ r. ⌜ Started (rooting (now (lines .entry)) (now (order .entry)) (now (best .entry)) b) (now (flags .entry)) (now (own .entry))
+    ensures { λ r. ⌜ Started (rooting (now (lines .entry)) (now (order .entry)) (now (best .entry)) b) (now (flags .entry))
+        (now (own .entry))
         (now (z .exit)) b r ⌝ }
 {
     let mut root = [0usize; MARKS];

@@ -269,7 +269,8 @@ module _ (n : ℕ) (lines : List Line) (close : List ℕ) where
             }
 
     -- its turn has what it asks for
-    pub next-taking : {q : ℕ} {ends : List ℕ} → Listed lines n q ends → (x : Next) → Taking lines (g .sub) (x .c) n q (getD close i 0) ends head next
+    pub next-taking : {q : ℕ} {ends : List ℕ} → Listed lines n q ends → (x : Next)
+        → Taking lines (g .sub) (x .c) n q (getD close i 0) ends head next
     next-taking li x = record { listed = li; drawn = g .drawn; isLine = x .isLine; notYet = x .notYet; its = sym (x .number) }
 
     pub next-takes : {q : ℕ} {ends best seg out : List ℕ} → Listed lines n q ends → Bounded n ends → RoomPath n best seg out → Next

@@ -14,7 +14,8 @@ use Rattle.laws.proofs.Tests.{or-left, or-right, eqZ-apart}
 use Rattle.laws.specs.Range.{Between}
 use Rattle.laws.proofs.Size.{between}
 use Rattle.book.specs.Limits.{mostDifference}
-use Rattle.book.specs.Line.{fromField, toField, differenceField, lengthField, standingField, place, field, differenceAt, standingAt, lineCount}
+use Rattle.book.specs.Line.{fromField, toField, differenceField, lengthField, standingField, place, field, differenceAt, standingAt}
+use Rattle.book.specs.Line.{lineCount}
 use Rattle.book.specs.Good.{GoodLine, GoodLines}
 use Rattle.book.specs.declared.Book.{Book}
 use Rattle.network.specs.Standing.{standing}
@@ -82,11 +83,14 @@ module _ (b : ℕ) (lines : List ℤ) (i p : ℕ) (v : ℤ) (inside : place i p 
   }
     where
       new : Dec (j ≡ i) → Between 0 1 (standingAt (set lines (place i p) v) j)
-      new (yes q) = rw (q, ← e, getD-set-same lines (place i p) v (pos 0) inside, zero-v) (record { is = refl; low = omega arith; high = omega arith })
+      new (yes q) =
+          rw (q, ← e, getD-set-same lines (place i p) v (pos 0) inside, zero-v)
+          (record { is = refl; low = omega arith; high = omega arith })
       new (no h) = rw (same standingField (λ z. h (omega arith))) (g .standing)
 
 module _ (k : Book) (lines : List ℤ) (good : GoodLines k lines) (number : ℤ) (i : ℕ) (stands : Stands lines number i) where
-  with-lines : (p : ℕ) (v : ℤ) → ((j : ℕ) → GoodLine (k .marks) lines j → GoodLine (k .marks) (set lines p v) j) → GoodLines k (set lines p v)
+  with-lines : (p : ℕ) (v : ℤ) → ((j : ℕ) → GoodLine (k .marks) lines j → GoodLine (k .marks) (set lines p v) j)
+      → GoodLines k (set lines p v)
   with-lines p v h = record {
     a-mark = good .a-mark;
     few-marks = good .few-marks;
@@ -97,11 +101,15 @@ module _ (k : Book) (lines : List ℤ) (good : GoodLines k lines) (number : ℤ)
   -- with a difference inside its limit, or withdrawn, the line leaves the book good
   pub rerun-lines-good : (difference : ℤ) → natAbs difference ≤ mostDifference → GoodLines k (rerunLines lines number difference)
   unfolding rerunLines
-  rerun-lines-good d small = rw (place-is stands differenceField) (with-lines (place i differenceField) d (λ j g. rerun-good (k .marks) lines i differenceField d (omega (arith, has-line stands)) j g refl small))
+  rerun-lines-good d small =
+      rw (place-is stands differenceField) (with-lines (place i differenceField) d
+      (λ j g. rerun-good (k .marks) lines i differenceField d (omega (arith, has-line stands)) j g refl small))
 
   pub withdrawn-lines-good : GoodLines k (withdrawLines lines number)
   unfolding withdrawLines
-  withdrawn-lines-good = rw (place-is stands standingField) (with-lines (place i standingField) (pos 0) (λ j g. withdrawal-good (k .marks) lines i standingField (pos 0) (omega (arith, has-line stands)) j g refl refl))
+  withdrawn-lines-good =
+      rw (place-is stands standingField) (with-lines (place i standingField) (pos 0)
+      (λ j g. withdrawal-good (k .marks) lines i standingField (pos 0) (omega (arith, has-line stands)) j g refl refl))
 
   -- the line itself, as a standing line
   pub its-line : List·Memᴰ (lineAt (suc i) lines i) (standing lines)
@@ -110,7 +118,8 @@ module _ (k : Book) (lines : List ℤ) (good : GoodLines k lines) (number : ℤ)
       in-standing lines i (lineAt (suc i) lines i) (record {
         isThere = has-line stands;
         beyond = 0;
-        stands = g .standing .is ∙ ap pos (one (natAbs (standingAt lines i)) (g .standing .high) (λ z. stands .not-withdrawn (g .standing .is ∙ ap pos z)));
+        stands = g .standing .is ∙ ap pos (one (natAbs (standingAt lines i)) (g .standing .high)
+            (λ z. stands .not-withdrawn (g .standing .is ∙ ap pos z)));
         its = refl;
       })
     where
@@ -121,4 +130,5 @@ module _ (k : Book) (lines : List ℤ) (good : GoodLines k lines) (number : ℤ)
   pub withdrawal-fewer : length (loopsOf (k .marks) (withdrawLines lines number)) ≤ length (loopsOf (k .marks) lines)
   unfolding loopsOf withdrawLines
   withdrawal-fewer =
-      rw (place-is stands standingField, withdrawal-sets-standing lines i (has-line stands)) (loops-never-grow (k .marks) (standing lines) (lines-sound k lines good) (lineAt (suc i) lines i) its-line)
+      rw (place-is stands standingField, withdrawal-sets-standing lines i (has-line stands))
+      (loops-never-grow (k .marks) (standing lines) (lines-sound k lines good) (lineAt (suc i) lines i) its-line)

@@ -51,16 +51,20 @@ module _ (k : Book) (ls : List ℤ) (g : GoodLines k ls) where
   counts-are e = ap countOf e
 
   -- the rows are put in front
-  pub front-is : {f : Found} → f ≡ foundIn (k .marks) ls → (out out′ : List ℤ) → out′ ≡ fresh ++ drop (f .count * rowWords) out → take (f .count * rowWords) out′ ≡ fresh
-  front-is {f = f} e out out′ p = ap (take (f .count * rowWords)) p ∙ take-at fresh (drop (f .count * rowWords) out) (f .count * rowWords) (sym (words-are e))
+  pub front-is : {f : Found} → f ≡ foundIn (k .marks) ls → (out out′ : List ℤ) → out′ ≡ fresh ++ drop (f .count * rowWords) out
+      → take (f .count * rowWords) out′ ≡ fresh
+  front-is {f = f} e out out′ p =
+      ap (take (f .count * rowWords)) p ∙ take-at fresh (drop (f .count * rowWords) out) (f .count * rowWords) (sym (words-are e))
 
   -- ---- the survey
 
-  pub ten-is : {f : Found} → f ≡ foundIn (k .marks) ls → (out : List ℤ) → length out < f .count * rowWords → surveyed (refusedWith (refusal 10 0)) out ≡ surveyGood k ls out
+  pub ten-is : {f : Found} → f ≡ foundIn (k .marks) ls → (out : List ℤ) → length out < f .count * rowWords
+      → surveyed (refusedWith (refusal 10 0)) out ≡ surveyGood k ls out
   unfolding surveyGood
   ten-is e out h = rw (lt-ltb (length out) (length fresh) (omega (arith, words-are e)))
 
-  pub survey-is : {f : Found} → f ≡ foundIn (k .marks) ls → (out out′ : List ℤ) → f .count * rowWords ≤ length out → out′ ≡ fresh ++ drop (f .count * rowWords) out
+  pub survey-is : {f : Found} → f ≡ foundIn (k .marks) ls → (out out′ : List ℤ) → f .count * rowWords ≤ length out
+      → out′ ≡ fresh ++ drop (f .count * rowWords) out
       → surveyed (countOf f) out′ ≡ surveyGood k ls out
   unfolding surveyGood counted
   survey-is {f = f} e out out′ h p = rw (le-ltb (length out) (length fresh) (omega (arith, words-are e)), p, words-are e, e)
@@ -109,11 +113,13 @@ module _ (k : Book) (ls : List ℤ) (g : GoodLines k ls) where
 
   module _ (report : List ℤ) (before : ℕ) where
     -- as many rows as before: no row is vacated
-    pub refreshed-same : (report′ : List ℤ) (a : Answer) → length fresh ≡ before * rowWords → a ≡ counted (k .marks) ls → report′ ≡ fresh ++ drop (before * rowWords) report
+    pub refreshed-same : (report′ : List ℤ) (a : Answer) → length fresh ≡ before * rowWords → a ≡ counted (k .marks) ls
+        → report′ ≡ fresh ++ drop (before * rowWords) report
         → Refreshed k ls report report′ before a
     refreshed-same report′ a n e p = record {
       answer = e;
-      report-is = p ∙ ap (λ (r : List ℤ). r ++ drop (before * rowWords) report) (sym (ap (λ (z : List ℤ). fresh ++ z) (no-zeros (before * rowWords - length fresh) (omega (arith, n))) ∙ append-nil fresh));
+      report-is = p ∙ ap (λ (r : List ℤ). r ++ drop (before * rowWords) report)
+          (sym (ap (λ (z : List ℤ). fresh ++ z) (no-zeros (before * rowWords - length fresh) (omega (arith, n))) ∙ append-nil fresh));
     }
       where
         no-zeros : (m : ℕ) → m ≡ 0 → replicate m (pos 0) ≡ []
@@ -121,9 +127,11 @@ module _ (k : Book) (ls : List ℤ) (g : GoodLines k ls) where
         no-zeros (suc m) z = absurd (omega arith)
 
     -- the rows are put, then the vacated places become zeros
-    pub refreshed-fewer : (put vacated : List ℤ) (a : Answer) (words : ℕ) → Refresh k ls report before → words ≡ length fresh → a ≡ counted (k .marks) ls
+    pub refreshed-fewer : (put vacated : List ℤ) (a : Answer) (words : ℕ) → Refresh k ls report before → words ≡ length fresh
+        → a ≡ counted (k .marks) ls
         → put ≡ fresh ++ drop (length fresh) report
-        → vacated ≡ take words put ++ replicate (before * rowWords - words) (pos 0) ++ drop (before * rowWords) put → Refreshed k ls report vacated before a
+        → vacated ≡ take words put ++ replicate (before * rowWords - words) (pos 0) ++ drop (before * rowWords) put
+        → Refreshed k ls report vacated before a
     refreshed-fewer put vacated a words r w e p v = record {
       answer = e;
       report-is = v ∙ rw (p, w, take-at fresh (drop (length fresh) report) (length fresh) refl, past);
@@ -138,14 +146,17 @@ module _ (k : Book) (ls : List ℤ) (g : GoodLines k ls) where
             ∙ drop-drop more (length fresh) report)
 
 -- a correction that is not refused: the new lines, and the report brought up to date
-pub corrected-is : (k : Book) (ls new report report′ : List ℤ) (number : ℤ) (a : Answer) {f : Found} → GoodLines k ls → noLine ls number ≡ false
-    → otherReport report (reportOf (k .marks) (k .tolerance) ls) ≡ false → f ≡ foundIn (k .marks) ls → Refreshed k new report report′ (f .count) a
+pub corrected-is : (k : Book) (ls new report report′ : List ℤ) (number : ℤ) (a : Answer) {f : Found} → GoodLines k ls
+    → noLine ls number ≡ false
+    → otherReport report (reportOf (k .marks) (k .tolerance) ls) ≡ false → f ≡ foundIn (k .marks) ls
+    → Refreshed k new report report′ (f .count) a
     → corrected a new report′ ≡ correctGood k ls report number new
 unfolding correctGood updated
 corrected-is k ls new report report′ number a g n o e r = rw (n, o, r .answer, r .report-is, ← (words-are k ls g e))
 
 -- what was kept before is room enough for what is there now
-pub refresh-of : (k : Book) (ls new report : List ℤ) {f : Found} → GoodLines k ls → GoodLines k new → length (loopsOf (k .marks) new) ≤ length (loopsOf (k .marks) ls)
+pub refresh-of : (k : Book) (ls new report : List ℤ) {f : Found} → GoodLines k ls → GoodLines k new
+    → length (loopsOf (k .marks) new) ≤ length (loopsOf (k .marks) ls)
     → otherReport report (reportOf (k .marks) (k .tolerance) ls) ≡ false → f ≡ foundIn (k .marks) ls → Refresh k new report (f .count)
 refresh-of k ls new report g h fewer o e = record {
   fewer = omega (arith, report-length k new h, fewer, ap (λ (x : Found). x .count) e);

@@ -1,4 +1,5 @@
--- A tested book with one line run again: its loops are the same lines in the same senses, so that the table of the loops is that of the book before.
+-- A tested book with one line run again: its loops are the same lines in the same senses, so that the table of the loops is that of the
+-- book before.
 -- Assumes nothing.
 use Prim.Native.Nat.{ℕ, suc}
 use mathlib.Core.Path.{_≡_, sym, _∙_, ap, ap₂, subst}
@@ -39,6 +40,7 @@ module _ (b : ℕ) (lines : List ℤ) (number difference : ℤ) (i : ℕ) (stand
       (ap (λ (l : List Line). pieces (tree b l)) lines-again ∙ rerun-keeps-pieces (suc i) difference b (standing lines))
 
   -- and the table is the same
-  pub table-of-again : {starts runs : List ℕ} {count : ℕ} → Table (loopsOf b lines) starts runs count → Table (loopsOf b (rerunLines lines number difference)) starts runs count
+  pub table-of-again : {starts runs : List ℕ} {count : ℕ} → Table (loopsOf b lines) starts runs count
+      → Table (loopsOf b (rerunLines lines number difference)) starts runs count
   table-of-again {starts = starts} {runs = runs} {count = count} t =
       subst (λ (ls : List Loop). Table ls starts runs count) (sym loops-again) (table-again (newDifference (suc i) difference) t)

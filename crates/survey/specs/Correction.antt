@@ -28,8 +28,8 @@ corrected a lines report = record { answer = a; lines = lines; report = report }
 unfoldable pub noLine : List ℤ → ℤ → Bool
 noLine lines number = outZ (pos 1) (pos (lineCount lines)) number || eqZ (standingAt lines (natAbs number - 1)) (pos 0)
 
--- the kept report brought up to date: the rows of the book as it then stands; "if the loops become one fewer, the vacated last row becomes zeros";
--- places past the old rows unchanged
+-- the kept report brought up to date: the rows of the book as it then stands; "if the loops become one fewer, the vacated last row
+-- becomes zeros"; places past the old rows unchanged
 unfoldable pub updated : List ℤ → List ℤ → List ℤ → List ℤ
 updated report old new = new ++ replicate (length old - length new) (pos 0) ++ drop (length old) report
 

@@ -28,4 +28,5 @@ pub record Refresh (k : Book) (lines report : List ℤ) (before : ℕ) : Type 0 
 -- and after: the rows of the book as it stands, zeros in vacated rows, the rest as it was
 pub record Refreshed (k : Book) (lines report report′ : List ℤ) (before : ℕ) (a : Answer) : Type 0 where
   pub answer : a ≡ counted (k .marks) lines
-  pub report-is : report′ ≡ reportOf (k .marks) (k .tolerance) lines ++ replicate (before * rowWords - length (reportOf (k .marks) (k .tolerance) lines)) (pos 0) ++ drop (before * rowWords) report
+  pub report-is : report′ ≡ reportOf (k .marks) (k .tolerance) lines ++ replicate
+      (before * rowWords - length (reportOf (k .marks) (k .tolerance) lines)) (pos 0) ++ drop (before * rowWords) report

@@ -42,9 +42,11 @@ fn kept_report(
     starts: &mut [u64],
     runs: &mut [u16],
 ) -> Kept
-    requires { ⌜ GoodLines book (now lines) ⌝ ∗ ⌜ RoomTable (now starts) (now runs) ⌝ }
+    requires { ⌜ GoodLines book (now lines) ⌝
+        ∗ ⌜ RoomTable (now starts) (now runs) ⌝ }
     ensures { λ r. ⌜ r ≡ keptOf book (now (lines .entry)) (now (report .entry)) ⌝
-        ∗ ⌜ Table (loopsOf (book .marks) (now (lines .entry))) (now (starts .exit)) (now (runs .exit)) (length (loopsOf (book .marks) (now (lines .entry)))) ⌝ }
+        ∗ ⌜ Table (loopsOf (book .marks) (now (lines .entry))) (now (starts .exit)) (now (runs .exit))
+        (length (loopsOf (book .marks) (now (lines .entry)))) ⌝ }
 {
     let found = table::find_loops(book, lines, starts, runs);
     let count = found.count;
@@ -57,8 +59,8 @@ fn kept_report(
     Kept::Own(found)
 }
 
-// Refusals 8 and 9, or the line's difference is set and the report brought up to date. A re-run keeps every loop's lines, so that the loops are
-// found once.
+// Refusals 8 and 9, or the line's difference is set and the report brought up to date. A re-run keeps every loop's lines, so that the
+// loops are found once.
 pub(crate) fn rerun_good(
     book: Book,
     lines: &mut [i64],
@@ -66,7 +68,8 @@ pub(crate) fn rerun_good(
     number: i64,
     difference: i64,
 ) -> Answer
-    requires { ⌜ GoodLines book (now lines) ⌝ ∗ ⌜ natAbs difference ≤ mostDifference ⌝ }
+    requires { ⌜ GoodLines book (now lines) ⌝
+        ∗ ⌜ natAbs difference ≤ mostDifference ⌝ }
     ensures { λ r. ⌜ corrected r (now (lines .exit)) (now (report .exit))
         ≡ correctGood book (now (lines .entry)) (now (report .entry)) number (rerunLines (now (lines .entry)) number difference) ⌝ }
 {
@@ -88,7 +91,8 @@ pub(crate) fn rerun_good(
 
 // The report becomes that of the book as it now stands; it kept so many rows before.
 fn refresh(book: Book, lines: &[i64], report: &mut [i64], before: usize) -> Answer
-    requires { ⌜ GoodLines book (now lines) ⌝ ∗ ⌜ Refresh book (now lines) (now report) before ⌝ }
+    requires { ⌜ GoodLines book (now lines) ⌝
+        ∗ ⌜ Refresh book (now lines) (now report) before ⌝ }
     ensures { λ r. ⌜ Refreshed book (now (lines .entry)) (now (report .entry)) (now (report .exit)) before r ⌝ }
 {
     let answer = report::survey_good(book, lines, report);

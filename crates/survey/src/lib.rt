@@ -58,7 +58,8 @@ pub fn survey(b: i64, t: i64, held: &[i64], lines: &[i64], rows: &mut [i64]) -> 
     }
 }
 
-// The line's difference becomes the new one, and the kept report that of the book as it then stands. A refusal leaves lines and report as they were.
+// The line's difference becomes the new one, and the kept report that of the book as it then stands. A refusal leaves lines and report as
+// they were.
 pub fn rerun(
     b: i64,
     t: i64,

@@ -97,18 +97,22 @@ module _ (b : ℕ) (lines : List Line) (sound : Sound b lines) where
     visit-not-worse =
         let q = nearestSize (natAbs g) D in
         let s′ = squares lines (moveMark hs m (nearest g D)) in
-        let t : s′ + 2 * (natAbs g * q) ≡ squares lines hs + D * (q * q) = traded s′ (squares lines hs) (D * (q * q)) (2 * (natAbs g * q)) (rw (pull-times g D, move-square g D) at (by (nearest g D))) in
+        let t : s′ + 2 * (natAbs g * q) ≡ squares lines hs + D * (q * q) =
+        traded s′ (squares lines hs) (D * (q * q)) (2 * (natAbs g * q)) (rw (pull-times g D, move-square g D) at (by (nearest g D)))
+        in
         let h = not-more (natAbs g) D zero-pull in
         omega arith
 
     -- where a mark does not move, one micrometre either way does not lower the sum
-    one-more-not-better : (d : ℤ) → d *ℤ d ≡ pos 1 → natAbs d ≡ 1 → moveOf (sightsOf lines m) hs m ≡ pos 0 → squares lines hs ≤ squares lines (moveMark hs m d)
+    one-more-not-better : (d : ℤ) → d *ℤ d ≡ pos 1 → natAbs d ≡ 1 → moveOf (sightsOf lines m) hs m ≡ pos 0
+        → squares lines hs ≤ squares lines (moveMark hs m d)
     unfolding g D moveOf
     one-more-not-better d one size e =
         let q : nearestSize (natAbs g) D ≡ 0 = sym (nearest-size g D) ∙ ap natAbs e in
         let x : natAbs (g *ℤ d) ≡ natAbs g = size-mul g d ∙ rw size (omega arith) in
         let h : 2 * natAbs g ≤ D =
-        ⊎-elim (λ (z : D ≡ 0). let k = zero-pull z in omega arith) (λ (p : 0 < D). stays (natAbs g) D (subst (Nearest (natAbs g) D) q (nearest-is (natAbs g) D p))) (eq-zero-or-pos D) in
+        ⊎-elim (λ (z : D ≡ 0). let k = zero-pull z in omega arith)
+        (λ (p : 0 < D). stays (natAbs g) D (subst (Nearest (natAbs g) D) q (nearest-is (natAbs g) D p))) (eq-zero-or-pos D) in
         not-lower (g *ℤ d) D (squares lines hs) (squares lines (moveMark hs m d)) (omega arith) (by d ∙ rw one)
 
     -- A mark that a sweep would not move is at its best place
@@ -133,15 +137,20 @@ module _ (b : ℕ) (lines : List Line) (sound : Sound b lines) where
         (simp length-set (p .0), omega arith))
 
     -- "no sweep raises it"
-    pub sweep-not-worse : (hs : List ℤ) → length hs ≡ b → Kept (λ gs. (length gs ≡ b) × (squares lines gs ≤ squares lines hs)) (sweep (sightsOf lines) isHeld hs b)
+    pub sweep-not-worse : (hs : List ℤ) → length hs ≡ b
+        → Kept (λ gs. (length gs ≡ b) × (squares lines gs ≤ squares lines hs)) (sweep (sightsOf lines) isHeld hs b)
     unfolding NotOver
-    sweep-not-worse hs e = sweep-keeps (sightsOf lines) isHeld (NotOver (squares lines hs)) b (visits-not-worse (squares lines hs)) hs (e, le-refl (squares lines hs))
+    sweep-not-worse hs e =
+        sweep-keeps (sightsOf lines) isHeld (NotOver (squares lines hs)) b (visits-not-worse (squares lines hs)) hs
+        (e, le-refl (squares lines hs))
 
     -- "the sum is no greater than at the start"
-    pub settled-not-worse : (hs : List ℤ) → length hs ≡ b → KeptTo (λ gs. (length gs ≡ b) × (squares lines gs ≤ squares lines hs)) (settle (sightsOf lines) isHeld b hs)
+    pub settled-not-worse : (hs : List ℤ) → length hs ≡ b
+        → KeptTo (λ gs. (length gs ≡ b) × (squares lines gs ≤ squares lines hs)) (settle (sightsOf lines) isHeld b hs)
     unfolding NotOver settle
     settled-not-worse hs e =
-        settle-keeps (sightsOf lines) isHeld (NotOver (squares lines hs)) b (visits-not-worse (squares lines hs)) maxSweeps 0 hs (e, le-refl (squares lines hs))
+        settle-keeps (sightsOf lines) isHeld (NotOver (squares lines hs)) b (visits-not-worse (squares lines hs)) maxSweeps 0 hs
+        (e, le-refl (squares lines hs))
 
     -- held marks keep their heights
     KeepsHeld : List ℤ → List ℤ → Type 0
@@ -154,11 +163,14 @@ module _ (b : ℕ) (lines : List Line) (sound : Sound b lines) where
         (λ _. (
           simp length-set (p .0),
           λ k l held.
-              other-mark gs m (moveOf (sightsOf lines m) gs m) low (omega arith) k l (λ (e : k ≡ m). true≢false (sym held ∙ ap isHeld e ∙ free))
+              other-mark gs m (moveOf (sightsOf lines m) gs m) low (omega arith) k l
+              (λ (e : k ≡ m). true≢false (sym held ∙ ap isHeld e ∙ free))
               ∙ p .1 k l held,
         ))
 
-    pub settled-keeps-held : (hs : List ℤ) → length hs ≡ b → KeptTo (λ gs. (length gs ≡ b) × ((m : ℕ) → 0 < m → isHeld m ≡ true → height gs m ≡ height hs m)) (settle (sightsOf lines) isHeld b hs)
+    pub settled-keeps-held : (hs : List ℤ) → length hs ≡ b
+        → KeptTo (λ gs. (length gs ≡ b) × ((m : ℕ) → 0 < m → isHeld m ≡ true → height gs m ≡ height hs m))
+        (settle (sightsOf lines) isHeld b hs)
     unfolding KeepsHeld settle
     settled-keeps-held hs e =
         settle-keeps (sightsOf lines) isHeld (KeepsHeld hs) b (visits-keep-held hs) maxSweeps 0 hs (e, λ m l h. refl)
@@ -169,7 +181,8 @@ module _ (b : ℕ) (lines : List Line) (sound : Sound b lines) where
         → (squares lines gs ≤ squares lines (moveMark gs m (pos 1))) × (squares lines gs ≤ squares lines (moveMark gs m (negsuc 0)))
     unfolding settle
     settled-best hs e n gs f m low high free =
-        let q : Quiet (sightsOf lines) isHeld gs gs b = subst (KeptTo (λ fs. Quiet (sightsOf lines) isHeld fs fs b)) f (settle-quiet (sightsOf lines) isHeld b maxSweeps 0 hs) in
+        let q : Quiet (sightsOf lines) isHeld gs gs b =
+        subst (KeptTo (λ fs. Quiet (sightsOf lines) isHeld fs fs b)) f (settle-quiet (sightsOf lines) isHeld b maxSweeps 0 hs) in
         let l = subst (KeptTo (λ fs. (length fs ≡ b) × (squares lines fs ≤ squares lines hs))) f (settled-not-worse hs e) in
         let r = best-here gs m low (omega arith) (q .stays m low high free) in
         (r .not-up, r .not-down)

@@ -28,14 +28,16 @@ module _ (P : List ℤ → Type 0) where
   pub visited-kept : (ss : List Sight) (hs : List ℤ) (m : ℕ)
       → (workHeightOut (height hs m +ℤ moveOf ss hs m) ≡ false → P (moveMark hs m (moveOf ss hs m))) → Kept P (visited ss hs m)
   unfolding visited
-  visited-kept ss hs m h = placed-kept (workHeightOut (height hs m +ℤ moveOf ss hs m)) (eqZ (moveOf ss hs m) (pos 0)) m (height hs m +ℤ moveOf ss hs m) hs h
+  visited-kept ss hs m h =
+      placed-kept (workHeightOut (height hs m +ℤ moveOf ss hs m)) (eqZ (moveOf ss hs m) (pos 0)) m (height hs m +ℤ moveOf ss hs m) hs h
 
   moved-kept : (s : Swept) → Kept P s → Kept P (hasMoved s)
   moved-kept (still hs) h = h
   moved-kept (moved hs) h = h
   moved-kept (Swept.outside m) h = h
 
-  visit-kept : (held : Bool) (ss : List Sight) (m : ℕ) (s : Swept) → Kept P s → ((hs : List ℤ) → held ≡ false → P hs → Kept P (visited ss hs m)) → Kept P (visit held ss m s)
+  visit-kept : (held : Bool) (ss : List Sight) (m : ℕ) (s : Swept) → Kept P s
+      → ((hs : List ℤ) → held ≡ false → P hs → Kept P (visited ss hs m)) → Kept P (visit held ss m s)
   visit-kept true ss m s h v = h
   visit-kept false ss m (still hs) h v = v hs refl h
   visit-kept false ss m (moved hs) h v = moved-kept (visited ss hs m) (v hs refl h)
@@ -53,16 +55,19 @@ module _ (sights : ℕ → List Sight) (isHeld : ℕ → Bool) where
       visit-kept P (isHeld (suc k)) (sights (suc k)) (suc k) (sweep sights isHeld hs k)
       (sweep-keeps P k (λ m gs l u. v m gs l (omega arith)) hs h) (λ gs e p. v (suc k) gs (omega arith) (omega arith) e p)
 
-  onward-kept : (P : List ℤ → Type 0) (s : Swept) (n : ℕ) (more : List ℤ → Settled) → Kept P s → ((hs : List ℤ) → P hs → KeptTo P (more hs)) → KeptTo P (onward s n more)
+  onward-kept : (P : List ℤ → Type 0) (s : Swept) (n : ℕ) (more : List ℤ → Settled) → Kept P s
+      → ((hs : List ℤ) → P hs → KeptTo P (more hs)) → KeptTo P (onward s n more)
   onward-kept P (still hs) n more h g = h
   onward-kept P (moved hs) n more h g = g hs h
   onward-kept P (Swept.outside m) n more h g = tt
 
-  pub settle-keeps : (P : List ℤ → Type 0) (b : ℕ) → VisitsKeep P b → (k n : ℕ) (hs : List ℤ) → P hs → KeptTo P (settleFrom sights isHeld b k n hs)
+  pub settle-keeps : (P : List ℤ → Type 0) (b : ℕ) → VisitsKeep P b → (k n : ℕ) (hs : List ℤ) → P hs
+      → KeptTo P (settleFrom sights isHeld b k n hs)
   unfolding settleFrom
   settle-keeps P b v zero n hs h = tt
   settle-keeps P b v (suc k) n hs h =
-      onward-kept P (sweep sights isHeld hs b) n (λ gs. settleFrom sights isHeld b k (suc n) gs) (sweep-keeps P b v hs h) (λ gs p. settle-keeps P b v k (suc n) gs p)
+      onward-kept P (sweep sights isHeld hs b) n (λ gs. settleFrom sights isHeld b k (suc n) gs) (sweep-keeps P b v hs h)
+      (λ gs p. settle-keeps P b v k (suc n) gs p)
 
   -- A sweep over the marks 1 to k that moved nothing
   pub record Quiet (hs gs : List ℤ) (k : ℕ) : Type 0 where
@@ -75,7 +80,8 @@ module _ (sights : ℕ → List Sight) (isHeld : ℕ → Bool) where
   IfStill P (moved hs) = Unit {0}
   IfStill P (Swept.outside m) = Unit {0}
 
-  placed-still : (P : List ℤ → Type 0) (o s : Bool) (m : ℕ) (z : ℤ) (hs : List ℤ) → (s ≡ true → P (setHeight hs m z)) → IfStill P (placed o s m z hs)
+  placed-still : (P : List ℤ → Type 0) (o s : Bool) (m : ℕ) (z : ℤ) (hs : List ℤ) → (s ≡ true → P (setHeight hs m z))
+      → IfStill P (placed o s m z hs)
   placed-still P true s m z hs h = tt
   placed-still P false true m z hs h = h refl
   placed-still P false false m z hs h = tt
@@ -85,10 +91,12 @@ module _ (sights : ℕ → List Sight) (isHeld : ℕ → Bool) where
   moved-never P (moved hs) = tt
   moved-never P (Swept.outside m) = tt
 
-  quiet-more : (hs gs : List ℤ) (k : ℕ) → Quiet hs gs k → (isHeld (suc k) ≡ false → moveOf (sights (suc k)) hs (suc k) ≡ pos 0) → Quiet hs gs (suc k)
+  quiet-more : (hs gs : List ℤ) (k : ℕ) → Quiet hs gs k → (isHeld (suc k) ≡ false → moveOf (sights (suc k)) hs (suc k) ≡ pos 0)
+      → Quiet hs gs (suc k)
   quiet-more hs gs k q z = record {
     same = q .same;
-    stays = λ m l u e. ⊎-elim (λ (p : m ≡ suc k). subst (λ (x : ℕ). isHeld x ≡ false → moveOf (sights x) hs x ≡ pos 0) (sym p) z e) (λ (p : m < suc k). q .stays m l (le-of-suc-le-suc p) e) (eq-or-lt-of-le u);
+    stays = λ m l u e. ⊎-elim (λ (p : m ≡ suc k). subst (λ (x : ℕ). isHeld x ≡ false → moveOf (sights x) hs x ≡ pos 0) (sym p) z e)
+        (λ (p : m < suc k). q .stays m l (le-of-suc-le-suc p) e) (eq-or-lt-of-le u);
   }
 
   visited-still : (hs gs : List ℤ) (k : ℕ) → Quiet hs gs k → IfStill (λ fs. Quiet hs fs (suc k)) (visited (sights (suc k)) gs (suc k))
@@ -118,7 +126,8 @@ module _ (sights : ℕ → List Sight) (isHeld : ℕ → Bool) where
 
   onward-quiet : (b : ℕ) (hs : List ℤ) (s : Swept) (n : ℕ) (more : List ℤ → Settled) → IfStill (λ gs. Quiet hs gs b) s
       → ((gs : List ℤ) → KeptTo (λ fs. Quiet fs fs b) (more gs)) → KeptTo (λ fs. Quiet fs fs b) (onward s n more)
-  onward-quiet b hs (still gs) n more q g = subst (λ (x : List ℤ). Quiet x x b) (sym (q .same)) (subst (λ (x : List ℤ). Quiet hs x b) (q .same) q)
+  onward-quiet b hs (still gs) n more q g =
+      subst (λ (x : List ℤ). Quiet x x b) (sym (q .same)) (subst (λ (x : List ℤ). Quiet hs x b) (q .same) q)
   onward-quiet b hs (moved gs) n more q g = g gs
   onward-quiet b hs (Swept.outside m) n more q g = tt
 
@@ -127,4 +136,5 @@ module _ (sights : ℕ → List Sight) (isHeld : ℕ → Bool) where
   unfolding settleFrom
   settle-quiet b zero n hs = tt
   settle-quiet b (suc k) n hs =
-      onward-quiet b hs (sweep sights isHeld hs b) n (λ gs. settleFrom sights isHeld b k (suc n) gs) (sweep-quiet hs b) (λ gs. settle-quiet b k (suc n) gs)
+      onward-quiet b hs (sweep sights isHeld hs b) n (λ gs. settleFrom sights isHeld b k (suc n) gs) (sweep-quiet hs b)
+      (λ gs. settle-quiet b k (suc n) gs)

@@ -34,7 +34,8 @@ module _ (other : List ℕ) (rise : List ℤ) (weight : List ℕ) (b e : ℕ) (e
       let w = ends .weightIn j in
       omega arith
 
-module _ (first other : List ℕ) (rise : List ℤ) (weight total : List ℕ) (hs : List ℤ) (b v : ℕ) (table : Table first other rise weight total b) (working : Working hs b) (l : v < b) where
+module _ (first other : List ℕ) (rise : List ℤ) (weight total : List ℕ) (hs : List ℤ) (b v : ℕ)
+    (table : Table first other rise weight total b) (working : Working hs b) (l : v < b) where
   -- the mark's lines
   abbrev pub linesHere : List Sight
   linesHere = seen other rise weight (getD first v 0) (getD first (v + 1) 0 - getD first v 0)
@@ -49,7 +50,9 @@ module _ (first other : List ℕ) (rise : List ℤ) (weight total : List ℕ) (h
 
   pub pull-fits : natAbs pullHere < 2 ^ 62 + 2 ^ 61
   pull-fits =
-      let h = pull-size other rise weight hs (getD hs v (pos 0)) b (getD first (v + 1) 0) (table .ends v l) working (working .inside v) (getD first v 0) (getD first (v + 1) 0 - getD first v 0) in
+      let h =
+      pull-size other rise weight hs (getD hs v (pos 0)) b (getD first (v + 1) 0) (table .ends v l) working (working .inside v)
+      (getD first v 0) (getD first (v + 1) 0 - getD first v 0) in
       let s = table .span v l .few in
       omega arith
 
@@ -58,7 +61,9 @@ module _ (first other : List ℕ) (rise : List ℤ) (weight total : List ℕ) (h
 
   pub total-fits : getD total v 0 < 2 ^ 62
   total-fits =
-      let h = weights-size other rise weight b (getD first (v + 1) 0) (table .ends v l) (getD first v 0) (getD first (v + 1) 0 - getD first v 0) in
+      let h =
+      weights-size other rise weight b (getD first (v + 1) 0) (table .ends v l) (getD first v 0)
+      (getD first (v + 1) 0 - getD first v 0) in
       let s = table .span v l .few in
       let e = total-is in
       omega arith
@@ -92,7 +97,8 @@ working-set hs b v z w e = record {
 -- a visit by its tests: z is the new height, d the move
 module _ (ss : List Sight) (hs : List ℤ) (v : ℕ) (d z : ℤ) (ed : d ≡ moveOf ss hs (suc v)) (ez : z ≡ getD hs v (pos 0) +ℤ d) where
   new-height : height hs (suc v) +ℤ moveOf ss hs (suc v) ≡ z
-  new-height = ap (λ (i : ℕ). getD hs i (pos 0) +ℤ moveOf ss hs (suc v)) (place v) ∙ ap (λ (x : ℤ). getD hs v (pos 0) +ℤ x) (sym ed) ∙ sym ez
+  new-height =
+      ap (λ (i : ℕ). getD hs i (pos 0) +ℤ moveOf ss hs (suc v)) (place v) ∙ ap (λ (x : ℤ). getD hs v (pos 0) +ℤ x) (sym ed) ∙ sym ez
 
   visit-placed : visited ss hs (suc v) ≡ placed (workHeightOut z) (eqZ d (pos 0)) (suc v) z hs
   unfolding visited

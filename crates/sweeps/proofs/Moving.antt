@@ -23,7 +23,8 @@ change : ℤ → ℤ → ℤ → ℤ
 change D g d = D *ℤ (d *ℤ d) +ℤ negℤ (g *ℤ d +ℤ g *ℤ d)
 
 -- one line's part, whose residual r becomes r + d or r - d
-at-to : (w r d s D g : ℤ) → w *ℤ ((r +ℤ d) *ℤ (r +ℤ d)) +ℤ (s +ℤ change D g d) ≡ (w *ℤ (r *ℤ r) +ℤ s) +ℤ change (w +ℤ D) (w *ℤ negℤ r +ℤ g) d
+at-to : (w r d s D g : ℤ)
+    → w *ℤ ((r +ℤ d) *ℤ (r +ℤ d)) +ℤ (s +ℤ change D g d) ≡ (w *ℤ (r *ℤ r) +ℤ s) +ℤ change (w +ℤ D) (w *ℤ negℤ r +ℤ g) d
 unfolding change
 at-to w r d s D g = simp ring
 
@@ -95,24 +96,31 @@ module _ (hs : List ℤ) (m : ℕ) (d : ℤ) (low : 0 < m) (high : m ≤ length 
   one-line l ls b p apart rest true false et ef =
       let te : l .to ≡ m = eqb-true (l .to) m et in
       let r : residual (moveMark hs m d) l ≡ residual hs l +ℤ d =
-      rw (te, here, other-mark (l .from) (p .from-low) (eqb-false (l .from) m ef)) (raised-to (height hs m) (height hs (l .from)) (l .difference) d) in
-      let x : (height hs (l .from) +ℤ l .difference) -ℤ height hs m ≡ negℤ (residual hs l) = rw te (given-to (height hs m) (height hs (l .from)) (l .difference)) in
+      rw (te, here, other-mark (l .from) (p .from-low) (eqb-false (l .from) m ef))
+      (raised-to (height hs m) (height hs (l .from)) (l .difference) d) in
+      let x : (height hs (l .from) +ℤ l .difference) -ℤ height hs m ≡ negℤ (residual hs l) =
+      rw te (given-to (height hs m) (height hs (l .from)) (l .difference)) in
       rw (et, ef)
-      (joined-to (weightOf (l .length)) (residual hs l) (residual (moveMark hs m d) l) ((height hs (l .from) +ℤ l .difference) -ℤ height hs m) d (squares ls hs) (squares ls (moveMark hs m d))
+      (joined-to (weightOf (l .length)) (residual hs l) (residual (moveMark hs m d) l)
+      ((height hs (l .from) +ℤ l .difference) -ℤ height hs m) d (squares ls hs) (squares ls (moveMark hs m d))
       (weights (sightsOf ls m)) (pull hs (height hs m) (sightsOf ls m)) rest r x)
   one-line l ls b p apart rest false true et ef =
       let fe : l .from ≡ m = eqb-true (l .from) m ef in
       let r : residual (moveMark hs m d) l ≡ residual hs l -ℤ d =
-      rw (fe, here, other-mark (l .to) (p .to-low) (eqb-false (l .to) m et)) (raised-from (height hs m) (height hs (l .to)) (l .difference) d) in
-      let x : (height hs (l .to) +ℤ negℤ (l .difference)) -ℤ height hs m ≡ residual hs l = rw fe (given-from (height hs m) (height hs (l .to)) (l .difference)) in
+      rw (fe, here, other-mark (l .to) (p .to-low) (eqb-false (l .to) m et))
+      (raised-from (height hs m) (height hs (l .to)) (l .difference) d) in
+      let x : (height hs (l .to) +ℤ negℤ (l .difference)) -ℤ height hs m ≡ residual hs l =
+      rw fe (given-from (height hs m) (height hs (l .to)) (l .difference)) in
       rw (et, ef)
-      (joined-from (weightOf (l .length)) (residual hs l) (residual (moveMark hs m d) l) ((height hs (l .to) +ℤ negℤ (l .difference)) -ℤ height hs m) d (squares ls hs) (squares ls (moveMark hs m d))
+      (joined-from (weightOf (l .length)) (residual hs l) (residual (moveMark hs m d) l)
+      ((height hs (l .to) +ℤ negℤ (l .difference)) -ℤ height hs m) d (squares ls hs) (squares ls (moveMark hs m d))
       (weights (sightsOf ls m)) (pull hs (height hs m) (sightsOf ls m)) rest r x)
   one-line l ls b p apart rest false false et ef =
       let r : residual (moveMark hs m d) l ≡ residual hs l =
       rw (other-mark (l .to) (p .to-low) (eqb-false (l .to) m et), other-mark (l .from) (p .from-low) (eqb-false (l .from) m ef)) in
       rw (et, ef)
-      (joined-elsewhere (weightOf (l .length)) (residual hs l) (residual (moveMark hs m d) l) (pos 0) d (squares ls hs) (squares ls (moveMark hs m d))
+      (joined-elsewhere (weightOf (l .length)) (residual hs l) (residual (moveMark hs m d) l) (pos 0) d (squares ls hs)
+      (squares ls (moveMark hs m d))
       (weights (sightsOf ls m)) (pull hs (height hs m) (sightsOf ls m)) rest r)
 
   by-lines : (b : ℕ) (lines : List Line) → ((l : Line) → List·Memᴰ l lines → Placed b l) → Apart lines → Changes lines

@@ -10,7 +10,8 @@ use lib.ListN.{getD}
 use lib.IntN.{ℤ}
 use Rattle.sights.specs.Sights.{Sight}
 use Rattle.sights.specs.Table.{Sighted}
-use Rattle.sweeps.specs.Sweeps.{Swept, still, moved, hasMoved, visited, visit, sweep, Settled, settled, unsettled, onward, settleFrom, maxSweeps, settle}
+use Rattle.sweeps.specs.Sweeps.{Swept, still, moved, hasMoved, visited, visit, sweep, Settled, settled, unsettled, onward}
+use Rattle.sweeps.specs.Sweeps.{settleFrom, maxSweeps, settle}
 use Rattle.sweeps.specs.MarkTurns.{flags, swept, movedTurn, joinedTurn, outsideTurn}
 use Rattle.fields.proofs.Setting.{place}
 use Rattle.sweeps.specs.declared.Turn.{Turn}
@@ -22,7 +23,8 @@ moved-joined turn.Moved hs = refl
 moved-joined (turn.Outside m) hs = refl
 
 module _ (ss : List Sight) (hs : List ℤ) (m : ℕ) where
-  joined-free : (s r : Turn) (gs : List ℤ) → outsideTurn s ≡ false → swept r gs ≡ visited ss hs m → swept (joinedTurn s r) gs ≡ visit false ss m (swept s hs)
+  joined-free : (s r : Turn) (gs : List ℤ) → outsideTurn s ≡ false → swept r gs ≡ visited ss hs m
+      → swept (joinedTurn s r) gs ≡ visit false ss m (swept s hs)
   joined-free turn.Still r gs o e = e
   joined-free turn.Moved r gs o e = moved-joined r gs ∙ ap hasMoved e
   joined-free (turn.Outside k) r gs o e = absurd (true≢false o)
@@ -44,10 +46,12 @@ module _ (held : List Bool) (ss : List Sight) (hs : List ℤ) (v : ℕ) (s : Tur
   pub turn-outside : outsideTurn s ≡ true → swept s hs ≡ visit (flags held (suc v)) ss (suc v) (swept s hs)
   turn-outside o = outside-same ss hs (suc v) (flags held (suc v)) s o
 
-  pub turn-free : getD held v false ≡ false → outsideTurn s ≡ false → (r t : Turn) (gs : List ℤ) → t ≡ joinedTurn s r → swept r gs ≡ visited ss hs (suc v)
+  pub turn-free : getD held v false ≡ false → outsideTurn s ≡ false → (r t : Turn) (gs : List ℤ) → t ≡ joinedTurn s r
+      → swept r gs ≡ visited ss hs (suc v)
       → swept t gs ≡ visit (flags held (suc v)) ss (suc v) (swept s hs)
   turn-free e o r t gs et h =
-      ap (λ (x : Turn). swept x gs) et ∙ joined-free ss hs (suc v) s r gs o h ∙ sym (ap (λ (f : Bool). visit f ss (suc v) (swept s hs)) (flag ∙ e))
+      ap (λ (x : Turn). swept x gs) et ∙ joined-free ss hs (suc v) s r gs o h
+      ∙ sym (ap (λ (f : Bool). visit f ss (suc v) (swept s hs)) (flag ∙ e))
 
 module _ (sights : ℕ → List Sight) (isHeld : ℕ → Bool) where
   -- a sweep, one mark more
@@ -55,7 +59,8 @@ module _ (sights : ℕ → List Sight) (isHeld : ℕ → Bool) where
   unfolding sweep
   sweep-none hs = refl
 
-  pub sweep-turn : (hs : List ℤ) (v : ℕ) (s t : Swept) → s ≡ sweep sights isHeld hs v → t ≡ visit (isHeld (suc v)) (sights (suc v)) (suc v) s → t ≡ sweep sights isHeld hs (v + 1)
+  pub sweep-turn : (hs : List ℤ) (v : ℕ) (s t : Swept) → s ≡ sweep sights isHeld hs v
+      → t ≡ visit (isHeld (suc v)) (sights (suc v)) (suc v) s → t ≡ sweep sights isHeld hs (v + 1)
   unfolding sweep
   sweep-turn hs v s t e f = rw add-one (f ∙ ap (visit (isHeld (suc v)) (sights (suc v)) (suc v)) e)
 
@@ -65,7 +70,8 @@ module _ (sights : ℕ → List Sight) (isHeld : ℕ → Bool) where
     Left n hs all = settleFrom sights isHeld b (maxSweeps - n) n hs ≡ all
 
     left-step : (n : ℕ) (hs : List ℤ) → n < maxSweeps
-        → settleFrom sights isHeld b (maxSweeps - n) n hs ≡ onward (sweep sights isHeld hs b) n (λ gs. settleFrom sights isHeld b (maxSweeps - (n + 1)) (n + 1) gs)
+        → settleFrom sights isHeld b (maxSweeps - n) n hs ≡ onward (sweep sights isHeld hs b) n
+        (λ gs. settleFrom sights isHeld b (maxSweeps - (n + 1)) (n + 1) gs)
     unfolding settleFrom
     left-step n hs l =
         let e : maxSweeps - n ≡ suc (maxSweeps - (n + 1)) = omega arith in
@@ -115,7 +121,8 @@ module _ (f g : ℕ → List Sight) (isHeld : ℕ → Bool) where
   settle-from-same b e zero n hs = refl
   settle-from-same b e (suc k) n hs =
       ap (λ (s : Swept). onward s n (λ gs. settleFrom f isHeld b k (suc n) gs)) (sweep-same hs b e)
-      ∙ onward-same (sweep g isHeld hs b) n (λ gs. settleFrom f isHeld b k (suc n) gs) (λ gs. settleFrom g isHeld b k (suc n) gs) (λ gs. settle-from-same b e k (suc n) gs)
+      ∙ onward-same (sweep g isHeld hs b) n (λ gs. settleFrom f isHeld b k (suc n) gs) (λ gs. settleFrom g isHeld b k (suc n) gs)
+      (λ gs. settle-from-same b e k (suc n) gs)
 
   pub settle-same : (b : ℕ) → Sighted f g b → (hs : List ℤ) → settle f isHeld b hs ≡ settle g isHeld b hs
   unfolding settle

@@ -24,7 +24,8 @@ abbrev pub mostTerm : ℕ
 mostTerm = mostWeight * mostApart
 
 -- fewer places
-pub shorter : {other : List ℕ} {rise : List ℤ} {weight : List ℕ} {b e k : ℕ} → Ends other rise weight b e → k ≤ e → Ends other rise weight b k
+pub shorter : {other : List ℕ} {rise : List ℤ} {weight : List ℕ} {b e k : ℕ} → Ends other rise weight b e → k ≤ e
+    → Ends other rise weight b k
 shorter h l = record {
   others = omega arith;
   rises = omega arith;
@@ -36,7 +37,8 @@ shorter h l = record {
 
 module _ (other : List ℕ) (rise : List ℤ) (weight : List ℕ) (hs : List ℤ) (z : ℤ) where
   -- the first of the lines left
-  pub pull-first : (j k : ℕ) → pull hs z (seen other rise weight j (suc k)) ≡ termAt other rise weight hs z j +ℤ pull hs z (seen other rise weight (suc j) k)
+  pub pull-first : (j k : ℕ)
+      → pull hs z (seen other rise weight j (suc k)) ≡ termAt other rise weight hs z j +ℤ pull hs z (seen other rise weight (suc j) k)
   unfolding pull seen termAt
   pull-first j k =
       let e : suc (getD other j 0) - 1 ≡ getD other j 0 = omega arith in

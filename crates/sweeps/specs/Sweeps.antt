@@ -58,7 +58,8 @@ unfolding visited
 sweep sights isHeld hs zero = still hs
 sweep sights isHeld hs (suc k) = visit (isHeld (suc k)) (sights (suc k)) (suc k) (sweep sights isHeld hs k)
 
--- How the sweeps end: settled after so many sweeps at these heights; the height of this mark outside (13); the last sweep still moved a mark (12)
+-- How the sweeps end: settled after so many sweeps at these heights; the height of this mark outside (13); the last sweep still moved a
+-- mark (12)
 pub data Settled : Type 0 where
   settled : ℕ → List ℤ → Settled
   outside : ℕ → Settled

@@ -95,10 +95,14 @@ module _ {lines : List Line} {n i at : ℕ} {close head next starts runs : List 
           length-append (runsOf done) (codes lp),
           codes-length lp,
         );
-        begins = λ k h. go k h (ℕ-discrete k i) ∙ sym (ap (λ (l : List Loop). length (runsOf l)) (ap (take k) more ∙ take-append-le k done (lp ∷ []) (omega (arith, f .going .count))));
-        held = run-on (runsOf done) (codes path) runs (number * 2) at (sym (f .at-is)) (f .held) (omega (arith, codes-length path, t .written .count, t .written .few)) grown
+        begins = λ k h. go k h (ℕ-discrete k i) ∙ sym (ap (λ (l : List Loop). length (runsOf l))
+            (ap (take k) more ∙ take-append-le k done (lp ∷ []) (omega (arith, f .going .count))));
+        held =
+            run-on (runsOf done) (codes path) runs (number * 2) at (sym (f .at-is)) (f .held)
+            (omega (arith, codes-length path, t .written .count, t .written .few)) grown
             (ap (λ (o : List ℕ). putMid (at + 1) (length with-one - (at + 1)) with-one o) (t .written .places))
-            ∙ ap₂ (λ (r : List ℕ) (k : ℕ). r ++ drop k grown) (ap (λ (r : List ℕ). runsOf done ++ r) run-is ∙ sym (ap runsOf more ∙ runs-more done lp))
+            ∙ ap₂ (λ (r : List ℕ) (k : ℕ). r ++ drop k grown)
+            (ap (λ (r : List ℕ). runsOf done ++ r) run-is ∙ sym (ap runsOf more ∙ runs-more done lp))
             ends;
       }
         where
@@ -114,18 +118,21 @@ module _ {lines : List Line} {n i at : ℕ} {close head next starts runs : List 
 
 -- all loops are in the table
 pub fill-end : {lines : List Line} {n i at : ℕ} {close head next starts runs : List ℕ} → FilledTo lines n i at close head next starts runs
-    → (count : ℕ) → count ≡ length (loops (n - 1) lines) → i ≡ count → count < length starts → Table (loops (n - 1) lines) (set starts count at) runs count
+    → (count : ℕ) → count ≡ length (loops (n - 1) lines) → i ≡ count → count < length starts
+    → Table (loops (n - 1) lines) (set starts count at) runs count
 fill-end {lines = lines} {n = n} {i = i} {at = at} {starts = starts} {runs = runs} f count e z fit = record {
   counted = e;
   starts-fit = simp length-set (omega arith);
   begins = λ k h. go k h (ℕ-discrete k count);
-  held = subst (λ (l : List Loop). runs ≡ runsOf l ++ drop (length (runsOf l)) runs) (sym all) (f .held ∙ ap (λ (k : ℕ). runsOf (f .going .done) ++ drop k runs) (f .at-is));
+  held = subst (λ (l : List Loop). runs ≡ runsOf l ++ drop (length (runsOf l)) runs) (sym all)
+      (f .held ∙ ap (λ (k : ℕ). runsOf (f .going .done) ++ drop k runs) (f .at-is));
 }
   where
     all : loops (n - 1) lines ≡ f .going .done
     all = going-all (f .going) (z ∙ e)
 
-    go : (k : ℕ) → k ≤ length (loops (n - 1) lines) → Dec (k ≡ count) → getD (set starts count at) k 0 ≡ length (runsOf (take k (loops (n - 1) lines)))
+    go : (k : ℕ) → k ≤ length (loops (n - 1) lines) → Dec (k ≡ count)
+        → getD (set starts count at) k 0 ≡ length (runsOf (take k (loops (n - 1) lines)))
     go k h (yes q) =
         ap (λ (x : ℕ). getD (set starts count at) x 0) q ∙ getD-set-same starts count at 0 fit ∙ f .at-is
         ∙ ap (λ (l : List Loop). length (runsOf l)) (sym all ∙ sym (take-all k (loops (n - 1) lines) (omega arith)))
@@ -136,7 +143,8 @@ fill-end {lines = lines} {n = n} {i = i} {at = at} {starts = starts} {runs = run
 -- ---- whatever lines the tables are of
 
 -- a loop is left
-pub left-of : {lines : List Line} {n count i : ℕ} {ends close head next : List ℕ} → i < count → Ready lines n count ends close head next → i < length (loops (n - 1) lines)
+pub left-of : {lines : List Line} {n count i : ℕ} {ends close head next : List ℕ} → i < count → Ready lines n count ends close head next
+    → i < length (loops (n - 1) lines)
 left-of lt r = omega (arith, r .count-is)
 
 -- the first i loops are in the table, of all lines that were ready at the start
@@ -147,7 +155,8 @@ module _ {n count : ℕ} {ends close head₀ next₀ : List ℕ} where
   pub all-start : {starts runs : List ℕ} → AllFilledTo n count 0 0 ends close head₀ next₀ head₀ next₀ starts runs
   all-start {starts = starts} {runs = runs} = record { of = λ lines r. fill-start starts runs r }
 
-  module _ {i at : ℕ} {head next starts runs : List ℕ} (w : AllFilledTo n count i at ends close head₀ next₀ head next starts runs) (lt : i < count) where
+  module _ {i at : ℕ} {head next starts runs : List ℕ} (w : AllFilledTo n count i at ends close head₀ next₀ head next starts runs)
+      (lt : i < count) where
     -- the closing line of the next turn, of lines that were ready
     module _ {lines : List Line} (r : Ready lines n count ends close head₀ next₀) (number : ℕ) (number-is : number ≡ getD close i 0) where
       abbrev its-turn : Next n lines close i head next (w .of lines r .going)
@@ -162,8 +171,10 @@ module _ {n count : ℕ} {ends close head₀ next₀ : List ℕ} where
         its = sym (number-is ∙ its-turn .number);
       }
 
-    pub all-next : (number : ℕ) (number-is : number ≡ getD close i 0) → i < length starts → at + 1 + n ≤ length runs → {c : ℕ} {head′ next′ : List ℕ} (out′ : List ℕ)
-        → Taken n number ends head next (midOf (at + 1) (length (set runs at (number * 2)) - (at + 1)) (set runs at (number * 2))) head′ next′ out′ c
+    pub all-next : (number : ℕ) (number-is : number ≡ getD close i 0) → i < length starts → at + 1 + n ≤ length runs
+        → {c : ℕ} {head′ next′ : List ℕ} (out′ : List ℕ)
+        → Taken n number ends head next (midOf (at + 1) (length (set runs at (number * 2)) - (at + 1)) (set runs at (number * 2))) head′
+        next′ out′ c
         → AllFilledTo n count (i + 1) (at + 1 + c) ends close head₀ next₀ head′ next′ (set starts i at)
         (putMid (at + 1) (length (set runs at (number * 2)) - (at + 1)) (set runs at (number * 2)) out′)
     all-next number number-is sf fits out′ t = record {
@@ -173,8 +184,10 @@ module _ {n count : ℕ} {ends close head₀ next₀ : List ℕ} where
 
 -- ---- what a turn asks for
 
-module _ {n count : ℕ} {ends close head₀ next₀ best₀ seg₀ starts₀ runs₀ : List ℕ} (f : Fills n count ends close head₀ next₀ best₀ seg₀ starts₀ runs₀)
-    {i at : ℕ} {head next starts runs : List ℕ} (w : AllFilledTo n count i at ends close head₀ next₀ head next starts runs) (lt : i < count) where
+module _ {n count : ℕ} {ends close head₀ next₀ best₀ seg₀ starts₀ runs₀ : List ℕ}
+    (f : Fills n count ends close head₀ next₀ best₀ seg₀ starts₀ runs₀)
+    {i at : ℕ} {head next starts runs : List ℕ} (w : AllFilledTo n count i at ends close head₀ next₀ head next starts runs)
+    (lt : i < count) where
   abbrev now : FilledTo (f .lines) n i at close head next starts runs
   now = w .of (f .lines) (f .ready)
 
@@ -186,13 +199,16 @@ module _ {n count : ℕ} {ends close head₀ next₀ best₀ seg₀ starts₀ ru
   run-room e = omega (arith, f .runs-fit, runs-so-far now left)
 
   -- the path is shorter than there are marks
-  pub path-few : (number : ℕ) → number ≡ getD close i 0 → {out head′ next′ out′ : List ℕ} {c : ℕ} → Taken n number ends head next out head′ next′ out′ c → c < n
+  pub path-few : (number : ℕ) → number ≡ getD close i 0 → {out head′ next′ out′ : List ℕ} {c : ℕ}
+      → Taken n number ends head next out head′ next′ out′ c → c < n
   path-few number e t = t (f .ready .q) (f .lines) (now .going .sub) (turn now left .c) (taking w lt (f .ready) number e) .written .few
 
   pub small-number : (number : ℕ) → number ≡ getD close i 0 → number < numberLimit
-  small-number number e = let x = taking w lt (f .ready) number e in omega (arith, x .its, x .listed .sound (turn now left .c) (x .isLine) .number)
+  small-number number e =
+      let x = taking w lt (f .ready) number e in omega (arith, x .its, x .listed .sound (turn now left .c) (x .isLine) .number)
 
-  pub takes-of : (number : ℕ) → number ≡ getD close i 0 → {best seg out : List ℕ} → RoomPath n best seg out → Takes n number ends head next best seg out
+  pub takes-of : (number : ℕ) → number ≡ getD close i 0 → {best seg out : List ℕ} → RoomPath n best seg out
+      → Takes n number ends head next best seg out
   takes-of number e ro = record {
     bounded = f .bounded;
     room = ro;

@@ -41,7 +41,8 @@ module _ (k : Book) (ls : List ℤ) (g : GoodLines k ls) where
   marks-are = omega arith
 
   -- the numbers of the lines are below the count of lines and one more
-  pub listed-of : {ends head next best order : List ℕ} → BookPlanted (k .marks + 1) ls ends head next best order → Listed (standing ls) (k .marks + 1) (k .lines + 1) ends
+  pub listed-of : {ends head next best order : List ℕ} → BookPlanted (k .marks + 1) ls ends head next best order
+      → Listed (standing ls) (k .marks + 1) (k .lines + 1) ends
   listed-of {ends = ends} p = subst (λ (q : ℕ). Listed (standing ls) (k .marks + 1) (q + 1) ends) lines-are (p .listed)
 
   module _ {ends head next best seg order close : List ℕ} (w : RoomWork ends head next best seg order close) where
@@ -81,10 +82,19 @@ module _ (k : Book) (ls : List ℤ) (g : GoodLines k ls) where
 
       runs-few : length (runsOf (loops (k .marks + 1 - 1) (standing ls))) ≤ mostLinesInAll
       runs-few =
-          let few = lines-in-all-at-most (k .marks) (standing ls) (lines-sound k ls g) (omega (arith, few-standing ls, g .good .whole, g .good .few)) in
-          omega (arith, runs-length (loops (k .marks + 1 - 1) (standing ls)), ap (λ (b : ℕ). linesInAll (loops b (standing ls))) marks-are, few)
+          let few =
+          lines-in-all-at-most (k .marks) (standing ls) (lines-sound k ls g)
+          (omega (arith, few-standing ls, g .good .whole, g .good .few)) in
+          omega (
+            arith,
+            runs-length (loops (k .marks + 1 - 1) (standing ls)),
+            ap (λ (b : ℕ). linesInAll (loops b (standing ls)))
+                marks-are,
+            few,
+          )
 
-      pub fills-of : {seg′ starts runs : List ℕ} → RoomTable starts runs → length close′ ≡ length close → length best′ ≡ length best → length seg′ ≡ length seg
+      pub fills-of : {seg′ starts runs : List ℕ} → RoomTable starts runs → length close′ ≡ length close → length best′ ≡ length best
+          → length seg′ ≡ length seg
           → Fills (k .marks + 1) (found .count) ends′ close′ head′ next′ best′ seg′ starts runs
       fills-of r lc lb lg = record {
         bounded = p .bounded;
@@ -103,8 +113,10 @@ module _ (k : Book) (ls : List ℤ) (g : GoodLines k ls) where
       pub found-is : found ≡ foundIn (k .marks) ls
       unfolding piecesOf
       found-is =
-          ap₂ (λ (c n : ℕ). record { count = c; pieces = n }) count-is (s .pieces-are ∙ ap (λ (b : ℕ). pieces (tree b (standing ls))) marks-are)
+          ap₂ (λ (c n : ℕ). record { count = c; pieces = n }) count-is
+          (s .pieces-are ∙ ap (λ (b : ℕ). pieces (tree b (standing ls))) marks-are)
 
       pub table-is : {starts′ runs′ : List ℕ} → Filled (k .marks + 1) (found .count) ends′ close′ head′ next′ starts′ runs′
           → Table (loopsOf (k .marks) ls) starts′ runs′ (found .count)
-      table-is {starts′ = starts′} {runs′ = runs′} f = subst (λ (l : List Loop). Table l starts′ runs′ (found .count)) loops-are (f (standing ls) ready)
+      table-is {starts′ = starts′} {runs′ = runs′} f =
+          subst (λ (l : List Loop). Table l starts′ runs′ (found .count)) loops-are (f (standing ls) ready)

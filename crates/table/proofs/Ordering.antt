@@ -20,7 +20,8 @@ use Rattle.subgraph.proofs.LoopTurns.{going-start, queue-start}
 use Rattle.table.specs.Ordered.{Orders, Started}
 
 -- lines by rising number, above k and below q
-rising-few : (q k : ℕ) (lines : List Line) → k < q → Rising lines → ((l : Line) → List·Memᴰ l lines → (k < l .number) × (l .number < q)) → k + length lines < q
+rising-few : (q k : ℕ) (lines : List Line) → k < q → Rising lines → ((l : Line) → List·Memᴰ l lines → (k < l .number) × (l .number < q))
+    → k + length lines < q
 rising-few q k [] h r f = omega arith
 rising-few q k (l ∷ ls) h (then above r) f =
     let w = f l (List·Memᴰ·head refl) in
@@ -54,7 +55,14 @@ module _ (n q : ℕ) (ends : List ℕ) (some-line : 0 < q) (lines : List Line) (
     started = record {
       going = going-start n lines close′ q r ends head next li td
           (queue-start close close′ (closing lines (tree (n - 1) lines)) (omega (arith, few-closing)) (put .places));
-      count-is = omega (arith, put .count, length-numbers (closing lines (tree (n - 1) lines)), loops-count (n - 1) lines placed (li .rising) apart, closing-count (n - 1) lines placed (li .rising) apart);
+      count-is = omega (
+        arith,
+        put .count,
+        length-numbers (closing lines (tree (n - 1) lines)),
+        loops-count (n - 1) lines placed
+            (li .rising) apart,
+        closing-count (n - 1) lines placed (li .rising) apart,
+      );
       pieces-are = omega (arith, td .count, roots);
     }
 

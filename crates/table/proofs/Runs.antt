@@ -22,7 +22,8 @@ module _ {A : Type 0} where
     rest = length with-one - (n + 1)
 
     front : take (n + 1) with-one ≡ p ++ (v ∷ [])
-    front = rw (add-one n) (take-suc-set l n v (omega arith) ∙ ap (λ (x : List A). x ++ (v ∷ [])) (ap (take n) e ∙ take-at p (drop n l) n h))
+    front =
+        rw (add-one n) (take-suc-set l n v (omega arith) ∙ ap (λ (x : List A). x ++ (v ∷ [])) (ap (take n) e ∙ take-at p (drop n l) n h))
 
     lent : drop (n + 1) with-one ≡ drop (n + 1) l
     lent = drop-set-lt (n + 1) l n v (omega arith)

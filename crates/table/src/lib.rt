@@ -34,7 +34,8 @@ fn fill(
     count: usize,
 )
     requires { ⌜ Fills n count (now ends) (now close) (now head) (now next) (now best) (now seg) (now starts) (now runs) ⌝ }
-    ensures { λ _. ⌜ Filled n count (now (ends .entry)) (now (close .entry)) (now (head .entry)) (now (next .entry)) (now (starts .exit)) (now (runs .exit)) ⌝ }
+    ensures { λ _. ⌜ Filled n count (now (ends .entry)) (now (close .entry)) (now (head .entry)) (now (next .entry)) (now (starts .exit))
+        (now (runs .exit)) ⌝ }
 {
     let mut at = 0;
     let mut i = 0;
@@ -81,7 +82,8 @@ fn find_in(
 
 // The loops of a tested book are found, in work tables on the stack.
 pub fn find_loops(book: Book, lines: &[i64], starts: &mut [u64], runs: &mut [u16]) -> Found
-    requires { ⌜ GoodLines book (now lines) ⌝ ∗ ⌜ RoomTable (now starts) (now runs) ⌝ }
+    requires { ⌜ GoodLines book (now lines) ⌝
+        ∗ ⌜ RoomTable (now starts) (now runs) ⌝ }
     ensures { λ r. ⌜ r ≡ foundIn (book .marks) (now (lines .entry)) ⌝
         ∗ ⌜ Table (loopsOf (book .marks) (now (lines .entry))) (now (starts .exit)) (now (runs .exit)) (r .count) ⌝ }
 {

@@ -14,7 +14,8 @@ pub(crate) fn order_loops(
     q: usize,
 ) -> Found
     requires { ⌜ Orders n q (now ends) (now head) (now next) (now best) (now order) (now close) ⌝ }
-    ensures { λ r. ⌜ Ordered n q (now (ends .entry)) (now (best .entry)) (now (order .entry)) (now (head .exit)) (now (next .exit)) (now (close .exit)) r ⌝ }
+    ensures { λ r. ⌜ Ordered n q (now (ends .entry)) (now (best .entry)) (now (order .entry)) (now (head .exit)) (now (next .exit))
+        (now (close .exit)) r ⌝ }
 {
     let count = closing::closing_lines(ends, best, order, close, n, q);
     let tree_lines = subgraph::lay_tree(ends, best, order, head, next, n);

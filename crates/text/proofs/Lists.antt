@@ -12,7 +12,8 @@ pub listed-append : (a b : List ℤ) → listedText (a ++ b) ≡ listedText a ++
 unfolding listedText
 listed-append [] b = refl
 listed-append (x ∷ a) b =
-    ap (λ (rest : List ℕ). bytes " " ++ signedText x ++ rest) (listed-append a b) ∙ sym (append-assoc (bytes " " ++ signedText x) (listedText a) (listedText b))
+    ap (λ (rest : List ℕ). bytes " " ++ signedText x ++ rest) (listed-append a b)
+    ∙ sym (append-assoc (bytes " " ++ signedText x) (listedText a) (listedText b))
 
 pub listed-one : (x : ℤ) → listedText (x ∷ []) ≡ bytes " " ++ signedText x
 unfolding listedText

@@ -36,7 +36,8 @@ digits-enough zero g n p q = absurd (omega arith)
 digits-enough (suc f) zero n p q = absurd (omega arith)
 digits-enough (suc f) (suc g) n p q =
     by-size (digits (suc f) n ≡ digits (suc g) n) n (λ h. digits-one f n h ∙ sym (digits-one g n h))
-    (λ h. digits-more f n h ∙ ap (λ (ds : List ℕ). ds ++ lastDigit n) (digits-enough f g (n / 10) (omega arith) (omega arith)) ∙ sym (digits-more g n h))
+    (λ h. digits-more f n h ∙ ap (λ (ds : List ℕ). ds ++ lastDigit n) (digits-enough f g (n / 10) (omega arith) (omega arith))
+    ∙ sym (digits-more g n h))
 
 pub decimal-one : (n : ℕ) → n < 10 → decimal n ≡ lastDigit n
 unfolding decimal
@@ -44,7 +45,8 @@ decimal-one n h = digits-one n n h
 
 pub decimal-more : (n : ℕ) → 10 ≤ n → decimal n ≡ decimal (n / 10) ++ lastDigit n
 unfolding decimal
-decimal-more n h = digits-more n n h ∙ ap (λ (ds : List ℕ). ds ++ lastDigit n) (digits-enough n (suc (n / 10)) (n / 10) (omega arith) (omega arith))
+decimal-more n h =
+    digits-more n n h ∙ ap (λ (ds : List ℕ). ds ++ lastDigit n) (digits-enough n (suc (n / 10)) (n / 10) (omega arith) (omega arith))
 
 -- what one digit more keeps holds of every number
 pub by-digits : (P : ℕ → Type 0) → ((n : ℕ) → n < 10 → P n) → ((n : ℕ) → 10 ≤ n → P (n / 10) → P n) → (n : ℕ) → P n

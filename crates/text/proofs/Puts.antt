@@ -46,7 +46,8 @@ _then_ {l} {l₁} {l₂} {at} {r} {s} {a} {b} p q =
     let f = q .next-is in
     let m = length-append a b in
     record {
-      written = q .written ∙ rw (p .written, sets-append a b l at) (sets-from b (sets l at a) r (at + length a) (λ d. rw (length-sets l at a) (omega arith, omega arith)));
+      written = q .written ∙ rw (p .written, sets-append a b l at)
+          (sets-from b (sets l at a) r (at + length a) (λ d. rw (length-sets l at a) (omega arith, omega arith)));
       next-is = omega arith;
     }
 
@@ -55,8 +56,10 @@ pub no-room : (l : List ℕ) (at : ℕ) (text : List ℕ) → length l ≤ at �
 no-room l at text h = record { written = sym (sets-past text l at h); next-is = omega arith }
 
 -- The text of a list, put element by element: what stands after i of them.
-module _ {A : Type 0} (text : List A → List ℕ) (joins : (a b : List A) → text (a ++ b) ≡ text a ++ text b) {l l₁ : List ℕ} {at r : ℕ} (s : List A) (i : ℕ) (p : Put l l₁ at r (text (take i s))) where
-  pub one-more : {l₂ : List ℕ} {q : ℕ} (d : A) → i < length s → Put l₁ l₂ r q (text (getD s i d ∷ [])) → Put l l₂ at q (text (take (i + 1) s))
+module _ {A : Type 0} (text : List A → List ℕ) (joins : (a b : List A) → text (a ++ b) ≡ text a ++ text b) {l l₁ : List ℕ} {at r : ℕ}
+    (s : List A) (i : ℕ) (p : Put l l₁ at r (text (take i s))) where
+  pub one-more : {l₂ : List ℕ} {q : ℕ} (d : A) → i < length s → Put l₁ l₂ r q (text (getD s i d ∷ []))
+      → Put l l₂ at q (text (take (i + 1) s))
   one-more d h q = rw (add-one, take-suc s i d, joins) (p then q)
 
   pub all-put : length s ≤ i → Put l l₁ at r (text s)
@@ -75,7 +78,8 @@ pub put-part : {l l′ : List ℕ} {at next : ℕ} {text : List ℕ} → Put l l
 put-part {l′ = l′} {next = next} p h = sym (length-take-le next l′ (put-inside p h))
 
 -- where there is room, what was before it and the whole text stand before the next place
-pub put-whole : {l l′ : List ℕ} {at next : ℕ} {text : List ℕ} → Put l l′ at next text → at + length text ≤ length l → take next l′ ≡ take at l ++ text
+pub put-whole : {l l′ : List ℕ} {at next : ℕ} {text : List ℕ} → Put l l′ at next text → at + length text ≤ length l
+    → take next l′ ≡ take at l ++ text
 put-whole {l} {l′} {at} {next} {text} p h =
     let e : next ≡ at + length text = omega (arith, p .next-is) in
     let n : length (take at l ++ text) ≡ next = length-append (take at l) text ∙ omega (arith, length-take at l) in

@@ -50,7 +50,8 @@ unfolding verdictText bytes
 verdict-room verdict =
     cond-ind (λ (t : List ℕ). length t ≤ 8) (eqZ verdict (pos 0)) (bytes " WITHIN:") (bytes " OVER:") (λ _. omega arith) (λ _. omega arith)
 
-pub head-room : (marks lines pieces loops : ℕ) → marks < 2 ^ 64 → lines < 2 ^ 64 → pieces < 2 ^ 64 → loops < 2 ^ 64 → length (headText marks lines pieces loops) ≤ 122
+pub head-room : (marks lines pieces loops : ℕ) → marks < 2 ^ 64 → lines < 2 ^ 64 → pieces < 2 ^ 64 → loops < 2 ^ 64
+    → length (headText marks lines pieces loops) ≤ 122
 unfolding headText bytes
 head-room marks lines pieces loops m n p l =
     simp length-append (omega (arith, machine-room marks m, machine-room lines n, machine-room pieces p, machine-room loops l))
@@ -73,7 +74,8 @@ pub record LoopNumbers (number : ℕ) (len misclosure : ℤ) (listing : List ℤ
   pub few-lines : length listing ≤ mostMarks
   pub lines : LineNumbers listing
 
-pub loop-room : (number : ℕ) (len misclosure verdict : ℤ) (listing : List ℤ) → LoopNumbers number len misclosure listing → length (loopText number len misclosure verdict listing) ≤ 1338
+pub loop-room : (number : ℕ) (len misclosure verdict : ℤ) (listing : List ℤ) → LoopNumbers number len misclosure listing
+    → length (loopText number len misclosure verdict listing) ≤ 1338
 unfolding loopText bytes
 loop-room number len misclosure verdict listing h =
     let n = h .few-loops in

@@ -10,9 +10,11 @@ use mathlib.Core.Option.{Option, none, some}
 use lib.ListN.{length, getD, set}
 use lib.Seq.{getD-set-same, getD-set-other, set-out}
 use Rattle.network.specs.Standing.{Line}
-use Rattle.network.specs.Tree.{Entry, entry, Tree, Candidate, candidate, distance, far, lowest, firstOut, firstOf, step, grow, upTo, marks, tree}
+use Rattle.network.specs.Tree.{Entry, entry, Tree, Candidate, candidate, distance, far, lowest, firstOut, firstOf, step, grow, upTo}
+use Rattle.network.specs.Tree.{marks, tree}
 use Rattle.network.specs.Tree as tr
-use Rattle.network.proofs.Grown.{scored, score-of, After, new, old, after, keeps, lowest-none, lowest-some, ByLine, Stepped, line, root, stepped, isNew}
+use Rattle.network.proofs.Grown.{scored, score-of, After, new, old, after, keeps, lowest-none, lowest-some, ByLine, Stepped, line, root}
+use Rattle.network.proofs.Grown.{stepped, isNew}
 use Rattle.network.proofs.Grown as gr
 use Rattle.network.proofs.Shortest.{same, never, turn}
 use Rattle.network.specs.Sound.{Placed}

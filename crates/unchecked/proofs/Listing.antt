@@ -185,7 +185,8 @@ pub open-list : {n q : ℕ} {lines : List Line} {ends best order out out′ : Li
     → Listed lines n q ends
     → Holding (tree (n - 1) lines) best order ends → LinesChecked ends best marked q
     → Put (openFrom ends marked 1 (q - 1)) out out′ a → Put (notChecked (loops (n - 1) lines) lines) out out′ a
-open-list {n = n} {q = q} {lines = lines} {ends = ends} {best = best} {order = order} {out = out} {out′ = out′} {a = a} marked few li ho lc =
+open-list {n = n} {q = q} {lines = lines} {ends = ends} {best = best} {order = order} {out = out} {out′ = out′} {a = a} marked few li ho
+    lc =
     subst (λ (xs : List ℕ). Put xs out out′ a)
     (open-is-unchecked ends marked (loops (n - 1) lines) (q - 1) lines 1 (record {
       rising = li .rising;

@@ -13,7 +13,8 @@ use Rattle.prepare.specs.Prepared.{BookPlanted}
 use Rattle.unchecked.specs.List.{Ready}
 use Rattle.unchecked.specs.Book.{RoomList}
 
-module _ (k : Book) (ls : List ℤ) (g : GoodLines k ls) {ends head next best order : List ℕ} (p : BookPlanted (k .marks + 1) ls ends head next best order) where
+module _ (k : Book) (ls : List ℤ) (g : GoodLines k ls) {ends head next best order : List ℕ}
+    (p : BookPlanted (k .marks + 1) ls ends head next best order) where
   pub listed-by : Listed (standing ls) (k .marks + 1) (k .lines + 1) ends
   listed-by = subst (λ (q : ℕ). Listed (standing ls) (k .marks + 1) (q + 1) ends) (count-of ls (k .lines) (g .good .whole)) (p .listed)
 

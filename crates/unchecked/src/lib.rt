@@ -15,8 +15,8 @@ use book::Book;
 use prepare::HALVES;
 use prepare::MARKS;
 
-// The places of marked, one for each line number. ends, marked and best are lent as arrays, each by one pointer, so that the call at the end
-// of `follow` is compiled to a jump. Slices would be handed on by copies on the stack, and it would stay a call.
+// The places of marked, one for each line number. ends, marked and best are lent as arrays, each by one pointer, so that the call at the
+// end of `follow` is compiled to a jump. Slices would be handed on by copies on the stack, and it would stay a call.
 pub const NUMBERS: usize = chains::NUMBERS as usize;
 
 // What stands at the number of a line that is checked.

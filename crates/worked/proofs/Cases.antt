@@ -1,4 +1,5 @@
--- Document 01, "Proved as one list with a single statement, each change made to the book above": what each case gives is what document 01 says.
+-- Document 01, "Proved as one list with a single statement, each change made to the book above": what each case gives is what document 01
+-- says.
 -- Assumes nothing.
 use Prim.Native.Nat.{ℕ}
 use mathlib.Core.Path.{_≡_, refl}
@@ -43,13 +44,17 @@ answer rows pieces = pos 0 ∷ pos 0 ∷ pos rows ∷ pos pieces ∷ []
 
 -- an answer and what the lent buffers then hold, as lists of numbers
 abbrev ofSurvey : Surveyed → List (List ℤ)
-ofSurvey s = (pos (s .answer .refusal .number) ∷ pos (s .answer .refusal .place) ∷ pos (s .answer .rows) ∷ pos (s .answer .pieces) ∷ []) ∷ s .rows ∷ []
+ofSurvey s =
+    (pos (s .answer .refusal .number) ∷ pos (s .answer .refusal .place) ∷ pos (s .answer .rows) ∷ pos (s .answer .pieces) ∷ []) ∷ s .rows
+    ∷ []
 
 abbrev ofListing : Listing → List (List ℤ)
 ofListing l = (pos (l .answer .refusal .number) ∷ pos (l .answer .refusal .place) ∷ pos (l .answer .entries) ∷ []) ∷ l .out ∷ []
 
 abbrev ofCorrection : Corrected → List (List ℤ)
-ofCorrection c = (pos (c .answer .refusal .number) ∷ pos (c .answer .refusal .place) ∷ pos (c .answer .rows) ∷ pos (c .answer .pieces) ∷ []) ∷ c .lines ∷ c .report ∷ []
+ofCorrection c =
+    (pos (c .answer .refusal .number) ∷ pos (c .answer .refusal .place) ∷ pos (c .answer .rows) ∷ pos (c .answer .pieces) ∷ [])
+    ∷ c .lines ∷ c .report ∷ []
 
 abbrev row : ℕ → ℕ → ℕ → ℤ → ℕ → List ℤ
 row closing count length misclosure over = pos closing ∷ pos count ∷ pos length ∷ misclosure ∷ pos over ∷ []
@@ -78,11 +83,13 @@ report = row 6 3 4450 (minus 40000) 1 ++ row 4 3 7600 (minus 5000) 0 ++ row 3 4 
 -- the book above with another line 6, and with another line 3
 lineSix : List ℤ → List ℤ
 lineSix six =
-    line 1 3 6345000 1600 ++ line 2 3 4235000 2500 ++ line 5 2 3060000 1000 ++ line 5 1 920000 4000 ++ line 1 4 3895000 1600 ++ six ++ line 5 4 4820000 2000
+    line 1 3 6345000 1600 ++ line 2 3 4235000 2500 ++ line 5 2 3060000 1000 ++ line 5 1 920000 4000 ++ line 1 4 3895000 1600 ++ six
+    ++ line 5 4 4820000 2000
 
 lineThree : List ℤ → List ℤ
 lineThree three =
-    line 1 3 6345000 1600 ++ line 2 3 4235000 2500 ++ three ++ line 5 1 920000 4000 ++ line 1 4 3895000 1600 ++ line 4 3 2410000 1250 ++ line 5 4 4820000 2000
+    line 1 3 6345000 1600 ++ line 2 3 4235000 2500 ++ three ++ line 5 1 920000 4000 ++ line 1 4 3895000 1600 ++ line 4 3 2410000 1250
+    ++ line 5 4 4820000 2000
 
 -- a line of the table, withdrawn
 withdrawn : ℕ → ℕ → ℕ → ℕ → List ℤ
@@ -94,7 +101,9 @@ unfolding surveyOf
 edge m = ofSurvey (surveyOf (lent (pos 2) (pos 40) [] (line 1 2 0 500 ++ (pos 1 ∷ pos 2 ∷ m ∷ pos 500 ∷ pos 1 ∷ []))) (places 5))
 
 pub cases : List Case
-unfolding lines held report lineSix lineThree withdrawn edge surveyOf listingOf notCheckedOf rerunOf withdrawOf withdrawLines tree treeLines network.standing outZ outN eqZ firstFrom firstBad anyBelow rateAnswer workHeightOut quotient div ofInt round units odd size climb span
+unfolding lines held report lineSix lineThree withdrawn edge surveyOf listingOf notCheckedOf rerunOf withdrawOf withdrawLines tree
+    treeLines network.standing outZ outN eqZ firstFrom firstBad anyBelow rateAnswer workHeightOut quotient div ofInt round units odd size
+    climb span
 cases =
     -- (a) the three loops
     case (ofSurvey (surveyOf book (places 15))) (answer 3 1 ∷ report ∷ [])
@@ -106,7 +115,8 @@ cases =
     ∷ case (map pos (numbers (treeLines (tree 5 (network.standing lines)))) ∷ []) ((pos 1 ∷ pos 5 ∷ pos 7 ∷ pos 2 ∷ []) ∷ [])
     -- (c) re-run of 6 to 2,428,000: only loop 1's verdict changes
     ∷ case (ofCorrection (rerunOf book report (pos 6) (pos 2428000)))
-    (answer 3 1 ∷ lineSix (line 4 3 2428000 1250) ∷ (row 6 3 4450 (minus 22000) 0 ++ row 4 3 7600 (minus 5000) 0 ++ row 3 4 6750 (pos 47000) 1) ∷ [])
+    (answer 3 1 ∷ lineSix (line 4 3 2428000 1250) ∷ (row 6 3 4450 (minus 22000) 0 ++ row 4 3 7600 (minus 5000) 0 ++ row 3 4 6750
+    (pos 47000) 1) ∷ [])
     -- (d) withdraw 6: rows for 4 (unchanged) and 3, the vacated row zeros
     ∷ case (ofCorrection (withdrawOf book report (pos 6)))
     (answer 2 1 ∷ lineSix (withdrawn 4 3 2410000 1250) ∷ (row 4 3 7600 (minus 5000) 0 ++ row 3 5 8700 (pos 25000) 0 ++ places 5) ∷ [])
@@ -115,7 +125,8 @@ cases =
     -- (e) withdraw 3: two loops, line 2 not checked
     ∷ case (ofCorrection (withdrawOf book report (pos 3)))
     (answer 2 1 ∷ lineThree (withdrawn 5 2 3060000 1000) ∷ (row 6 3 4450 (minus 40000) 1 ++ row 4 3 7600 (minus 5000) 0 ++ places 5) ∷ [])
-    ∷ case (ofListing (notCheckedOf (withLines book (withdrawLines lines (pos 3))) (places 1))) ((pos 0 ∷ pos 0 ∷ pos 1 ∷ []) ∷ (pos 2 ∷ []) ∷ [])
+    ∷ case (ofListing (notCheckedOf (withLines book (withdrawLines lines (pos 3))) (places 1)))
+    ((pos 0 ∷ pos 0 ∷ pos 1 ∷ []) ∷ (pos 2 ∷ []) ∷ [])
     -- (f) t = 40, L = 1000: m = 4000 within, -4000 within, 4001 over
     ∷ case (edge (pos 4000)) (answer 1 1 ∷ row 2 2 1000 (pos 4000) 0 ∷ [])
     ∷ case (edge (minus 4000)) (answer 1 1 ∷ row 2 2 1000 (minus 4000) 0 ∷ [])

@@ -18,7 +18,8 @@ count-read c =
     let k = c .before .signed-count in
     sym (c .same .ensures ∙ rw (stored (k .result) (k .ok) (k .ensures), toZ-ofZ (s .fits .b)))
 
-test-read : (c : tie.After-test) → (let s : tie.Start = search in testOf (lent (s .args .b) (s .args .t) (s .args .held .now) (s .args .lines .now)) ≡ c .test .result)
+test-read : (c : tie.After-test)
+    → (let s : tie.Start = search in testOf (lent (s .args .b) (s .args .t) (s .args .held .now) (s .args .lines .now)) ≡ c .test .result)
 test-read c =
     let s : tie.Start = search in
     sym (c .test .ensures ∙ rw (toZ-ofZ (s .fits .b), toZ-ofZ (s .fits .t)))
@@ -29,8 +30,12 @@ good-rate-requires c κs =
     let after-same : tie.After-same = search in
     let s : tie.Start = search in
     let k = c .before .tested2 .given in
-    let e = test-read (c .before .before .before) ∙ k .1 in
-    (lines-of (lent (s .args .b) (s .args .t) (s .args .held .now) (s .args .lines .now)) (k .0 .0) e, marks-of (lent (s .args .b) (s .args .t) (s .args .held .now) (s .args .lines .now)) (k .0 .0) e (length (s .args .heights .now)) (count-read after-same ∙ then1 .if1 .taken))
+    let e = test-read (c .before .before .before) ∙ k .1 in (
+      lines-of (lent (s .args .b) (s .args .t) (s .args .held .now) (s .args .lines .now)) (k .0 .0) e,
+      marks-of
+          (lent (s .args .b) (s .args .t) (s .args .held .now) (s .args .lines .now)) (k .0 .0) e (length (s .args .heights .now))
+          (count-read after-same ∙ then1 .if1 .taken),
+    )
 
 returns : tie.Need-returns
 returns c =
@@ -39,7 +44,8 @@ returns c =
     let after-same : tie.After-same = search in
     let s : tie.Start = search in
     let k = c .before .before .tested .given in
-    rate-refused (lent (s .args .b) (s .args .t) (s .args .held .now) (s .args .lines .now)) (s .args .heights .now) (s .args .line) (c .refused .result) (count-read after-same ∙ then1 .if1 .taken) (k .0 .0) (test-read after-test ∙ k .1) (c .refused .ensures)
+    rate-refused (lent (s .args .b) (s .args .t) (s .args .held .now) (s .args .lines .now)) (s .args .heights .now) (s .args .line)
+    (c .refused .result) (count-read after-same ∙ then1 .if1 .taken) (k .0 .0) (test-read after-test ∙ k .1) (c .refused .ensures)
 
 returns-2 : tie.Need-returns-2
 returns-2 c =
@@ -48,12 +54,15 @@ returns-2 c =
     let after-same : tie.After-same = search in
     let s : tie.Start = search in
     let k = c .before .before .tested2 .given in
-    rate-good (lent (s .args .b) (s .args .t) (s .args .held .now) (s .args .lines .now)) (s .args .heights .now) (s .args .line) (c .good-rate .result) (count-read after-same ∙ then1 .if1 .taken) (k .0 .0) (test-read after-test ∙ k .1) (c .good-rate .ensures ∙ rw (toZ-ofZ (s .fits .line)))
+    rate-good (lent (s .args .b) (s .args .t) (s .args .held .now) (s .args .lines .now)) (s .args .heights .now) (s .args .line)
+    (c .good-rate .result) (count-read after-same ∙ then1 .if1 .taken) (k .0 .0) (test-read after-test ∙ k .1)
+    (c .good-rate .ensures ∙ rw (toZ-ofZ (s .fits .line)))
 
 returns-3 : tie.Need-returns-3
 returns-3 c =
     let s : tie.Start = search in
-    rate-four (lent (s .args .b) (s .args .t) (s .args .held .now) (s .args .lines .now)) (s .args .heights .now) (s .args .line) (c .refuse .result) (count-read (c .before .before) ∙ c .before .if1 .left) (c .refuse .ensures)
+    rate-four (lent (s .args .b) (s .args .t) (s .args .held .now) (s .args .lines .now)) (s .args .heights .now) (s .args .line)
+    (c .refuse .result) (count-read (c .before .before) ∙ c .before .if1 .left) (c .refuse .ensures)
 
 pub rate-spec : {M : Type 1} → statement M
 rate-spec =

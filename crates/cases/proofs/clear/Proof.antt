@@ -23,7 +23,8 @@ loop-again c =
     let l = c .before in
     let s₀ = l .before .args .s .now in
     let n = length-replicate (length s₀) untouched in
-    laid-next _ _ _ (l .loop .i) _ untouched (omega (arith, n)) (omega (arith, n, l .loop .inv .as-long)) (sym (getD-replicate (length s₀) (l .loop .i) untouched untouched (omega (arith, l .loop .inv .as-long)))) (l .loop .inv)
+    laid-next _ _ _ (l .loop .i) _ untouched (omega (arith, n)) (omega (arith, n, l .loop .inv .as-long))
+    (sym (getD-replicate (length s₀) (l .loop .i) untouched untouched (omega (arith, l .loop .inv .as-long)))) (l .loop .inv)
 
 returns : tie.Need-returns Inv-loop μ-loop
 returns c =

@@ -9,7 +9,8 @@ slice-aggregate-write-all : tie.Need-slice-aggregate-write-all
 slice-aggregate-write-all c = put-part (c .before .before .put-spaced .ensures) (omega arith)
 
 returns : tie.Need-returns
-returns c = let s : tie.Start = search in put-all (c .before .before .before .put-spaced .ensures) (spaced-room (s .args .n) (s .fits .n .fits))
+returns c =
+    let s : tie.Start = search in put-all (c .before .before .before .put-spaced .ensures) (spaced-room (s .args .n) (s .fits .n .fits))
 
 pub put-spec : {M : Type 1} → statement M
 put-spec =

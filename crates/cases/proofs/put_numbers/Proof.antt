@@ -10,7 +10,12 @@ use Rattle.cases.proofs.put_numbers.Statement.{statement}
 use Rattle.cases.proofs.put_numbers.Tie as tie
 
 slice-aggregate-put-listed : tie.Need-slice-aggregate-put-listed
-slice-aggregate-put-listed c = omega (arith, length-take (c .before .before .at-most .result) (c .before .before .before .before .args .s .now), c .before .before .at-most .ensures)
+slice-aggregate-put-listed c =
+    omega (
+      arith,
+      length-take (c .before .before .at-most .result) (c .before .before .before .before .args .s .now),
+      c .before .before .at-most .ensures,
+    )
 
 returns : tie.Need-returns
 unfolding numbersText bytes
@@ -19,8 +24,10 @@ returns c =
     let sign : tie.After-put = search in
     let most : tie.After-at-most = search in
     let s : tie.Start = search in
-    let first : take (most .at-most .result) (s .args .s .now) ≡ take 7 (s .args .s .now) = take-most _ 7 (s .args .s .now) (most .at-most .ensures) in
-    rw first at (list .put-listed .ensures) then sign .put .ensures then (rw (c .before .before .before .digest .ensures) at (c .before .before .put-number .ensures))
+    let first : take (most .at-most .result) (s .args .s .now) ≡ take 7 (s .args .s .now) =
+    take-most _ 7 (s .args .s .now) (most .at-most .ensures) in
+    rw first at (list .put-listed .ensures) then sign .put .ensures then
+    (rw (c .before .before .before .digest .ensures) at (c .before .before .put-number .ensures))
 
 pub put-numbers-spec : {M : Type 1} → statement M
 put-numbers-spec =

@@ -30,7 +30,10 @@ returns : tie.Need-returns
 returns c = let s = c .before .before in sym (half-stays (s .args .g) (s .args .d) (s .pre .0) (rw (size (c .before)) at (c .if1 .taken)))
 
 nearest-size-requires : tie.Need-nearest-size-requires
-nearest-size-requires c κs = (let s = c .before .before in positive (s .args .g) (s .args .d) (s .pre .0) (rw (size (c .before)) at (c .if1 .left)), c .before .before .pre .1 .0)
+nearest-size-requires c κs = (
+  let s = c .before .before in positive (s .args .g) (s .args .d) (s .pre .0) (rw (size (c .before)) at (c .if1 .left)),
+  c .before .before .pre .1 .0,
+)
 
 signed-count-requires : tie.Need-signed-count-requires
 signed-count-requires c κs = small c
@@ -43,14 +46,22 @@ returns-2 c =
     let after-magnitude : tie.After-magnitude = search in
     let s : tie.Start = search in
     stored (c .sub .result) (c .sub .ok) (rw (count (c .before .before), +ℤ-idl) at (c .sub .ensures))
-    ∙ rw (of-negative (s .args .g) (s .args .d) (rw (toZ-ofZ (s .fits .g)) at (c .before .if2 .taken)), c .before .before .before .nearest-size .ensures, size after-magnitude)
+    ∙ rw (
+      of-negative (s .args .g) (s .args .d) (rw (toZ-ofZ (s .fits .g)) at (c .before .if2 .taken)),
+      c .before .before .before .nearest-size .ensures,
+      size after-magnitude,
+    )
 
 returns-3 : tie.Need-returns-3
 returns-3 c =
     let after-magnitude : tie.After-magnitude = search in
     let s : tie.Start = search in
     count (c .before)
-    ∙ rw (of-positive (s .args .g) (s .args .d) (rw (toZ-ofZ (s .fits .g)) at (c .if2 .left)), c .before .before .nearest-size .ensures, size after-magnitude)
+    ∙ rw (
+      of-positive (s .args .g) (s .args .d) (rw (toZ-ofZ (s .fits .g)) at (c .if2 .left)),
+      c .before .before .nearest-size .ensures,
+      size after-magnitude,
+    )
 
 pub move-by-spec : {M : Type 1} → statement M
 move-by-spec =

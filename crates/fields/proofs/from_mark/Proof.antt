@@ -9,12 +9,14 @@ use Rattle.fields.proofs.from_mark.Statement.{statement}
 use Rattle.fields.proofs.from_mark.Tie as tie
 
 index-requires : tie.Need-index-requires
-index-requires c κs = let s = c .before in rw (back (fromAt (s .args .lines .now) (s .args .i)) (c .index-arg .given)) (not-negative (s .pre .good .from))
+index-requires c κs =
+    let s = c .before in rw (back (fromAt (s .args .lines .now) (s .args .i)) (c .index-arg .given)) (not-negative (s .pre .good .from))
 
 returns : tie.Need-returns
 returns c =
     let s = c .before .before in
-    let e : c .index .result ≡ natAbs (fromAt (s .args .lines .now) (s .args .i)) = c .index .ensures ∙ rw (back (fromAt (s .args .lines .now) (s .args .i)) (c .before .index-arg .given)) in
+    let e : c .index .result ≡ natAbs (fromAt (s .args .lines .now) (s .args .i)) =
+    c .index .ensures ∙ rw (back (fromAt (s .args .lines .now) (s .args .i)) (c .before .index-arg .given)) in
     (e, omega (arith, s .pre .good .from .low), omega (arith, s .pre .good .from .high))
 
 pub from-mark-spec : {M : Type 1} → statement M

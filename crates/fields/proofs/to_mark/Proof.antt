@@ -9,12 +9,14 @@ use Rattle.fields.proofs.to_mark.Statement.{statement}
 use Rattle.fields.proofs.to_mark.Tie as tie
 
 index-requires : tie.Need-index-requires
-index-requires c κs = let s = c .before in rw (back (toAt (s .args .lines .now) (s .args .i)) (c .index-arg .given)) (not-negative (s .pre .good .to))
+index-requires c κs =
+    let s = c .before in rw (back (toAt (s .args .lines .now) (s .args .i)) (c .index-arg .given)) (not-negative (s .pre .good .to))
 
 returns : tie.Need-returns
 returns c =
     let s = c .before .before in
-    let e : c .index .result ≡ natAbs (toAt (s .args .lines .now) (s .args .i)) = c .index .ensures ∙ rw (back (toAt (s .args .lines .now) (s .args .i)) (c .before .index-arg .given)) in
+    let e : c .index .result ≡ natAbs (toAt (s .args .lines .now) (s .args .i)) =
+    c .index .ensures ∙ rw (back (toAt (s .args .lines .now) (s .args .i)) (c .before .index-arg .given)) in
     (e, omega (arith, s .pre .good .to .low), omega (arith, s .pre .good .to .high))
 
 pub to-mark-spec : {M : Type 1} → statement M

@@ -18,7 +18,13 @@ returns-3 c =
     let l : tie.After-read-entries2 = search in
     let h = l .before .before .before in
     let c₂ = h .before .before in
-    rw (le-ltb _ _ (c₂ .before .if1 .left), le-ltb _ _ (c₂ .if2 .left), h .read-entries .ensures, l .read-entries2 .ensures, c .none .ensures)
+    rw (
+      le-ltb _ _ (c₂ .before .if1 .left),
+      le-ltb _ _ (c₂ .if2 .left),
+      h .read-entries .ensures,
+      l .read-entries2 .ensures,
+      c .none .ensures,
+    )
 
 pub fill-spec : {M : Type 1} → statement M
 fill-spec =

@@ -30,13 +30,15 @@ loop-again : tie.Need-loop-again Inv-loop μ-loop
 loop-again c =
     let in-loop : tie.In-loop Inv-loop μ-loop = search in
     let l = in-loop .before in
-    compare-next _ _ (l .before .if1 .left) (l .loop .place) (in-loop .loop-test .taken) (l .loop .inv) (sym (flag (c .before)) ∙ c .if2 .taken)
+    compare-next _ _ (l .before .if1 .left) (l .loop .place) (in-loop .loop-test .taken) (l .loop .inv)
+    (sym (flag (c .before)) ∙ c .if2 .taken)
 
 returns-2 : tie.Need-returns-2 Inv-loop μ-loop
 returns-2 c =
     let in-loop : tie.In-loop Inv-loop μ-loop = search in
     let l = in-loop .before in
-    compare-stop _ _ (l .before .if1 .left) (l .loop .place) (in-loop .loop-test .taken) (l .loop .inv) (sym (flag (c .before)) ∙ c .if2 .left)
+    compare-stop _ _ (l .before .if1 .left) (l .loop .place) (in-loop .loop-test .taken) (l .loop .inv)
+    (sym (flag (c .before)) ∙ c .if2 .left)
 
 returns-3 : tie.Need-returns-3 Inv-loop μ-loop
 returns-3 c = compare-end _ _ (c .before .loop .place) (c .loop-test .left) (c .before .loop .inv)

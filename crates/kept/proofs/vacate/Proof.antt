@@ -24,8 +24,12 @@ loop-again c =
     let l = c .before in
     let p = l .before .pre in
     let g = l .before .args in
-    let n = zeroed-length (pos 0) (g .out .now) (g .a) (g .e) (p .0) (p .1) in
-    (omega arith, laid-next _ _ _ (l .loop .i) _ (pos 0) (omega arith) (omega arith) (zeroed-at (pos 0) (g .out .now) (g .a) (g .e) (p .0) (p .1) (l .loop .i) (pos 0) (l .loop .inv .0) (c .loop-test .taken)) (l .loop .inv .1))
+    let n = zeroed-length (pos 0) (g .out .now) (g .a) (g .e) (p .0) (p .1) in (
+      omega arith,
+      laid-next _ _ _ (l .loop .i) _ (pos 0) (omega arith) (omega arith)
+          (zeroed-at (pos 0) (g .out .now) (g .a) (g .e) (p .0) (p .1) (l .loop .i) (pos 0) (l .loop .inv .0) (c .loop-test .taken))
+          (l .loop .inv .1),
+    )
 
 same-length : tie.Need-same-length Inv-loop μ-loop
 same-length c = c .before .loop .inv .1 .as-long

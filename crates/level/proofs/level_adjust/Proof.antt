@@ -8,7 +8,9 @@ use Rattle.level.proofs.level_adjust.Statement.{statement}
 use Rattle.level.proofs.level_adjust.Tie as tie
 
 -- what the call below answered, at the numbers that were lent
-called : (c : tie.After-adjust) → (let a = c .before .before .args in c .adjust .result ≡ adjustOf (lent (a .b) (a .t) (a .held .now) (a .lines .now)) (a .heights .now) .answer)
+called : (c : tie.After-adjust)
+    → (let a = c .before .before .args in c .adjust .result
+    ≡ adjustOf (lent (a .b) (a .t) (a .held .now) (a .lines .now)) (a .heights .now) .answer)
 called c = ap (λ (o : Given). o .answer) (c .adjust .ensures) ∙ search needs
 
 adjust-answer-requires : tie.Need-adjust-answer-requires

@@ -9,7 +9,9 @@ use Rattle.level.proofs.level_listing.Statement.{statement}
 use Rattle.level.proofs.level_listing.Tie as tie
 
 -- what the call below answered, at the numbers that were lent
-called : (c : tie.After-listing) → (let a = c .before .before .args in c .listing .result ≡ listingOf (lent (a .b) (a .t) (a .held .now) (a .lines .now)) (a .number) (a .out .now) .answer)
+called : (c : tie.After-listing)
+    → (let a = c .before .before .args in c .listing .result
+    ≡ listingOf (lent (a .b) (a .t) (a .held .now) (a .lines .now)) (a .number) (a .out .now) .answer)
 called c = ap (λ (o : Listing). o .answer) (c .listing .ensures) ∙ search needs
 
 listing-answer-requires : tie.Need-listing-answer-requires
@@ -17,7 +19,8 @@ listing-answer-requires c κs =
     let r = c .before in
     let s = r .before .before in
     let a = s .args in
-    subst SmallListed (sym (called r)) (listing-small (lent (a .b) (a .t) (a .held .now) (a .lines .now)) (a .out .now) (omega (arith, s .good)) (a .number))
+    subst SmallListed (sym (called r)) (listing-small (lent (a .b) (a .t) (a .held .now) (a .lines .now)) (a .out .now)
+    (omega (arith, s .good)) (a .number))
 
 returns : tie.Need-returns
 returns c = rw (c .listing-answer .ensures) (ap ofListing (c .before .before .listing .ensures) ∙ search needs)

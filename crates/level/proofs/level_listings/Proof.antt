@@ -9,7 +9,9 @@ use Rattle.level.proofs.level_listings.Statement.{statement}
 use Rattle.level.proofs.level_listings.Tie as tie
 
 -- what the call below answered, at the numbers that were lent
-called : (c : tie.After-listings) → (let a = c .before .before .args in c .listings .result ≡ listingsOf (lent (a .b) (a .t) (a .held .now) (a .lines .now)) (a .out .now) .answer)
+called : (c : tie.After-listings)
+    → (let a = c .before .before .args in c .listings .result
+    ≡ listingsOf (lent (a .b) (a .t) (a .held .now) (a .lines .now)) (a .out .now) .answer)
 called c = ap (λ (o : Listing). o .answer) (c .listings .ensures) ∙ search needs
 
 listing-answer-requires : tie.Need-listing-answer-requires
@@ -17,7 +19,8 @@ listing-answer-requires c κs =
     let r = c .before in
     let s = r .before .before in
     let a = s .args in
-    subst SmallListed (sym (called r)) (listings-small (lent (a .b) (a .t) (a .held .now) (a .lines .now)) (a .out .now) (omega (arith, s .good)))
+    subst SmallListed (sym (called r)) (listings-small (lent (a .b) (a .t) (a .held .now) (a .lines .now)) (a .out .now)
+    (omega (arith, s .good)))
 
 returns : tie.Need-returns
 returns c = rw (c .listing-answer .ensures) (ap ofListing (c .before .before .listings .ensures) ∙ search needs)

@@ -8,7 +8,9 @@ use Rattle.level.proofs.level_rate.Statement.{statement}
 use Rattle.level.proofs.level_rate.Tie as tie
 
 -- what the call below answered, at the numbers that were lent
-called : (c : tie.After-rate) → (let a = c .before .args in c .rate .result ≡ rateAnswer (lent (a .b) (a .t) (a .held .now) (a .lines .now)) (a .heights .now) (a .line))
+called : (c : tie.After-rate)
+    → (let a = c .before .args in c .rate .result ≡ rateAnswer (lent (a .b) (a .t) (a .held .now) (a .lines .now)) (a .heights .now)
+    (a .line))
 called c = c .rate .ensures ∙ search needs
 
 rate-answer-requires : tie.Need-rate-answer-requires

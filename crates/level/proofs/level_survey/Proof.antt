@@ -8,7 +8,9 @@ use Rattle.level.proofs.level_survey.Statement.{statement}
 use Rattle.level.proofs.level_survey.Tie as tie
 
 -- what the call below answered, at the numbers that were lent
-called : (c : tie.After-survey) → (let a = c .before .before .args in c .survey .result ≡ surveyOf (lent (a .b) (a .t) (a .held .now) (a .lines .now)) (a .rows .now) .answer)
+called : (c : tie.After-survey)
+    → (let a = c .before .before .args in c .survey .result
+    ≡ surveyOf (lent (a .b) (a .t) (a .held .now) (a .lines .now)) (a .rows .now) .answer)
 called c = ap (λ (o : Surveyed). o .answer) (c .survey .ensures) ∙ search needs
 
 survey-answer-requires : tie.Need-survey-answer-requires

@@ -8,7 +8,9 @@ use Rattle.level.proofs.level_withdraw.Statement.{statement}
 use Rattle.level.proofs.level_withdraw.Tie as tie
 
 -- what the call below answered, at the numbers that were lent
-called : (c : tie.After-withdraw) → (let a = c .before .before .before .args in c .withdraw .result ≡ withdrawOf (lent (a .b) (a .t) (a .held .now) (a .lines .now)) (a .report .now) (a .line) .answer)
+called : (c : tie.After-withdraw)
+    → (let a = c .before .before .before .args in c .withdraw .result
+    ≡ withdrawOf (lent (a .b) (a .t) (a .held .now) (a .lines .now)) (a .report .now) (a .line) .answer)
 called c = ap (λ (o : Corrected). o .answer) (c .withdraw .ensures) ∙ search needs
 
 survey-answer-requires : tie.Need-survey-answer-requires

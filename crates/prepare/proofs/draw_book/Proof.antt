@@ -30,23 +30,38 @@ loop-holds c =
     let after-zero : tie.After-zero Inv-loop μ-loop = search in
     let entry : tie.Start Inv-loop μ-loop = search in
     let p = entry .pre in
-    let z = c .before .before .zero2 in
-    (omega arith, refl, refl, refl, draw-start _ _ (after-zero .zero .last .0) (z .last .0) _ (p .some-mark) (omega (arith, p .ends-at)) (record { heads = omega (arith, p .chains .heads); nexts = p .chains .nexts }) (after-zero .zero .ensures) (z .ensures))
+    let z = c .before .before .zero2 in (
+      omega arith,
+      refl,
+      refl,
+      refl,
+      draw-start _ _ (after-zero .zero .last .0) (z .last .0) _ (p .some-mark) (omega (arith, p .ends-at))
+          (record { heads = omega (arith, p .chains .heads); nexts = p .chains .nexts }) (after-zero .zero .ensures) (z .ensures),
+    )
 
 draw-line-requires : tie.Need-draw-line-requires Inv-loop μ-loop
 draw-line-requires c κs =
     let at-loop : tie.At-loop Inv-loop μ-loop = search in
     let entry : tie.Start Inv-loop μ-loop = search in
     let v = at-loop .loop .inv in
-    entry-asked _ _ _ _ _ _ _ _ _ (omega arith) (v .0) (entry .pre) (record { heads = omega (arith, v .2, entry .pre .chains .heads); nexts = omega (arith, v .3, entry .pre .chains .nexts) }) (v .4)
+    entry-asked _ _ _ _ _ _ _ _ _ (omega arith) (v .0) (entry .pre)
+    (record { heads = omega (arith, v .2, entry .pre .chains .heads); nexts = omega (arith, v .3, entry .pre .chains .nexts) }) (v .4)
 
 loop-again : tie.Need-loop-again Inv-loop μ-loop
 loop-again c =
     let after-draw-line : tie.After-draw-line Inv-loop μ-loop = search in
     let at-loop : tie.At-loop Inv-loop μ-loop = search in
     let entry : tie.Start Inv-loop μ-loop = search in
-    let v = at-loop .loop .inv in
-    (omega arith, omega arith, omega arith, omega arith, draw-turn _ _ _ _ _ _ _ _ _ (omega arith) (v .0) (entry .pre) (record { heads = omega (arith, v .2, entry .pre .chains .heads); nexts = omega (arith, v .3, entry .pre .chains .nexts) }) (v .4) _ _ _ (after-draw-line .draw-line .ensures))
+    let v = at-loop .loop .inv in (
+      omega arith,
+      omega arith,
+      omega arith,
+      omega arith,
+      draw-turn _ _ _ _ _ _ _ _ _ (omega arith) (v .0) (entry .pre)
+          (record { heads = omega (arith, v .2, entry .pre .chains .heads); nexts = omega (arith, v .3, entry .pre .chains .nexts) })
+          (v .4) _
+          _ _ (after-draw-line .draw-line .ensures),
+    )
 
 returns : tie.Need-returns Inv-loop μ-loop
 returns c =

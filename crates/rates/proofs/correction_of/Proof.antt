@@ -20,7 +20,8 @@ to-read c = back (c .before .args .line .to) (c .struct-told .given .1 .0 .1)
 from-read : (c : tie.After-struct-told2) → (let s : tie.Start = search in toZ w64 (ofZ w64 (s .args .line .from)) ≡ s .args .line .from)
 from-read c = let s : tie.Start = search in back (s .args .line .from) (c .struct-told2 .given .0 .1)
 
-difference-read : (c : tie.After-struct-told3) → (let s : tie.Start = search in toZ w64 (ofZ w64 (s .args .line .difference)) ≡ s .args .line .difference)
+difference-read : (c : tie.After-struct-told3)
+    → (let s : tie.Start = search in toZ w64 (ofZ w64 (s .args .line .difference)) ≡ s .args .line .difference)
 difference-read c = let s : tie.Start = search in back (s .args .line .difference) (c .struct-told3 .given .1 .1 .0 .1)
 
 height-read : (s : tie.Start) (i : ℕ) → toZ w64 (ofZ w64 (getD (s .args .heights .now) i (pos 0))) ≡ getD (s .args .heights .now) i (pos 0)
@@ -46,7 +47,8 @@ adjusted-read c =
     let s : tie.Start = search in
     let to : tie.After-index = search in
     let from : tie.After-index2 = search in
-    stored (c .sub .result) (c .sub .ok) (c .sub .ensures ∙ rw (height-read s (to .index .result - 1), height-read s (from .index2 .result - 1)))
+    stored (c .sub .result) (c .sub .ok) (c .sub .ensures ∙ rw
+    (height-read s (to .index .result - 1), height-read s (from .index2 .result - 1)))
 
 adjusted-size : (c : tie.After-sub) → natAbs (adjusted-of c) ≤ 100000000000
 adjusted-size c =
@@ -55,7 +57,12 @@ adjusted-size c =
     let from : tie.After-index2 = search in
     let t = to .index .result - 1 in
     let f = from .index2 .result - 1 in
-    omega (arith, size-sub (getD (s .args .heights .now) t (pos 0)) (getD (s .args .heights .now) f (pos 0)), s .pre .1 .inside t, s .pre .1 .inside f)
+    omega (
+      arith,
+      size-sub (getD (s .args .heights .now) t (pos 0)) (getD (s .args .heights .now) f (pos 0)),
+      s .pre .1 .inside t,
+      s .pre .1 .inside f,
+    )
 
 index-requires : tie.Need-index-requires
 index-requires c κs = rw (to-read c) (not-negative (c .before .pre .0 .to))

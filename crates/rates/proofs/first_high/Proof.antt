@@ -23,7 +23,8 @@ abbrev μ-loop : tie.MeasureT-loop
 μ-loop heights n i₀ i = length heights - i
 
 -- what the constructor answered of the height at place i
-made : (c : tie.After-in-work Inv-loop μ-loop) → (let s : tie.Start Inv-loop μ-loop = search in let at : tie.At-loop Inv-loop μ-loop = search in
+made : (c : tie.After-in-work Inv-loop μ-loop)
+    → (let s : tie.Start Inv-loop μ-loop = search in let at : tie.At-loop Inv-loop μ-loop = search in
     c .in-work .result ≡ workHeightOf (getD (s .args .heights .now) (at .loop .i) (pos 0)))
 made c =
     let s : tie.Start Inv-loop μ-loop = search in
@@ -54,7 +55,9 @@ loop-again c =
 
 returns-2 : tie.Need-returns-2 Inv-loop μ-loop
 unfolding firstHigh
-returns-2 c = let s = c .before .before in scan-end (highAt (s .args .heights .now)) (length (s .args .heights .now)) (c .before .loop .i) (c .loop-test .left) (c .before .loop .inv .1)
+returns-2 c =
+    let s = c .before .before in scan-end (highAt (s .args .heights .now)) (length (s .args .heights .now)) (c .before .loop .i)
+    (c .loop-test .left) (c .before .loop .inv .1)
 
 pub first-high-spec : {M : Type 1} → statement M
 first-high-spec =

@@ -14,7 +14,8 @@ use borrow.Author.Needs.{needs}
 use Rattle.rates.proofs.good_rate.Statement.{statement}
 use Rattle.rates.proofs.good_rate.Tie as tie
 
-out-read : (c : tie.After-outside) → (let s = c .before .before in outZ (pos 1) (pos (s .args .book .lines)) (s .args .line) ≡ c .outside .result)
+out-read : (c : tie.After-outside)
+    → (let s = c .before .before in outZ (pos 1) (pos (s .args .book .lines)) (s .args .line) ≡ c .outside .result)
 out-read c =
     let s = c .before .before in
     let k = c .before .signed-count in
@@ -32,7 +33,8 @@ unfolding goodRate
 returns-2 c =
     let after-outside : tie.After-outside = search in
     let f = c .before .before .first-high in
-    rw (out-read after-outside ∙ c .before .before .before .if1 .left, ← f .ensures, lt-ltb 0 (f .result) (c .before .if2 .taken)) (c .refuse2 .ensures)
+    rw (out-read after-outside ∙ c .before .before .before .if1 .left, ← f .ensures, lt-ltb 0 (f .result) (c .before .if2 .taken))
+    (c .refuse2 .ensures)
 
 index-requires : tie.Need-index-requires
 index-requires c κs =
@@ -46,7 +48,11 @@ line-rate-requires c κs =
     let e : c .index .result ≡ natAbs (s .args .line) = c .index .ensures ∙ rw (toZ-ofZ (s .fits .line)) in
     let z : c .before .before .first-high .result ≡ 0 = omega (arith, c .before .if2 .left) in (
       (omega (arith, k .low), omega (arith, k .high, s .pre .0 .whole)),
-      (s .pre .0 .each (c .index .result - 1) (omega (arith, k .low, k .high)), working-lent (s .args .heights .now) (s .args .book .marks) (s .pre .1) (sym (c .before .before .first-high .ensures) ∙ z)),
+      (
+        s .pre .0 .each (c .index .result - 1) (omega (arith, k .low, k .high)),
+        working-lent (s .args .heights .now)
+            (s .args .book .marks) (s .pre .1) (sym (c .before .before .first-high .ensures) ∙ z),
+      ),
     )
 
 returns-3 : tie.Need-returns-3
@@ -57,7 +63,8 @@ returns-3 c =
     let s : tie.Start = search in
     let f = c .before .before .before .first-high in
     let e : c .before .index .result ≡ natAbs (s .args .line) = c .before .index .ensures ∙ rw (toZ-ofZ (s .fits .line)) in
-    rw (out-read after-outside ∙ else1 .if1 .left, ← f .ensures, le-ltb 0 (f .result) (c .before .before .if2 .left), ← e) (c .line-rate .ensures)
+    rw (out-read after-outside ∙ else1 .if1 .left, ← f .ensures, le-ltb 0 (f .result) (c .before .before .if2 .left), ← e)
+    (c .line-rate .ensures)
 
 pub good-rate-spec : {M : Type 1} → statement M
 good-rate-spec =

@@ -18,7 +18,8 @@ use Rattle.rates.proofs.line_rate.Statement.{statement}
 use Rattle.rates.proofs.line_rate.Tie as tie
 
 -- a tested line is made of its entry
-line-made : (c : tie.After-line-of) → (let s : tie.Start = search in c .line-of .result ≡ made.Good (lineAt (s .args .lines .now) (s .args .line - 1)))
+line-made : (c : tie.After-line-of)
+    → (let s : tie.Start = search in c .line-of .result ≡ made.Good (lineAt (s .args .lines .now) (s .args .line - 1)))
 line-made c =
     let s : tie.Start = search in
     let k = c .before .signed-count in
@@ -31,7 +32,8 @@ line-made c =
 its-is : (c : tie.After-made) → (let s : tie.Start = search in c .made .given .0 .0 ≡ lineAt (s .args .lines .now) (s .args .line - 1))
 its-is c = let m = line-made (c .before .before) in let g = c .made .given .1 in cc
 
-withdrawn-read : (c : tie.After-same) → (let s : tie.Start = search in eqZ (standingAt (s .args .lines .now) (s .args .line - 1)) (pos 0) ≡ c .same .result)
+withdrawn-read : (c : tie.After-same)
+    → (let s : tie.Start = search in eqZ (standingAt (s .args .lines .now) (s .args .line - 1)) (pos 0) ≡ c .same .result)
 withdrawn-read c =
     let known : tie.After-made = search in
     let its = known .made .given .0 .0 in

@@ -17,8 +17,14 @@ write-row-requires c κs =
     let after-run-length : tie.After-run-length = search in
     let entry : tie.Start = search in
     let p = entry .pre in
-    let run = p .1 .0 in
-    (p .1 .1 .1, (omega (arith, p .0 .few-lines, run .each 0 (run .some-line) .high), omega (arith, run .few), omega (arith, after-run-length .run-length .ensures .1)))
+    let run = p .1 .0 in (
+      p .1 .1 .1,
+      (
+        omega (arith, p .0 .few-lines, run .each 0 (run .some-line) .high),
+        omega (arith, run .few),
+        omega (arith, after-run-length .run-length .ensures .1),
+      ),
+    )
 
 returns : tie.Need-returns
 returns c =

@@ -39,7 +39,13 @@ add-sum c =
     let at-loop : tie.At-loop Inv-loop μ-loop = search in
     let entry : tie.Start Inv-loop μ-loop = search in
     let p = entry .pre in
-    omega (arith, c .length-by .ensures, length-size _ _ (p .0) (p .1 .each (at-loop .loop .j) (omega arith)), p .1 .few, at-loop .loop .inv)
+    omega (
+      arith,
+      c .length-by .ensures,
+      length-size _ _ (p .0) (p .1 .each (at-loop .loop .j) (omega arith)),
+      p .1 .few,
+      at-loop .loop .inv,
+    )
 
 add-j : tie.Need-add-j Inv-loop μ-loop
 add-j c =
@@ -52,8 +58,11 @@ loop-again c =
     let entry : tie.Start Inv-loop μ-loop = search in
     let p = entry .pre in
     let v = at-loop .loop .inv in
-    let r = c .length-by .ensures in
-    (omega arith, rw r (length-next _ _ _ _ (omega arith) (v .1)), omega (arith, r, length-size _ _ (p .0) (p .1 .each (at-loop .loop .j) (omega arith)), v))
+    let r = c .length-by .ensures in (
+      omega arith,
+      rw r (length-next _ _ _ _ (omega arith) (v .1)),
+      omega (arith, r, length-size _ _ (p .0) (p .1 .each (at-loop .loop .j) (omega arith)), v),
+    )
 
 returns : tie.Need-returns Inv-loop μ-loop
 returns c =

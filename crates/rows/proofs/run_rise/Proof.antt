@@ -45,7 +45,8 @@ add-requires c κs =
     let at-loop : tie.At-loop Inv-loop μ-loop = search in
     let entry : tie.Start Inv-loop μ-loop = search in
     let p = entry .pre in
-    let s : natAbs (c .rise-by .result) ≤ mostDifference = rw (c .rise-by .ensures) (rise-size _ _ (p .0) (p .1 .each (at-loop .loop .j) (omega arith))) in
+    let s : natAbs (c .rise-by .result) ≤ mostDifference =
+    rw (c .rise-by .ensures) (rise-size _ _ (p .0) (p .1 .each (at-loop .loop .j) (omega arith))) in
     rw (back _ (c .rise-by .ok)) (omega (arith, p .1 .few, at-loop .loop .inv))
 
 add-j : tie.Need-add-j Inv-loop μ-loop

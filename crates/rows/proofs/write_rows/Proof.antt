@@ -10,7 +10,8 @@ use Rattle.rows.proofs.write_rows.Statement.{statement}
 use Rattle.rows.proofs.write_rows.Tie as tie
 
 abbrev Inv-loop : tie.InvT-loop
-Inv-loop lines starts runs count out₀ t i₀ out i = (i ≤ count) × (length out ≡ length out₀) × AllWritten lines starts runs count out₀ t out i
+Inv-loop lines starts runs count out₀ t i₀ out i =
+    (i ≤ count) × (length out ≡ length out₀) × AllWritten lines starts runs count out₀ t out i
 
 abbrev μ-loop : tie.MeasureT-loop
 μ-loop lines starts runs count out₀ t i₀ out i = count - i
@@ -60,7 +61,13 @@ mul-row-of c =
     let entry : tie.Start Inv-loop μ-loop = search in
     let p = entry .pre in
     let tb = p .1 .0 in
-    omega (arith, run-rises tb (at-loop .loop .i) (omega (arith, tb .counted)), run-fits tb (at-loop .loop .i) (omega (arith, tb .counted)), entry .good)
+    omega (
+      arith,
+      run-rises tb (at-loop .loop .i) (omega (arith, tb .counted)),
+      run-fits tb (at-loop .loop .i)
+          (omega (arith, tb .counted)),
+      entry .good,
+    )
 
 sub-row-of : tie.Need-sub-row-of Inv-loop μ-loop
 sub-row-of c =
@@ -106,8 +113,13 @@ row-of-requires : tie.Need-row-of-requires Inv-loop μ-loop
 row-of-requires c κs =
     let at-loop : tie.At-loop Inv-loop μ-loop = search in
     let entry : tie.Start Inv-loop μ-loop = search in
-    let p = entry .pre in
-    (measured _ _ (p .0), (run-in _ _ (p .0) (p .1 .0) (at-loop .loop .i) (omega arith), (p .0 .small-tolerance, simp (length-take, length-drop) (omega (arith, c, at-loop .loop .inv .1, p .1 .1)))))
+    let p = entry .pre in (
+      measured _ _ (p .0),
+      (
+        run-in _ _ (p .0) (p .1 .0) (at-loop .loop .i) (omega arith),
+        (p .0 .small-tolerance, simp (length-take, length-drop) (omega (arith, c, at-loop .loop .inv .1, p .1 .1))),
+      ),
+    )
 
 add-i : tie.Need-add-i Inv-loop μ-loop
 add-i c =
@@ -128,7 +140,8 @@ returns c =
     let at-loop : tie.At-loop Inv-loop μ-loop = search in
     let entry : tie.Start Inv-loop μ-loop = search in
     let p = entry .pre in
-    written-end _ _ _ _ (c .before .loop .i) _ (p .1 .0 .counted) (omega (arith, c .before .loop .inv .0)) (c .before .loop .inv .2 .of _ (p .0) (p .1 .0))
+    written-end _ _ _ _ (c .before .loop .i) _ (p .1 .0 .counted) (omega (arith, c .before .loop .inv .0))
+    (c .before .loop .inv .2 .of _ (p .0) (p .1 .0))
 
 pub write-rows-spec : {M : Type 1} → statement M
 write-rows-spec =

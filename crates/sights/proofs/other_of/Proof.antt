@@ -12,12 +12,14 @@ use borrow.Author.Needs.{needs}
 use Rattle.sights.proofs.other_of.Statement.{statement}
 use Rattle.sights.proofs.other_of.Tie as tie
 
-to-read : (c : tie.After-index) → (let s = c .before .before .before in c .index .result ≡ natAbs (toAt (s .args .lines .now) (placeOf (s .args .h))))
+to-read : (c : tie.After-index)
+    → (let s = c .before .before .before in c .index .result ≡ natAbs (toAt (s .args .lines .now) (placeOf (s .args .h))))
 to-read c =
     let s = c .before .before .before in
     c .index .ensures ∙ rw (back (toAt (s .args .lines .now) (placeOf (s .args .h))) (c .before .index-arg .given))
 
-from-read : (c : tie.After-index2) → (let s = c .before .before .before in c .index2 .result ≡ natAbs (fromAt (s .args .lines .now) (placeOf (s .args .h))))
+from-read : (c : tie.After-index2)
+    → (let s = c .before .before .before in c .index2 .result ≡ natAbs (fromAt (s .args .lines .now) (placeOf (s .args .h))))
 from-read c =
     let s = c .before .before .before in
     c .index2 .ensures ∙ rw (back (fromAt (s .args .lines .now) (placeOf (s .args .h))) (c .before .index-arg2 .given))

@@ -16,8 +16,11 @@ use borrow.Author.Needs.{needs}
 use Rattle.sights.proofs.rise_of.Statement.{statement}
 use Rattle.sights.proofs.rise_of.Tie as tie
 
-difference-read : (s : tie.Start) → toZ w64 (ofZ w64 (differenceAt (s .args .lines .now) (placeOf (s .args .h)))) ≡ differenceAt (s .args .lines .now) (placeOf (s .args .h))
-difference-read s = read (differenceAt (s .args .lines .now) (placeOf (s .args .h))) mostDifference (s .pre .place .good .difference) (omega arith)
+difference-read : (s : tie.Start)
+    → toZ w64 (ofZ w64 (differenceAt (s .args .lines .now) (placeOf (s .args .h))))
+    ≡ differenceAt (s .args .lines .now) (placeOf (s .args .h))
+difference-read s =
+    read (differenceAt (s .args .lines .now) (placeOf (s .args .h))) mostDifference (s .pre .place .good .difference) (omega arith)
 
 sub-requires : tie.Need-sub-requires
 sub-requires c κs = let s = c .before .before in rw (difference-read s) (omega (arith, s .pre .place .good .difference))
@@ -40,4 +43,5 @@ returns-2 c =
 
 pub rise-of-spec : {M : Type 1} → statement M
 rise-of-spec =
-    tie.close (tie.spec (λ c. search needs) (λ c. search needs) (λ c. search needs) (λ c. search needs) (λ c. search needs) sub-requires returns returns-2)
+    tie.close (tie.spec (λ c. search needs) (λ c. search needs) (λ c. search needs) (λ c. search needs) (λ c. search needs) sub-requires
+    returns returns-2)

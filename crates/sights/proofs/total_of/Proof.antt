@@ -9,7 +9,8 @@ use Rattle.sights.proofs.total_of.Statement.{statement}
 use Rattle.sights.proofs.total_of.Tie as tie
 
 abbrev Inv-loop : tie.InvT-loop
-Inv-loop weight a e sum₀ j₀ sum j = (a ≤ j) × (j ≤ e) × (sum ≤ (j - a) * mostWeight) × (sum + weighed weight j (e - j) ≡ weighed weight a (e - a))
+Inv-loop weight a e sum₀ j₀ sum j =
+    (a ≤ j) × (j ≤ e) × (sum ≤ (j - a) * mostWeight) × (sum + weighed weight j (e - j) ≡ weighed weight a (e - a))
 
 abbrev μ-loop : tie.MeasureT-loop
 μ-loop weight a e sum₀ j₀ sum j = e - j

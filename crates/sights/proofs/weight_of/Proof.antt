@@ -12,11 +12,16 @@ use borrow.Author.Needs.{needs}
 use Rattle.sights.proofs.weight_of.Statement.{statement}
 use Rattle.sights.proofs.weight_of.Tie as tie
 
-length-read : (c : tie.After-index) → (let s = c .before .before in c .index .result ≡ natAbs (lengthAt (s .args .lines .now) (placeOf (s .args .h))))
-length-read c = let s = c .before .before in c .index .ensures ∙ rw (back (lengthAt (s .args .lines .now) (placeOf (s .args .h))) (c .before .index-arg .given))
+length-read : (c : tie.After-index)
+    → (let s = c .before .before in c .index .result ≡ natAbs (lengthAt (s .args .lines .now) (placeOf (s .args .h))))
+length-read c =
+    let s = c .before .before in c .index .ensures ∙ rw (back (lengthAt (s .args .lines .now) (placeOf (s .args .h)))
+    (c .before .index-arg .given))
 
 index-requires : tie.Need-index-requires
-index-requires c κs = let s = c .before in rw (back (lengthAt (s .args .lines .now) (placeOf (s .args .h))) (c .index-arg .given)) (not-negative (s .pre .place .good .long))
+index-requires c κs =
+    let s = c .before in rw (back (lengthAt (s .args .lines .now) (placeOf (s .args .h))) (c .index-arg .given))
+    (not-negative (s .pre .place .good .long))
 
 weight-requires : tie.Need-weight-requires
 weight-requires c κs = omega (arith, length-read c, c .before .before .pre .place .good .long .low)
@@ -25,8 +30,11 @@ returns : tie.Need-returns
 returns c =
     let s = c .before .before .before in
     let e = length-read (c .before) in
-    let w = c .weight .ensures ∙ ap weightOf e in
-    (w ∙ sym (weight-here (s .args .lines .now) (s .args .h)), rw w (weight-most (natAbs (lengthAt (s .args .lines .now) (placeOf (s .args .h)))) (s .pre .place .good .long .low)))
+    let w = c .weight .ensures ∙ ap weightOf e in (
+      w ∙ sym (weight-here (s .args .lines .now) (s .args .h)),
+      rw w
+          (weight-most (natAbs (lengthAt (s .args .lines .now) (placeOf (s .args .h)))) (s .pre .place .good .long .low)),
+    )
 
 pub weight-of-spec : {M : Type 1} → statement M
 weight-of-spec =

@@ -26,7 +26,8 @@ start-of c = search
 turn : (c : tie.In-loop Inv-loop μ-loop) →
     (let l = c .before in
     let s = start-of l in
-    Turn (s .args .lines .now) (s .args .n) (s .args .next .now) (s .args .other .now) (s .args .rise .now) (s .args .weight .now) (l .loop .other) (l .loop .rise)
+    Turn (s .args .lines .now) (s .args .n) (s .args .next .now) (s .args .other .now) (s .args .rise .now) (s .args .weight .now)
+    (l .loop .other) (l .loop .rise)
     (l .loop .weight) (s .args .b) (s .args .a) (l .loop .c) (l .loop .h) (sightsOf (standing (s .args .lines .now)) (s .args .m)))
 turn c = turn-of (c .before .loop .inv .3) (c .loop-test .taken)
 
@@ -91,7 +92,8 @@ loop-again c =
         rest = t .rest;
         leads = t .leads;
         filling = filling-next _ _ _ _ _ _ _ _ _ _ _ _ _ _ _
-            (other-low _ _ (half-here _ _ _ (s .pre .0) (s .args .m) (t .some-line) (t .inside))) (w .ensures .0) (w .ensures .1) (t .filling);
+            (other-low _ _ (half-here _ _ _ (s .pre .0) (s .args .m) (t .some-line) (t .inside))) (w .ensures .0) (w .ensures .1)
+            (t .filling);
       },
     )
 

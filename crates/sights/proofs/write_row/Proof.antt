@@ -13,7 +13,8 @@ use Rattle.sights.proofs.write_row.Statement.{statement}
 use Rattle.sights.proofs.write_row.Tie as tie
 
 -- place v is that of mark v + 1
-here : (s : tie.Start) → sightsOf (standing (s .args .lines .now)) (s .args .v + 1) ≡ sightsOf (standing (s .args .lines .now)) (suc (s .args .v))
+here : (s : tie.Start)
+    → sightsOf (standing (s .args .lines .now)) (s .args .v + 1) ≡ sightsOf (standing (s .args .lines .now)) (suc (s .args .v))
 here s = ap (sightsOf (standing (s .args .lines .now))) (add-one (s .args .v))
 
 write-chain-requires : tie.Need-write-chain-requires
@@ -28,7 +29,8 @@ total-of-requires c κs =
     let s : tie.Start = search in
     let w = after-write-chain .write-chain in
     let p = s .pre .1 .1 in
-    row-weights _ _ _ _ _ _ _ _ _ (p .1 .0) (p .0) (p .1 .1) _ (here s) _ _ (w .ensures .0) (w .kept .1 .1 .1 .1 .1 .0) (w .ensures .1 .range .weightIn)
+    row-weights _ _ _ _ _ _ _ _ _ (p .1 .0) (p .0) (p .1 .1) _ (here s) _ _ (w .ensures .0) (w .kept .1 .1 .1 .1 .1 .0)
+    (w .ensures .1 .range .weightIn)
 
 returns : tie.Need-returns
 returns c =
@@ -37,8 +39,10 @@ returns c =
     let w = after-write-chain .write-chain in
     let p = s .pre .1 .1 in
     let e = here s in
-    rowed-next (sightsOf (standing (s .args .lines .now))) _ _ _ _ _ _ _ _ _ _ _ _ _ _ _ (omega (arith, p .1 .0 .firsts)) (omega (arith, p .1 .0 .totals)) (p .0) refl
-    (subst (λ (ss : List Sight). Filled (s .args .other .now) (s .args .rise .now) (s .args .weight .now) (w .last .1 .1 .1 .0) (w .last .1 .1 .1 .1 .0)
+    rowed-next (sightsOf (standing (s .args .lines .now))) _ _ _ _ _ _ _ _ _ _ _ _ _ _ _ (omega (arith, p .1 .0 .firsts))
+    (omega (arith, p .1 .0 .totals)) (p .0) refl
+    (subst (λ (ss : List Sight). Filled (s .args .other .now) (s .args .rise .now) (s .args .weight .now) (w .last .1 .1 .1 .0)
+    (w .last .1 .1 .1 .1 .0)
     (w .last .1 .1 .1 .1 .1 .0) (s .args .b) (s .args .c) ss) e (w .ensures .1))
     (w .ensures .0 ∙ ap (λ (ss : List Sight). s .args .c + length ss) e) refl (c .total-of .ensures)
 

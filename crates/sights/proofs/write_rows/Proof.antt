@@ -12,7 +12,8 @@ use Rattle.sights.proofs.write_rows.Tie as tie
 
 abbrev Inv-loop : tie.InvT-loop
 Inv-loop lines head next first₀ other₀ rise₀ weight₀ total₀ b n c₀ v₀ first other rise weight total c v =
-    (v ≤ b) × (length first ≡ length first₀) × (length other ≡ length other₀) × (length rise ≡ length rise₀) × (length weight ≡ length weight₀) × (length total ≡ length total₀)
+    (v ≤ b) × (length first ≡ length first₀) × (length other ≡ length other₀) × (length rise ≡ length rise₀)
+    × (length weight ≡ length weight₀) × (length total ≡ length total₀)
     × Rowed (sightsOf (standing lines)) first other rise weight total b v c
 
 abbrev μ-loop : tie.MeasureT-loop
@@ -20,16 +21,38 @@ abbrev μ-loop : tie.MeasureT-loop
 
 loop-holds : tie.Need-loop-holds Inv-loop μ-loop
 loop-holds c =
-    let s : tie.Start Inv-loop μ-loop = search in
-    (search needs, refl, refl, refl, refl, refl, rowed-none (sightsOf (standing (s .args .lines .now))) (s .args .first .now) (s .args .other .now) (s .args .rise .now) (s .args .weight .now) (s .args .total .now) (s .args .b) (s .pre .1 .1 .0))
+    let s : tie.Start Inv-loop μ-loop = search in (
+      search needs,
+      refl,
+      refl,
+      refl,
+      refl,
+      refl,
+      rowed-none (sightsOf (standing (s .args .lines .now))) (s .args .first .now)
+          (s .args .other .now) (s .args .rise .now) (s .args .weight .now) (s .args .total .now) (s .args .b) (s .pre .1 .1 .0),
+    )
 
 write-row-requires : tie.Need-write-row-requires Inv-loop μ-loop
 write-row-requires c κs =
     let in-loop : tie.In-loop Inv-loop μ-loop = search in
     let at-loop : tie.At-loop Inv-loop μ-loop = search in
     let s : tie.Start Inv-loop μ-loop = search in
-    let l = at-loop .loop in
-    (s .pre .0, (s .pre .1 .0, (l .inv .6, (broad-kept (sightsOf (standing (s .args .lines .now))) (s .args .first .now) (s .args .other .now) (s .args .rise .now) (s .args .weight .now) (s .args .total .now) (l .first) (l .other) (l .rise) (l .weight) (l .total) (s .args .b) (s .pre .1 .1 .1) (l .inv .1) (l .inv .2) (l .inv .3) (l .inv .4) (l .inv .5), in-loop .loop-test .taken))))
+    let l = at-loop .loop in (
+      s .pre .0,
+      (
+        s .pre .1 .0,
+        (
+          l .inv .6,
+          (
+            broad-kept (sightsOf (standing (s .args .lines .now))) (s .args .first .now)
+                (s .args .other .now) (s .args .rise .now) (s .args .weight .now) (s .args .total .now) (l .first) (l .other) (l .rise)
+                (l .weight)
+                (l .total) (s .args .b) (s .pre .1 .1 .1) (l .inv .1) (l .inv .2) (l .inv .3) (l .inv .4) (l .inv .5),
+            in-loop .loop-test .taken,
+          ),
+        ),
+      ),
+    )
 
 add-v : tie.Need-add-v Inv-loop μ-loop
 add-v c =
@@ -88,11 +111,18 @@ returns c =
     let l = c .before .loop in
     let e : l .v ≡ s .args .b = omega (arith, c .loop-test .left) in
     let f = set (l .first) (s .args .b) (l .c) in
-    let h = subst (λ (v : ℕ). Rowed (sightsOf (standing (s .args .lines .now))) (l .first) (l .other) (l .rise) (l .weight) (l .total) (s .args .b) v (l .c)) e (l .inv .6) in
-    let r = broad-kept (sightsOf (standing (s .args .lines .now))) (s .args .first .now) (s .args .other .now) (s .args .rise .now) (s .args .weight .now) (s .args .total .now) f (l .other) (l .rise) (l .weight) (l .total) (s .args .b) (s .pre .1 .1 .1) (simp length-set (l .inv .1)) (l .inv .2) (l .inv .3) (l .inv .4) (l .inv .5) in
+    let h =
+    subst (λ (v : ℕ). Rowed (sightsOf (standing (s .args .lines .now))) (l .first) (l .other) (l .rise) (l .weight) (l .total)
+    (s .args .b) v (l .c)) e (l .inv .6) in
+    let r =
+    broad-kept (sightsOf (standing (s .args .lines .now))) (s .args .first .now) (s .args .other .now) (s .args .rise .now)
+    (s .args .weight .now) (s .args .total .now) f (l .other) (l .rise) (l .weight) (l .total) (s .args .b) (s .pre .1 .1 .1)
+    (simp length-set (l .inv .1)) (l .inv .2) (l .inv .3) (l .inv .4) (l .inv .5) in
     let k : s .args .b < length (l .first) = omega (arith, s .pre .1 .1 .1 .firsts, l .inv .1) in (
-      table-is (sightsOf (standing (s .args .lines .now))) (l .first) (l .other) (l .rise) (l .weight) (l .total) f (s .args .b) (l .c) r h k refl,
-      rows-are (sightsOf (standing (s .args .lines .now))) (l .first) (l .other) (l .rise) (l .weight) (l .total) f (s .args .b) (l .c) r h k refl,
+      table-is (sightsOf (standing (s .args .lines .now))) (l .first) (l .other) (l .rise) (l .weight) (l .total) f (s .args .b) (l .c) r
+          h k refl,
+      rows-are (sightsOf (standing (s .args .lines .now))) (l .first) (l .other) (l .rise) (l .weight) (l .total) f (s .args .b) (l .c) r
+          h k refl,
     )
 
 pub write-rows-spec : {M : Type 1} → statement M

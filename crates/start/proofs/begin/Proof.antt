@@ -13,7 +13,8 @@ use Rattle.start.proofs.begin.Statement.{statement}
 use Rattle.start.proofs.begin.Tie as tie
 
 abbrev Inv-loop : tie.InvT-loop
-Inv-loop flags own root over base h₀ b v₀ h v = (v ≤ b) × (length h ≡ length h₀) × ((u : ℕ) → u < v → getD h u (pos 0) ≡ startAt flags own root over base u)
+Inv-loop flags own root over base h₀ b v₀ h v =
+    (v ≤ b) × (length h ≡ length h₀) × ((u : ℕ) → u < v → getD h u (pos 0) ≡ startAt flags own root over base u)
 
 abbrev μ-loop : tie.MeasureT-loop
 μ-loop flags own root over base h₀ b v₀ h v = b - v
@@ -49,7 +50,9 @@ loop-again c =
     let r = c .start-at in (
       omega (arith, c .before .loop-test .taken),
       simp length-set (l .inv .1),
-      fill-next (pos 0) (startAt (s .args .flags .now) (s .args .own .now) (s .args .root .now) (s .args .over .now) (s .args .base .now)) (l .h) (l .v) (toZ w64 (ofZ w64 (r .result))) (omega (arith, c .before .loop-test .taken, s .pre .0, l .inv .1)) (stored (r .result) (r .ok) (r .ensures)) (l .inv .2),
+      fill-next (pos 0) (startAt (s .args .flags .now) (s .args .own .now) (s .args .root .now) (s .args .over .now)
+          (s .args .base .now)) (l .h) (l .v) (toZ w64 (ofZ w64 (r .result)))
+          (omega (arith, c .before .loop-test .taken, s .pre .0, l .inv .1)) (stored (r .result) (r .ok) (r .ensures)) (l .inv .2),
     )
 
 same-length : tie.Need-same-length Inv-loop μ-loop

@@ -25,7 +25,19 @@ shared-slice-read-j c =
 come-in-requires : tie.Need-come-in-requires
 come-in-requires c κs =
     let s : tie.Start = search in
-    let g = s .pre .1 .0 .marks (s .args .k) (s .pre .1 .1 .1 .0) in (s .pre .0, (s .pre .1 .1 .0 .spotted, (g .0, g .1, s .pre .1 .0 .lines (s .args .k) (s .pre .1 .1 .1 .0), omega (arith, s .pre .1 .1 .1 .0, s .pre .1 .1 .1 .1))))
+    let g =
+    s .pre .1 .0 .marks (s .args .k) (s .pre .1 .1 .1 .0) in (
+      s .pre .0,
+      (
+        s .pre .1 .1 .0 .spotted,
+        (
+          g .0,
+          g .1,
+          s .pre .1 .0 .lines (s .args .k) (s .pre .1 .1 .1 .0),
+          omega (arith, s .pre .1 .1 .1 .0, s .pre .1 .1 .1 .1),
+        ),
+      ),
+    )
 
 sub-root : tie.Need-sub-root
 sub-root c =
@@ -61,10 +73,15 @@ returns : tie.Need-returns
 returns c =
     let s : tie.Start = search in
     let r = c .before .come-in in
-    let e : toZ w64 (ofZ w64 (r .result .over)) ≡ r .result .over = read (r .result .over) ((s .args .k + 1) * mostDifference) (r .ensures .size) (omega (arith, s .pre .1 .1 .1 .0, s .pre .1 .1 .1 .1)) in
+    let e : toZ w64 (ofZ w64 (r .result .over)) ≡ r .result .over =
+    read (r .result .over) ((s .args .k + 1) * mostDifference) (r .ensures .size)
+    (omega (arith, s .pre .1 .1 .1 .0, s .pre .1 .1 .1 .1)) in
     rw e
-    (entered (s .args .lines .now) (s .args .order .now) (s .args .best .now) (s .args .b) (s .args .n) (s .args .k) (s .pre .1 .0) (s .pre .1 .1 .1 .0) (s .args .root .now) (s .args .over .now) (r .result .root) (r .result .over) (s .pre .1 .1 .0)
-    (ends-of (s .args .lines .now) (s .args .b) (s .args .n) (s .pre .0) (lineIn (s .args .best .now) (getD (s .args .order .now) (s .args .k) 0)) (s .pre .1 .0 .lines (s .args .k) (s .pre .1 .1 .1 .0))) (r .ensures))
+    (entered (s .args .lines .now) (s .args .order .now) (s .args .best .now) (s .args .b) (s .args .n) (s .args .k) (s .pre .1 .0)
+    (s .pre .1 .1 .1 .0) (s .args .root .now) (s .args .over .now) (r .result .root) (r .result .over) (s .pre .1 .1 .0)
+    (ends-of (s .args .lines .now) (s .args .b) (s .args .n) (s .pre .0)
+    (lineIn (s .args .best .now) (getD (s .args .order .now) (s .args .k) 0)) (s .pre .1 .0 .lines (s .args .k) (s .pre .1 .1 .1 .0)))
+    (r .ensures))
 
 pub enter-spec : {M : Type 1} → statement M
 enter-spec =

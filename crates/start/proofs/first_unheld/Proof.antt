@@ -27,7 +27,9 @@ sub-if1 c = let s = c .before .before .before in s .pre .0 .marks (c .before .be
 shared-slice-read-if1-2 : tie.Need-shared-slice-read-if1-2 Inv-loop μ-loop
 shared-slice-read-if1-2 c =
     let s : tie.Start Inv-loop μ-loop = search in
-    let g = s .pre .0 .marks (c .before .before .before .loop .v) (c .before .before .loop-test .taken) in omega (arith, g .0, g .1, s .pre .1)
+    let g =
+    s .pre .0 .marks (c .before .before .before .loop .v) (c .before .before .loop-test .taken) in
+    omega (arith, g .0, g .1, s .pre .1)
 
 add-result : tie.Need-add-result Inv-loop μ-loop
 add-result c = omega (arith, c .before .before .before .loop-test .taken)
@@ -36,7 +38,8 @@ returns : tie.Need-returns Inv-loop μ-loop
 returns c =
     let at-loop : tie.At-loop Inv-loop μ-loop = search in
     let s : tie.Start Inv-loop μ-loop = search in
-    scan-stop (unheld (s .args .root .now) (s .args .has .now)) (s .args .b) (at-loop .loop .v) (c .before .before .before .loop-test .taken) (c .if1 .taken) (at-loop .loop .inv .1)
+    scan-stop (unheld (s .args .root .now) (s .args .has .now)) (s .args .b) (at-loop .loop .v)
+    (c .before .before .before .loop-test .taken) (c .if1 .taken) (at-loop .loop .inv .1)
 
 add-v : tie.Need-add-v Inv-loop μ-loop
 add-v c = omega (arith, c .before .before .before .loop-test .taken)
@@ -47,11 +50,16 @@ loop-less c = omega (arith, c .before .before .before .loop-test .taken)
 loop-again : tie.Need-loop-again Inv-loop μ-loop
 loop-again c =
     let at-loop : tie.At-loop Inv-loop μ-loop = search in
-    let s : tie.Start Inv-loop μ-loop = search in
-    (omega (arith, c .before .before .before .loop-test .taken), scan-next (unheld (s .args .root .now) (s .args .has .now)) (s .args .b) (at-loop .loop .v) (c .before .before .before .loop-test .taken) (c .if1 .left) (at-loop .loop .inv .1))
+    let s : tie.Start Inv-loop μ-loop = search in (
+      omega (arith, c .before .before .before .loop-test .taken),
+      scan-next (unheld (s .args .root .now) (s .args .has .now)) (s .args .b)
+          (at-loop .loop .v) (c .before .before .before .loop-test .taken) (c .if1 .left) (at-loop .loop .inv .1),
+    )
 
 returns-2 : tie.Need-returns-2 Inv-loop μ-loop
-returns-2 c = let s = c .before .before in scan-end (unheld (s .args .root .now) (s .args .has .now)) (s .args .b) (c .before .loop .v) (c .loop-test .left) (c .before .loop .inv .1)
+returns-2 c =
+    let s = c .before .before in scan-end (unheld (s .args .root .now) (s .args .has .now)) (s .args .b) (c .before .loop .v)
+    (c .loop-test .left) (c .before .loop .inv .1)
 
 pub first-unheld-spec : {M : Type 1} → statement M
 first-unheld-spec =

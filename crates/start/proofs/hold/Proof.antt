@@ -14,11 +14,16 @@ use borrow.Author.Needs.{needs}
 use Rattle.start.proofs.hold.Statement.{statement}
 use Rattle.start.proofs.hold.Tie as tie
 
-mark-read : (c : tie.After-index) → (let s = c .before .before .before in c .index .result ≡ natAbs (markAt (s .args .held .now) (s .args .i)))
-mark-read c = let s = c .before .before .before in c .index .ensures ∙ rw (back (markAt (s .args .held .now) (s .args .i)) (c .before .index-arg .given))
+mark-read : (c : tie.After-index)
+    → (let s = c .before .before .before in c .index .result ≡ natAbs (markAt (s .args .held .now) (s .args .i)))
+mark-read c =
+    let s = c .before .before .before in c .index .ensures ∙ rw
+    (back (markAt (s .args .held .now) (s .args .i)) (c .before .index-arg .given))
 
 index-requires : tie.Need-index-requires
-index-requires c κs = let s = c .before .before in rw (back (markAt (s .args .held .now) (s .args .i)) (c .index-arg .given)) (not-negative (s .pre .0 .good .mark))
+index-requires c κs =
+    let s = c .before .before in rw (back (markAt (s .args .held .now) (s .args .i)) (c .index-arg .given))
+    (not-negative (s .pre .0 .good .mark))
 
 sub-v : tie.Need-sub-v
 sub-v c = omega (arith, mark-read c, c .before .before .before .pre .0 .good .mark .low)
@@ -41,8 +46,10 @@ slice-set-from-z c =
 returns : tie.Need-returns
 returns c =
     let s : tie.Start = search in
-    held-more (s .args .held .now) (s .args .flags .now) (s .args .own .now) (s .args .b) (s .args .i) (c .before .index .result - 1) (toZ w64 (ofZ w64 (heightAt (s .args .held .now) (s .args .i)))) (s .pre .0) (s .pre .1)
-    (omega (arith, mark-read (c .before), s .pre .0 .good .mark .low)) (read (heightAt (s .args .held .now) (s .args .i)) mostHeldHeight (s .pre .0 .good .height) (omega arith))
+    held-more (s .args .held .now) (s .args .flags .now) (s .args .own .now) (s .args .b) (s .args .i) (c .before .index .result - 1)
+    (toZ w64 (ofZ w64 (heightAt (s .args .held .now) (s .args .i)))) (s .pre .0) (s .pre .1)
+    (omega (arith, mark-read (c .before), s .pre .0 .good .mark .low))
+    (read (heightAt (s .args .held .now) (s .args .i)) mostHeldHeight (s .pre .0 .good .height) (omega arith))
 
 pub hold-spec : {M : Type 1} → statement M
 hold-spec =

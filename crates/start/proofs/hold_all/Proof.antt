@@ -10,13 +10,21 @@ use Rattle.start.proofs.hold_all.Statement.{statement}
 use Rattle.start.proofs.hold_all.Tie as tie
 
 abbrev Inv-loop : tie.InvT-loop
-Inv-loop held flags₀ own₀ b h i₀ flags own i = (i ≤ h) × (length flags ≡ length flags₀) × (length own ≡ length own₀) × Given (heldFrom held i) flags own b mostHeldHeight
+Inv-loop held flags₀ own₀ b h i₀ flags own i =
+    (i ≤ h) × (length flags ≡ length flags₀) × (length own ≡ length own₀) × Given (heldFrom held i) flags own b mostHeldHeight
 
 abbrev μ-loop : tie.MeasureT-loop
 μ-loop held flags₀ own₀ b h i₀ flags own i = i
 
 loop-holds : tie.Need-loop-holds Inv-loop μ-loop
-loop-holds c = let s = c .before in let k = s .pre .1 in (search needs, refl, refl, held-none _ _ _ _ _ (s .pre .0) (k .flagged) (k .heighted) (k .none) (k .zero))
+loop-holds c =
+    let s = c .before in let k = s .pre .1 in (
+      search needs,
+      refl,
+      refl,
+      held-none _ _ _ _ _ (s .pre .0) (k .flagged) (k .heighted)
+          (k .none) (k .zero),
+    )
 
 hold-requires : tie.Need-hold-requires Inv-loop μ-loop
 hold-requires c κs =
@@ -46,7 +54,9 @@ same-length-2 : tie.Need-same-length-2 Inv-loop μ-loop
 same-length-2 c = c .before .loop .inv .2
 
 returns : tie.Need-returns Inv-loop μ-loop
-returns c = let s = c .before .before .before in let l = c .before .loop in held-all (s .args .held .now) (l .flags) (l .own) (s .args .b) (l .i) (c .loop-test .left) (l .inv .3)
+returns c =
+    let s = c .before .before .before in let l = c .before .loop in held-all (s .args .held .now) (l .flags) (l .own) (s .args .b) (l .i)
+    (c .loop-test .left) (l .inv .3)
 
 pub hold-all-spec : {M : Type 1} → statement M
 hold-all-spec =

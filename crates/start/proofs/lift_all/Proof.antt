@@ -8,7 +8,9 @@ use Rattle.start.proofs.lift_all.Statement.{statement}
 use Rattle.start.proofs.lift_all.Tie as tie
 
 abbrev Inv-loop : tie.InvT-loop
-Inv-loop flags own root over has₀ base₀ b v₀ has base v = (v ≤ b) × (length has ≡ length has₀) × (length base ≡ length base₀) × Given (rootsFrom (spots root over) (gives flags own) b v) has base b mostRoot
+Inv-loop flags own root over has₀ base₀ b v₀ has base v =
+    (v ≤ b) × (length has ≡ length has₀) × (length base ≡ length base₀)
+    × Given (rootsFrom (spots root over) (gives flags own) b v) has base b mostRoot
 
 abbrev μ-loop : tie.MeasureT-loop
 μ-loop flags own root over has₀ base₀ b v₀ has base v = v
@@ -48,7 +50,8 @@ returns c =
     let s : tie.Start Inv-loop μ-loop = search in
     let l = c .before .loop in
     let e : l .v ≡ 0 = omega (arith, c .loop-test .left) in
-    subst (λ (v : ℕ). Given (rootsFrom (spots (s .args .root .now) (s .args .over .now)) (gives (s .args .flags .now) (s .args .own .now)) (s .args .b) v) (l .has) (l .base) (s .args .b) mostRoot) e (l .inv .3)
+    subst (λ (v : ℕ). Given (rootsFrom (spots (s .args .root .now) (s .args .over .now))
+    (gives (s .args .flags .now) (s .args .own .now)) (s .args .b) v) (l .has) (l .base) (s .args .b) mostRoot) e (l .inv .3)
 
 pub lift-all-spec : {M : Type 1} → statement M
 lift-all-spec =

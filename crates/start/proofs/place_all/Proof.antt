@@ -8,7 +8,8 @@ use Rattle.start.proofs.place_all.Statement.{statement}
 use Rattle.start.proofs.place_all.Tie as tie
 
 abbrev Inv-loop : tie.InvT-loop
-Inv-loop lines order best root₀ over₀ b n k₀ root over k = (k ≤ b) × (length root ≡ length root₀) × (length over ≡ length over₀) × Placing (rooting lines order best k) root over b k
+Inv-loop lines order best root₀ over₀ b n k₀ root over k =
+    (k ≤ b) × (length root ≡ length root₀) × (length over ≡ length over₀) × Placing (rooting lines order best k) root over b k
 
 abbrev μ-loop : tie.MeasureT-loop
 μ-loop lines order best root₀ over₀ b n k₀ root over k = b - k
@@ -50,7 +51,8 @@ returns c =
     let s : tie.Start Inv-loop μ-loop = search in
     let l = c .before .loop in
     let e : l .k ≡ s .args .b = omega (arith, c .loop-test .left) in
-    subst (λ (k : ℕ). Placing (rooting (s .args .lines .now) (s .args .order .now) (s .args .best .now) k) (l .root) (l .over) (s .args .b) k) e (l .inv .3)
+    subst (λ (k : ℕ). Placing (rooting (s .args .lines .now) (s .args .order .now) (s .args .best .now) k) (l .root) (l .over)
+    (s .args .b) k) e (l .inv .3)
 
 pub place-all-spec : {M : Type 1} → statement M
 place-all-spec =

@@ -9,8 +9,16 @@ place-all-requires c κs =
     let after-seed : tie.After-seed = search in
     let s : tie.Start = search in
     let r = after-seed .seed in
-    let k = s .pre .1 .1 .1 .0 in
-    (s .pre .0, (s .pre .1 .0, (entered-none _ _ _ _ _ _ (r .kept .0 ∙ k .roots) (k .overs) (r .ensures .each) (k .zero), s .pre .1 .1 .0 .few)))
+    let k = s .pre .1 .1 .1 .0 in (
+      s .pre .0,
+      (
+        s .pre .1 .0,
+        (
+          entered-none _ _ _ _ _ _ (r .kept .0 ∙ k .roots) (k .overs) (r .ensures .each) (k .zero),
+          s .pre .1 .1 .0 .few,
+        ),
+      ),
+    )
 
 returns : tie.Need-returns
 returns c =

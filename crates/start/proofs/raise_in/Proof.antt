@@ -8,8 +8,11 @@ use Rattle.start.proofs.raise_in.Tie as tie
 
 lift-all-requires : tie.Need-lift-all-requires
 lift-all-requires c κs =
-    let s : tie.Start = search in
-    (s .pre .0, lift-none (s .args .flags .now) (s .args .own .now) (s .args .root .now) (s .args .over .now) (s .args .has .now) (s .args .base .now) (s .args .b) (s .pre .1 .0))
+    let s : tie.Start = search in (
+      s .pre .0,
+      lift-none (s .args .flags .now) (s .args .own .now) (s .args .root .now) (s .args .over .now) (s .args .has .now)
+          (s .args .base .now) (s .args .b) (s .pre .1 .0),
+    )
 
 returns : tie.Need-returns
 returns c =
@@ -17,8 +20,12 @@ returns c =
     let s : tie.Start = search in
     let l = after-lift-all .lift-all in
     let m = c .before .first-unheld in
-    λ at p held g.
-    (m .ensures ∙ unheld-is (s .args .b) at held (s .args .flags .now) (s .args .own .now) (s .args .root .now) (s .args .over .now) (l .last .1 .1 .1 .1 .0) (l .last .1 .1 .1 .1 .1 .0) p g (l .ensures), λ z. absurd (omega (arith, c .if1 .taken)), s .pre .1 .1)
+    λ at p held g. (
+      m .ensures ∙ unheld-is (s .args .b) at held (s .args .flags .now) (s .args .own .now) (s .args .root .now) (s .args .over .now)
+          (l .last .1 .1 .1 .1 .0) (l .last .1 .1 .1 .1 .1 .0) p g (l .ensures),
+      λ z. absurd (omega (arith, c .if1 .taken)),
+      s .pre .1 .1,
+    )
 
 returns-2 : tie.Need-returns-2
 returns-2 c =
@@ -31,8 +38,10 @@ returns-2 c =
     let g₀ = c .before .begin .ensures in
     let e : m .result ≡ 0 = omega (arith, else1 .if1 .left) in
     λ at p held g. (
-      sym e ∙ m .ensures ∙ unheld-is (s .args .b) at held (s .args .flags .now) (s .args .own .now) (s .args .root .now) (s .args .over .now) (l .last .1 .1 .1 .1 .0) (l .last .1 .1 .1 .1 .1 .0) p g (l .ensures),
-      λ z v h. g₀ .each v h ∙ start-is (s .args .b) at held (s .args .flags .now) (s .args .own .now) (s .args .root .now) (s .args .over .now) (l .last .1 .1 .1 .1 .0) (l .last .1 .1 .1 .1 .1 .0) p g (l .ensures) (sym (m .ensures) ∙ e) v h,
+      sym e ∙ m .ensures ∙ unheld-is (s .args .b) at held (s .args .flags .now) (s .args .own .now) (s .args .root .now)
+          (s .args .over .now) (l .last .1 .1 .1 .1 .0) (l .last .1 .1 .1 .1 .1 .0) p g (l .ensures),
+      λ z v h. g₀ .each v h ∙ start-is (s .args .b) at held (s .args .flags .now) (s .args .own .now) (s .args .root .now)
+          (s .args .over .now) (l .last .1 .1 .1 .1 .0) (l .last .1 .1 .1 .1 .1 .0) p g (l .ensures) (sym (m .ensures) ∙ e) v h,
       g₀ .all,
     )
 

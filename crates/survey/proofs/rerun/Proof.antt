@@ -23,7 +23,9 @@ unfolding rerunOf
 returns c = rw (← (flag (c .before .before)), c .before .if1 .taken, c .refuse .ensures)
 
 -- what the test answered, at the numbers that were lent
-tested : (c : tie.After-test) → (let entry : tie.Start = search in let a = entry .args in c .test .result ≡ testOf (lent (a .b) (a .t) (a .held .now) (a .lines .now)))
+tested : (c : tie.After-test)
+    → (let entry : tie.Start = search in let a = entry .args in c .test .result
+    ≡ testOf (lent (a .b) (a .t) (a .held .now) (a .lines .now)))
 tested c = c .test .ensures ∙ search needs
 
 -- the difference is inside its limit
@@ -37,8 +39,11 @@ rerun-good-requires c κs =
     let else1 : tie.Else1 = search in
     let entry : tie.Start = search in
     let g = c .before .before .before in
-    let a = entry .args in
-    (good-lines _ _ (tested-good (lent (a .b) (a .t) (a .held .now) (a .lines .now)) (g .book .given .0 .0) (sym (tested after-test) ∙ g .book .given .1)), rw (toZ-ofZ (entry .fits .difference)) (small else1))
+    let a = entry .args in (
+      good-lines _ _ (tested-good (lent (a .b) (a .t) (a .held .now) (a .lines .now)) (g .book .given .0 .0)
+          (sym (tested after-test) ∙ g .book .given .1)),
+      rw (toZ-ofZ (entry .fits .difference)) (small else1),
+    )
 
 returns-2 : tie.Need-returns-2
 unfolding rerunOf correctOf

@@ -30,28 +30,41 @@ start-of c = c .before .before .before
 abbrev term-of : tie.After-term Inv-loop μ-loop → ℤ
 term-of c =
     let s = start-of (c .before .before) in
-    termAt (s .args .other .now) (s .args .rise .now) (s .args .weight .now) (s .args .h .now) (toZ w64 (ofZ w64 (s .args .z))) (c .before .before .loop .j)
+    termAt (s .args .other .now) (s .args .rise .now) (s .args .weight .now) (s .args .h .now) (toZ w64 (ofZ w64 (s .args .z)))
+    (c .before .before .loop .j)
 
 size : (c : tie.After-term Inv-loop μ-loop) → natAbs (term-of c) ≤ mostTerm
 size c =
     let s = start-of (c .before .before) in
-    term-size (s .args .other .now) (s .args .rise .now) (s .args .weight .now) (s .args .h .now) (toZ w64 (ofZ w64 (s .args .z))) (s .args .b) (s .args .e) (s .pre .0) (s .pre .1 .0)
+    term-size (s .args .other .now) (s .args .rise .now) (s .args .weight .now) (s .args .h .now) (toZ w64 (ofZ w64 (s .args .z)))
+    (s .args .b) (s .args .e) (s .pre .0) (s .pre .1 .0)
     (rw (toZ-ofZ (s .fits .z)) (s .pre .1 .1 .0)) (c .before .before .loop .j)
 
 term-read : (c : tie.After-term Inv-loop μ-loop) → toZ w64 (ofZ w64 (c .term .result)) ≡ term-of c
 term-read c = stored (c .term .result) (c .term .ok) (c .term .ensures)
 
-sum-read : (c : tie.After-add Inv-loop μ-loop) → toZ w64 (ofZ w64 (c .add .result)) ≡ toZ w64 (c .before .before .before .loop .g) +ℤ term-of (c .before)
+sum-read : (c : tie.After-add Inv-loop μ-loop)
+    → toZ w64 (ofZ w64 (c .add .result)) ≡ toZ w64 (c .before .before .before .loop .g) +ℤ term-of (c .before)
 sum-read c = stored (c .add .result) (c .add .ok) (c .add .ensures ∙ rw (term-read (c .before)))
 
 loop-holds : tie.Need-loop-holds Inv-loop μ-loop
-loop-holds c = let s = c .before .before in let o = s .pre .1 .1 .1 .order in (omega arith, omega arith, omega arith, +ℤ-idl (pull (s .args .h .now) (toZ w64 (ofZ w64 (s .args .z))) (seen (s .args .other .now) (s .args .rise .now) (s .args .weight .now) (s .args .a) (s .args .e - s .args .a))))
+loop-holds c =
+    let s = c .before .before in let o = s .pre .1 .1 .1 .order in (
+      omega arith,
+      omega arith,
+      omega arith,
+      +ℤ-idl (pull (s .args .h .now) (toZ w64 (ofZ w64 (s .args .z)))
+          (seen (s .args .other .now) (s .args .rise .now) (s .args .weight .now) (s .args .a) (s .args .e - s .args .a))),
+    )
 
 term-requires : tie.Need-term-requires Inv-loop μ-loop
-term-requires c κs = let s = start-of (c .before) in (shorter (s .pre .0) (search needs), (s .pre .1 .0, rw (toZ-ofZ (s .fits .z)) (s .pre .1 .1 .0)))
+term-requires c κs =
+    let s = start-of (c .before) in (shorter (s .pre .0) (search needs), (s .pre .1 .0, rw (toZ-ofZ (s .fits .z)) (s .pre .1 .1 .0)))
 
 add-requires : tie.Need-add-requires Inv-loop μ-loop
-add-requires c κs = let t = size c in let i = c .before .before .loop .inv in let s = start-of (c .before .before) in let f = s .pre .1 .1 .1 .few in rw (term-read c) (omega arith)
+add-requires c κs =
+    let t = size c in let i = c .before .before .loop .inv in let s = start-of (c .before .before) in let f = s .pre .1 .1 .1 .few in
+    rw (term-read c) (omega arith)
 
 loop-again : tie.Need-loop-again Inv-loop μ-loop
 loop-again c =
@@ -63,15 +76,19 @@ loop-again c =
       search needs,
       search needs,
       rw (sum-read c) (omega arith),
-      rw (sum-read c) (pull-turn (s .args .other .now) (s .args .rise .now) (s .args .weight .now) (s .args .h .now) (toZ w64 (ofZ w64 (s .args .z))) (s .args .a) (s .args .e) (l .loop .j) (toZ w64 (l .loop .g)) (term-of (c .before)) (c .before .before .loop-test .taken) refl (i .3)),
+      rw (sum-read c) (pull-turn (s .args .other .now) (s .args .rise .now) (s .args .weight .now) (s .args .h .now)
+          (toZ w64 (ofZ w64 (s .args .z))) (s .args .a) (s .args .e) (l .loop .j) (toZ w64 (l .loop .g)) (term-of (c .before))
+          (c .before .before .loop-test .taken) refl (i .3)),
     )
 
 returns : tie.Need-returns Inv-loop μ-loop
 returns c =
     let l = c .before in
     let s = start-of l in
-    pull-end (s .args .other .now) (s .args .rise .now) (s .args .weight .now) (s .args .h .now) (toZ w64 (ofZ w64 (s .args .z))) (s .args .e) (l .loop .j) (toZ w64 (l .loop .g))
-    (pull (s .args .h .now) (toZ w64 (ofZ w64 (s .args .z))) (seen (s .args .other .now) (s .args .rise .now) (s .args .weight .now) (s .args .a) (s .args .e - s .args .a)))
+    pull-end (s .args .other .now) (s .args .rise .now) (s .args .weight .now) (s .args .h .now) (toZ w64 (ofZ w64 (s .args .z)))
+    (s .args .e) (l .loop .j) (toZ w64 (l .loop .g))
+    (pull (s .args .h .now) (toZ w64 (ofZ w64 (s .args .z)))
+    (seen (s .args .other .now) (s .args .rise .now) (s .args .weight .now) (s .args .a) (s .args .e - s .args .a)))
     (c .loop-test .left) (l .loop .inv .3)
     ∙ rw (toZ-ofZ (s .fits .z))
 

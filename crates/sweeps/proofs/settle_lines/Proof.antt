@@ -13,8 +13,17 @@ use Rattle.sweeps.proofs.settle_lines.Tie as tie
 write-rows-requires : tie.Need-write-rows-requires
 write-rows-requires c κs =
     let s : tie.Start = search in
-    let q = s .pre .1 .1 .0 in
-    (s .pre .0, (s .pre .1 .0, (range-zeros 1024 _ (q .0), broad-zeros _ _ _ 257 1024 256 (s .pre .0) (omega (arith, q .1)) (q .1) (omega (arith, s .pre .0 .few)))))
+    let q = s .pre .1 .1 .0 in (
+      s .pre .0,
+      (
+        s .pre .1 .0,
+        (
+          range-zeros 1024 _ (q .0),
+          broad-zeros _ _ _ 257 1024 256 (s .pre .0) (omega (arith, q .1)) (q .1)
+              (omega (arith, s .pre .0 .few)),
+        ),
+      ),
+    )
 
 returns : tie.Need-returns
 returns c =
@@ -22,7 +31,8 @@ returns c =
     let s : tie.Start = search in
     let t = after-write-rows .write-rows in
     let e = c .before .settle .ensures in
-    e ∙ settle-same (rows (t .last .1 .1 .1 .0) (t .last .1 .1 .1 .1 .0) (t .last .1 .1 .1 .1 .1 .0) (t .last .1 .1 .1 .1 .1 .1 .0)) (sightsOf (standing (s .args .lines .now))) (flags (s .args .held .now)) (s .args .b) (t .ensures .1) (s .args .h .now)
+    e ∙ settle-same (rows (t .last .1 .1 .1 .0) (t .last .1 .1 .1 .1 .0) (t .last .1 .1 .1 .1 .1 .0) (t .last .1 .1 .1 .1 .1 .1 .0))
+    (sightsOf (standing (s .args .lines .now))) (flags (s .args .held .now)) (s .args .b) (t .ensures .1) (s .args .h .now)
 
 pub settle-lines-spec : {M : Type 1} → statement M
 settle-lines-spec =

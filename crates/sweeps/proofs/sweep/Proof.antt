@@ -10,7 +10,8 @@ use Rattle.sweeps.proofs.sweep.Statement.{statement}
 use Rattle.sweeps.proofs.sweep.Tie as tie
 
 abbrev Inv-loop : tie.InvT-loop
-Inv-loop first other rise weight total held h₀ b s₀ left₀ h s left = (left ≤ b) × (swept s h ≡ sweep (rows first other rise weight) (flags held) h₀ (b - left)) × Working h b
+Inv-loop first other rise weight total held h₀ b s₀ left₀ h s left =
+    (left ≤ b) × (swept s h ≡ sweep (rows first other rise weight) (flags held) h₀ (b - left)) × Working h b
 
 abbrev μ-loop : tie.MeasureT-loop
 μ-loop first other rise weight total held h₀ b s₀ left₀ h s left = left
@@ -19,8 +20,12 @@ loop-holds : tie.Need-loop-holds Inv-loop μ-loop
 loop-holds c =
     let s : tie.Start Inv-loop μ-loop = search in
     let f = rows (s .args .first .now) (s .args .other .now) (s .args .rise .now) (s .args .weight .now) in
-    let e : 0 ≡ s .args .b - s .args .b = omega arith in
-    (omega arith, sweep-none f (flags (s .args .held .now)) (s .args .h .now) ∙ ap (sweep f (flags (s .args .held .now)) (s .args .h .now)) e, s .pre .1 .0)
+    let e : 0 ≡ s .args .b - s .args .b = omega arith in (
+      omega arith,
+      sweep-none f (flags (s .args .held .now)) (s .args .h .now)
+          ∙ ap (sweep f (flags (s .args .held .now)) (s .args .h .now)) e,
+      s .pre .1 .0,
+    )
 
 sub-take-turn : tie.Need-sub-take-turn Inv-loop μ-loop
 sub-take-turn c = omega (arith, c .before .before .loop .inv .0)
@@ -37,9 +42,11 @@ loop-again c =
     let s : tie.Start Inv-loop μ-loop = search in
     let t = c .before .take-turn in
     let f = rows (s .args .first .now) (s .args .other .now) (s .args .rise .now) (s .args .weight .now) in
-    let e : s .args .b - l .loop .left + 1 ≡ s .args .b - (l .loop .left - 1) = omega (arith, l .loop .inv .0, c .before .before .before .loop-test .taken) in (
+    let e : s .args .b - l .loop .left + 1 ≡ s .args .b - (l .loop .left - 1) =
+    omega (arith, l .loop .inv .0, c .before .before .before .loop-test .taken) in (
       omega (arith, l .loop .inv .0),
-      sweep-turn f (flags (s .args .held .now)) (s .args .h .now) (s .args .b - l .loop .left) (swept (l .loop .s) (l .loop .h)) (swept (t .result) (t .last .1 .1 .1 .1 .1 .1 .0)) (l .loop .inv .1) (t .ensures .0)
+      sweep-turn f (flags (s .args .held .now)) (s .args .h .now) (s .args .b - l .loop .left) (swept (l .loop .s) (l .loop .h))
+          (swept (t .result) (t .last .1 .1 .1 .1 .1 .1 .0)) (l .loop .inv .1) (t .ensures .0)
           ∙ ap (sweep f (flags (s .args .held .now)) (s .args .h .now)) e,
       t .ensures .1,
     )

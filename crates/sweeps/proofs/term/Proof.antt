@@ -70,7 +70,9 @@ count-read : (c : tie.After-signed-count) → toZ w64 (ofZ w64 (c .signed-count 
 count-read c = stored (c .signed-count .result) (c .signed-count .ok) (c .signed-count .ensures)
 
 over-read : (c : tie.After-sub) → toZ w64 (ofZ w64 (c .sub .result)) ≡ rise-over (start-of (c .before .before .before))
-over-read c = stored (c .sub .result) (c .sub .ok) (c .sub .ensures ∙ rw (given-read (c .before .before .before), present-read (start-of (c .before .before .before))))
+over-read c =
+    stored (c .sub .result) (c .sub .ok) (c .sub .ensures ∙ rw
+    (given-read (c .before .before .before), present-read (start-of (c .before .before .before))))
 
 mul-add-2 : tie.Need-mul-add-2
 mul-add-2 c = let s = c .before .before .before in omega (arith, s .pre .0 .otherIn (s .args .j))
@@ -89,7 +91,9 @@ signed-count-requires c κs =
     omega (arith, s .pre .0 .weightIn (s .args .j))
 
 sub-requires : tie.Need-sub-requires
-sub-requires c κs = let g = given-read (c .before .before) in let h = given-size (start-of (c .before .before)) in let s = start-of (c .before .before) in let z = s .pre .1 .1 in rw (g, present-read s) (omega arith)
+sub-requires c κs =
+    let g = given-read (c .before .before) in let h = given-size (start-of (c .before .before)) in let s = start-of (c .before .before)
+    in let z = s .pre .1 .1 in rw (g, present-read s) (omega arith)
 
 mul-requires : tie.Need-mul-requires
 mul-requires c κs =

@@ -19,7 +19,8 @@ use borrow.Author.Needs.{needs}
 use Rattle.sweeps.proofs.visit.Statement.{statement}
 use Rattle.sweeps.proofs.visit.Tie as tie
 
-height-read : (s : tie.Start) → toZ w64 (ofZ w64 (getD (s .args .h .now) (s .args .v) (pos 0))) ≡ getD (s .args .h .now) (s .args .v) (pos 0)
+height-read : (s : tie.Start)
+    → toZ w64 (ofZ w64 (getD (s .args .h .now) (s .args .v) (pos 0))) ≡ getD (s .args .h .now) (s .args .v) (pos 0)
 height-read s = read (getD (s .args .h .now) (s .args .v) (pos 0)) mostHeight (s .pre .1 .0 .inside (s .args .v)) (omega arith)
 
 move-read : (c : tie.After-move-of) → toZ w64 (ofZ w64 (c .move-of .result)) ≡ c .move-of .result
@@ -28,7 +29,9 @@ move-read c = back (c .move-of .result) (c .move-of .ok)
 abbrev start-of : tie.After-add → tie.Start
 start-of c = search
 
-sum-read : (c : tie.After-add) → toZ w64 (ofZ w64 (c .add .result)) ≡ getD (start-of c .args .h .now) (start-of c .args .v) (pos 0) +ℤ c .before .before .move-of .result
+sum-read : (c : tie.After-add)
+    → toZ w64 (ofZ w64 (c .add .result)) ≡ getD (start-of c .args .h .now) (start-of c .args .v) (pos 0)
+    +ℤ c .before .before .move-of .result
 sum-read c = stored (c .add .result) (c .add .ok) (c .add .ensures ∙ rw (height-read (start-of c), move-read (c .before .before)))
 
 -- what the constructor answered of the sum
@@ -50,7 +53,8 @@ height-inside c =
     let known : tie.After-made = search in
     rw (height-is c) (work-height-made _ _ (made (known .before .before)) _ (known .made .given .1) .0)
 
-still-read : (c : tie.After-same) → (let after-move-of : tie.After-move-of = search in eqZ (after-move-of .move-of .result) (pos 0) ≡ c .same .result)
+still-read : (c : tie.After-same)
+    → (let after-move-of : tie.After-move-of = search in eqZ (after-move-of .move-of .result) (pos 0) ≡ c .same .result)
 still-read c =
     let after-move-of : tie.After-move-of = search in
     sym (c .same .ensures ∙ rw (move-read after-move-of))
@@ -68,7 +72,8 @@ returns c =
     let s = start-of a in
     let out = no-work-height _ _ (made (c .before .before)) _ (c .enum-told .given .1) in (
       visit-outside (rows (s .args .first .now) (s .args .other .now) (s .args .rise .now) (s .args .weight .now) (suc (s .args .v)))
-          (s .args .h .now) (s .args .v) (a .before .before .move-of .result) (toZ w64 (ofZ w64 (a .add .result))) (a .before .before .move-of .ensures .0) (sum-read a) out,
+          (s .args .h .now) (s .args .v) (a .before .before .move-of .result) (toZ w64 (ofZ w64 (a .add .result)))
+          (a .before .before .move-of .ensures .0) (sum-read a) out,
       s .pre .1 .0,
     )
 
@@ -78,7 +83,8 @@ returns-2 c =
     let a : tie.After-add = search in
     let s = start-of a in (
       visit-still (rows (s .args .first .now) (s .args .other .now) (s .args .rise .now) (s .args .weight .now) (suc (s .args .v)))
-          (s .args .h .now) (s .args .v) (a .before .before .move-of .result) (height-of told) (a .before .before .move-of .ensures .0) (height-is told ∙ sum-read a)
+          (s .args .h .now) (s .args .v) (a .before .before .move-of .result) (height-of told) (a .before .before .move-of .ensures .0)
+          (height-is told ∙ sum-read a)
           (height-inside told) (still-read (c .before) ∙ c .if1 .taken),
       working-set (s .args .h .now) (s .args .b) (s .args .v) (height-of told) (s .pre .1 .0) (height-inside told),
     )
@@ -89,7 +95,8 @@ returns-3 c =
     let a : tie.After-add = search in
     let s = start-of a in (
       visit-moved (rows (s .args .first .now) (s .args .other .now) (s .args .rise .now) (s .args .weight .now) (suc (s .args .v)))
-          (s .args .h .now) (s .args .v) (a .before .before .move-of .result) (height-of told) (a .before .before .move-of .ensures .0) (height-is told ∙ sum-read a)
+          (s .args .h .now) (s .args .v) (a .before .before .move-of .result) (height-of told) (a .before .before .move-of .ensures .0)
+          (height-is told ∙ sum-read a)
           (height-inside told) (still-read (c .before) ∙ c .if1 .left),
       working-set (s .args .h .now) (s .args .b) (s .args .v) (height-of told) (s .pre .1 .0) (height-inside told),
     )

@@ -189,7 +189,8 @@ loop-again c =
         simp length-set (v .1 .4),
         after-runs .runs .given .1 ∙ simp length-set (v .1 .5),
       ),
-      all-next (v .2) lt _ refl (omega (arith, f .starts-fit, v .1)) (run-room f (v .2) lt (v .1 .5)) _ (after-take-loop .take-loop .ensures),
+      all-next (v .2) lt _ refl (omega (arith, f .starts-fit, v .1)) (run-room f (v .2) lt (v .1 .5)) _
+          (after-take-loop .take-loop .ensures),
     )
 
 mul-starts-2 : tie.Need-mul-starts-2 Inv-loop μ-loop

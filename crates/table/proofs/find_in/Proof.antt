@@ -29,7 +29,8 @@ order-loops-requires c κs =
     let entry : tie.Start = search in
     let p = entry .pre in
     let k = after-plant-book .plant-book .kept in
-    orders-of _ _ (p .0) (p .1 .1) (after-plant-book .plant-book .ensures) (omega (arith, k)) (omega (arith, k)) (omega (arith, k)) (omega (arith, k))
+    orders-of _ _ (p .0) (p .1 .1) (after-plant-book .plant-book .ensures) (omega (arith, k)) (omega (arith, k)) (omega (arith, k))
+    (omega (arith, k))
 
 fill-requires : tie.Need-fill-requires
 fill-requires c κs =
@@ -40,7 +41,8 @@ fill-requires c κs =
     let k = after-plant-book .plant-book .kept in
     let o = after-order-loops .order-loops .kept in
     let planted = after-plant-book .plant-book .ensures in
-    fills-of _ _ (p .0) (p .1 .1) planted (after-order-loops .order-loops .ensures _ (listed-of _ _ (p .0) planted) (planted .holding)) (p .1 .0) (omega (arith, o)) (omega (arith, k)) (omega (arith, k))
+    fills-of _ _ (p .0) (p .1 .1) planted (after-order-loops .order-loops .ensures _ (listed-of _ _ (p .0) planted) (planted .holding))
+    (p .1 .0) (omega (arith, o)) (omega (arith, k)) (omega (arith, k))
 
 same-length : tie.Need-same-length
 same-length c =

@@ -10,7 +10,12 @@ find-in-requires c κs =
       (
         p .1,
         record {
-          book = record { by-half = (search needs, search needs); by-mark = (search needs, search needs, search needs); tournament = search needs };
+          book = record {
+            by-half = (search needs, search needs);
+            by-mark = (search needs, search needs, search needs);
+            tournament
+                = search needs;
+          };
           by-loop = search needs;
         },
       ),

@@ -26,8 +26,11 @@ loop-again c =
     let turn = c .before .before in
     let arg = turn .before in
     let at = arg .before .before .before in
-    let list = at .before .before .args .list .now in
-    (omega arith, one-more listedText listed-append list (at .loop .i) (at .loop .inv .1) (pos 0) (omega arith) (rw (back _ (arg .put-line-arg2 .given)) at (turn .put-line .ensures)))
+    let list = at .before .before .args .list .now in (
+      omega arith,
+      one-more listedText listed-append list (at .loop .i) (at .loop .inv .1) (pos 0) (omega arith)
+          (rw (back _ (arg .put-line-arg2 .given)) at (turn .put-line .ensures)),
+    )
 
 same-length : tie.Need-same-length Inv-loop μ-loop
 same-length c = search put-length

@@ -11,7 +11,8 @@ unfolding bytes verdictText
 returns c =
     let within = c .before .before in
     let same = within .before .before .before .before in
-    rw (← (toZ-ofZ (same .before .before .fits .verdict)), ← (same .same .ensures), within .before .before .before .if1 .taken) (within .put .ensures)
+    rw (← (toZ-ofZ (same .before .before .fits .verdict)), ← (same .same .ensures), within .before .before .before .if1 .taken)
+    (within .put .ensures)
 
 same-length : tie.Need-same-length
 same-length c = put-length (returns c)
@@ -21,7 +22,8 @@ unfolding bytes verdictText
 returns-2 c =
     let over = c .before .before in
     let same = over .before .before .before .before in
-    rw (← (toZ-ofZ (same .before .before .fits .verdict)), ← (same .same .ensures), over .before .before .before .if1 .left) (over .put2 .ensures)
+    rw (← (toZ-ofZ (same .before .before .fits .verdict)), ← (same .same .ensures), over .before .before .before .if1 .left)
+    (over .put2 .ensures)
 
 same-length-2 : tie.Need-same-length-2
 same-length-2 c = put-length (returns-2 c)

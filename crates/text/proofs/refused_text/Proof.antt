@@ -13,7 +13,8 @@ returns c =
     let at = place .before .before .before .before in
     let number = at .before .before .before .before .before in
     let refused = number .before .before .before .before in
-    refused .put .ensures then number .put-number .ensures then at .put2 .ensures then place .put-number2 .ensures then end .put-byte .ensures
+    refused .put .ensures then number .put-number .ensures then at .put2 .ensures then place .put-number2 .ensures then
+    end .put-byte .ensures
 
 same-length : tie.Need-same-length
 same-length c = put-length (returns c)

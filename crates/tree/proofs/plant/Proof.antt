@@ -8,7 +8,8 @@ use Rattle.network.specs.Standing.{Line}
 use Rattle.chains.specs.Chains.{Given}
 use Rattle.search.specs.Front.{Stage}
 use Rattle.tree.specs.Plant.{Below}
-use Rattle.tree.proofs.Planting.{Planting, plant-start, plant-end, sprouted-next, sprouted-high, sprouted-below, sprouted-stage, stage-clear}
+use Rattle.tree.proofs.Planting.{Planting, plant-start, plant-end, sprouted-next, sprouted-high, sprouted-below, sprouted-stage}
+use Rattle.tree.proofs.Planting.{stage-clear}
 use Rattle.tree.proofs.plant.Statement.{statement}
 use Rattle.tree.proofs.plant.Tie as tie
 

@@ -1,7 +1,8 @@
 -- `follow` passes one line of the farther mark's way and calls itself for the rest. The measure is the distance, of both marks together:
 -- it "falls at each step", by at least the least length of a line. Assumes nothing.
 use Rattle.unchecked.proofs.Following.{distanceAt}
-use Rattle.unchecked.proofs.Marking.{climbed-length, follows-turn, u-low, followed-met, distance-falls, follows-rest, followed-rest, followed-turn}
+use Rattle.unchecked.proofs.Marking.{climbed-length, follows-turn, u-low, followed-met, distance-falls, follows-rest}
+use Rattle.unchecked.proofs.Marking.{followed-rest, followed-turn}
 use Prim.Native.Nat.{ℕ, _+_, _<_}
 use native.Mathlib.Omega.{arith}
 use mathlib.Core.Path.{refl, _∙_}

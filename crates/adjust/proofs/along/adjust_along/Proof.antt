@@ -10,7 +10,9 @@ start-heights-requires c κs =
     let s : tie.Start = search in
     let g = s .pre .0 in
     let p = s .pre .1 .0 in
-    let held = held-in _ _ _ _ _ _ _ (g .lines-good .few-marks) (g .lines-good .good) (g .held-good) (p .entered) _ _ (after-hold-all .hold-all .ensures) in
+    let held =
+    held-in _ _ _ _ _ _ _ (g .lines-good .few-marks) (g .lines-good .good) (g .held-good) (p .entered) _ _
+    (after-hold-all .hold-all .ensures) in
     (g .lines-good .good, (p .growth, (held, s .pre .1 .1 .1)))
 
 returns : tie.Need-returns
@@ -20,8 +22,10 @@ returns c =
     let s : tie.Start = search in
     let g = s .pre .0 in
     let p = s .pre .1 .0 in
-    unheld-answer _ _ _ _ _ _ _ (g .lines-good .few-marks) (g .lines-good .good) (g .held-good) (p .entered) _ _ (after-hold-all .hold-all .ensures)
-    (after-start-heights .start-heights .last .1 .1 .1 .1 .1 .0) _ (after-start-heights .start-heights .ensures) _ _ (c .before .if1 .taken) (c .refuse .ensures)
+    unheld-answer _ _ _ _ _ _ _ (g .lines-good .few-marks) (g .lines-good .good) (g .held-good) (p .entered) _ _
+    (after-hold-all .hold-all .ensures)
+    (after-start-heights .start-heights .last .1 .1 .1 .1 .1 .0) _ (after-start-heights .start-heights .ensures) _ _
+    (c .before .if1 .taken) (c .refuse .ensures)
 
 settle-lines-requires : tie.Need-settle-lines-requires
 settle-lines-requires c κs =
@@ -33,7 +37,9 @@ settle-lines-requires c κs =
     let p = s .pre .1 .0 in
     let held = after-hold-all .hold-all .ensures in
     let started = after-start-heights .start-heights .ensures in
-    let at-work = working _ _ _ _ _ _ _ (g .lines-good .few-marks) (g .lines-good .good) (g .held-good) (p .entered) _ _ held _ _ started (omega (arith, else1 .if1 .left)) in
+    let at-work =
+    working _ _ _ _ _ _ _ (g .lines-good .few-marks) (g .lines-good .good) (g .held-good) (p .entered) _ _ held _ _ started
+    (omega (arith, else1 .if1 .left)) in
     (g .lines-good .good, (p .ordered, ((g .lines-good .a-mark, g .lines-good .few-marks), (at-work, omega (arith, held .flagged)))))
 
 returns-2 : tie.Need-returns-2
@@ -45,8 +51,10 @@ returns-2 c =
     let g = s .pre .0 in
     let p = s .pre .1 .0 in
     let swept = c .before .before .settle-lines in
-    settled-answer _ _ _ _ _ _ _ (g .lines-good .few-marks) (g .lines-good .good) (g .held-good) (p .entered) _ _ (after-hold-all .hold-all .ensures) _ _
-    (after-start-heights .start-heights .ensures) (omega (arith, else1 .if1 .left)) _ (swept .result) _ (c .answer-of .ensures) (swept .ensures)
+    settled-answer _ _ _ _ _ _ _ (g .lines-good .few-marks) (g .lines-good .good) (g .held-good) (p .entered) _ _
+    (after-hold-all .hold-all .ensures) _ _
+    (after-start-heights .start-heights .ensures) (omega (arith, else1 .if1 .left)) _ (swept .result) _ (c .answer-of .ensures)
+    (swept .ensures)
 
 pub adjust-along-spec : {M : Type 1} → statement M
 adjust-along-spec =

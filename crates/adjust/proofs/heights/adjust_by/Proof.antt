@@ -9,14 +9,16 @@ returns c =
     let after-adjust-into : tie.After-adjust-into = search in
     let s : tie.Start = search in
     let a = after-adjust-into .adjust-into in
-    call-done (s .args .book) (s .args .held .now) (s .args .lines .now) (s .args .heights .now) (a .result) _ (s .pre .1 .1) (a .ensures) (then1 .if1 .taken) _ (c .before .put .ensures)
+    call-done (s .args .book) (s .args .held .now) (s .args .lines .now) (s .args .heights .now) (a .result) _ (s .pre .1 .1)
+    (a .ensures) (then1 .if1 .taken) _ (c .before .put .ensures)
 
 returns-2 : tie.Need-returns-2
 returns-2 c =
     let after-adjust-into : tie.After-adjust-into = search in
     let s : tie.Start = search in
     let a = after-adjust-into .adjust-into in
-    call-refused (s .args .book) (s .args .held .now) (s .args .lines .now) (s .args .heights .now) (a .result) _ (s .pre .1 .1) (a .ensures) (c .if1 .left)
+    call-refused (s .args .book) (s .args .held .now) (s .args .lines .now) (s .args .heights .now) (a .result) _ (s .pre .1 .1)
+    (a .ensures) (c .if1 .left)
 
 pub adjust-by-spec : {M : Type 1} → statement M
 adjust-by-spec =

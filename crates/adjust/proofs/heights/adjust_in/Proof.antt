@@ -27,7 +27,8 @@ adjust-along-requires c κs =
     let k = after-plant-book .plant-book .kept in (
       entry .pre .0,
       (
-        book-planted _ _ g (after-plant-book .plant-book .ensures) (omega (arith, k, room .by-mark, g .few-marks)) (omega (arith, k, room .by-mark, g .few-marks)),
+        book-planted _ _ g (after-plant-book .plant-book .ensures) (omega (arith, k, room .by-mark, g .few-marks))
+            (omega (arith, k, room .by-mark, g .few-marks)),
         (blank (entry .args .book .marks) 256 (g .few-marks), entry .pre .1 .1),
       ),
     )

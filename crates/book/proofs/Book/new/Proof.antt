@@ -7,7 +7,8 @@ use Rattle.book.proofs.Book.new.Tie as tie
 
 -- the flag that the code has is the definition's test
 flag : (c : tie.After-outside-count2) → (let c₃ = c .before in let c₂ = c₃ .before in let c₁ = c₂ .before in let a = c₁ .before .args in
-    c₁ .outside .result || c₂ .outside2 .result || c₃ .outside-count .result || c .outside-count2 .result ≡ bookOut (a .b) (a .t) (a .h) (a .n))
+    c₁ .outside .result || c₂ .outside2 .result || c₃ .outside-count .result || c .outside-count2 .result
+    ≡ bookOut (a .b) (a .t) (a .h) (a .n))
 unfolding bookOut
 flag c =
     let c₃ = c .before in

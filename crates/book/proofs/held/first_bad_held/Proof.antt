@@ -25,18 +25,22 @@ abbrev μ-scan : tie.MeasureT-scan
 μ-scan held b n i₀ i = n - i
 
 -- what the constructor answered of the entry at place i
-made : (c : tie.After-new Inv-loop μ-loop Inv-scan μ-scan) → (let at : tie.At-scan Inv-loop μ-loop Inv-scan μ-scan = search in let g = at .before .args in
+made : (c : tie.After-new Inv-loop μ-loop Inv-scan μ-scan)
+    → (let at : tie.At-scan Inv-loop μ-loop Inv-scan μ-scan = search in let g = at .before .args in
     c .new .result ≡ heldEntryOf (toZ w64 (ofZ w64 (g .b))) (markAt (g .held .now) (at .scan .i)) (heightAt (g .held .now) (at .scan .i)))
 made c = c .new .ensures ∙ search needs
 
 -- an entry that was made is not outside, and has the mark of the list
-good : (c : tie.After-made Inv-loop μ-loop Inv-scan μ-scan) → (let at : tie.At-scan Inv-loop μ-loop Inv-scan μ-scan = search in let g = at .before .args in
+good : (c : tie.After-made Inv-loop μ-loop Inv-scan μ-scan)
+    → (let at : tie.At-scan Inv-loop μ-loop Inv-scan μ-scan = search in let g = at .before .args in
     (heldOut (toZ w64 (ofZ w64 (g .b))) (markAt (g .held .now) (at .scan .i)) (heightAt (g .held .now) (at .scan .i)) ≡ false)
     × (c .made .given .0 .0 .mark ≡ markAt (g .held .now) (at .scan .i)))
 good c = entry-made _ _ _ _ (made (c .before .before)) _ (c .made .given .1)
 
 -- the marks that are compared are those of the entries at places j and i
-held-flag : (c : tie.After-same Inv-loop μ-loop Inv-scan μ-scan) → (let l : tie.At-loop Inv-loop μ-loop Inv-scan μ-scan = search in let at : tie.At-scan Inv-loop μ-loop Inv-scan μ-scan = search in let g = at .before .args in
+held-flag : (c : tie.After-same Inv-loop μ-loop Inv-scan μ-scan)
+    → (let l : tie.At-loop Inv-loop μ-loop Inv-scan μ-scan = search in let at : tie.At-scan Inv-loop μ-loop Inv-scan μ-scan = search in
+    let g = at .before .args in
     c .same .result ≡ eqZ (markAt (g .held .now) (l .loop .j)) (markAt (g .held .now) (at .scan .i)))
 held-flag c =
     let known : tie.After-made Inv-loop μ-loop Inv-scan μ-scan = search in
@@ -73,7 +77,8 @@ returns-2 : tie.Need-returns-2 Inv-loop μ-loop Inv-scan μ-scan
 unfolding firstBadHeld heldBad
 returns-2 c =
     let at : tie.At-scan Inv-loop μ-loop Inv-scan μ-scan = search in
-    scan-stop _ _ (at .scan .i) (omega arith) (rw (no-entry _ _ _ _ (made (c .before .before)) _ (c .enum-told .given .1))) (at .scan .inv) ∙ search needs
+    scan-stop _ _ (at .scan .i) (omega arith) (rw (no-entry _ _ _ _ (made (c .before .before)) _ (c .enum-told .given .1)))
+    (at .scan .inv) ∙ search needs
 
 returns-3 : tie.Need-returns-3 Inv-loop μ-loop Inv-scan μ-scan
 unfolding firstBadHeld heldBad heldBefore
@@ -81,7 +86,8 @@ returns-3 c =
     let known : tie.After-made Inv-loop μ-loop Inv-scan μ-scan = search in
     let at : tie.At-scan Inv-loop μ-loop Inv-scan μ-scan = search in
     let in-loop = c .before .before .before in
-    let f = any-found _ (at .scan .i) (in-loop .before .loop .j) (in-loop .loop-test .taken) (sym (held-flag (c .before)) ∙ c .if2 .taken) in
+    let f =
+    any-found _ (at .scan .i) (in-loop .before .loop .j) (in-loop .loop-test .taken) (sym (held-flag (c .before)) ∙ c .if2 .taken) in
     scan-stop _ _ (at .scan .i) (omega arith) (rw (good known .0) f) (at .scan .inv) ∙ search needs
 
 pub first-bad-held-spec : {M : Type 1} → statement M

@@ -30,7 +30,8 @@ returns c =
     let in-loop : tie.In-loop Inv-loop μ-loop = search in
     let i = in-loop .before .loop .i in
     let e = simp add-sub-cancel-left at (c .before .before .line-of .ensures) in
-    scan-stop _ _ i (in-loop .loop-test .taken) (faulty-entry _ _ i _ e _ _ (c .enum-told .given .1)) (in-loop .before .loop .inv) ∙ search needs
+    scan-stop _ _ i (in-loop .loop-test .taken) (faulty-entry _ _ i _ e _ _ (c .enum-told .given .1)) (in-loop .before .loop .inv)
+    ∙ search needs
 
 loop-again : tie.Need-loop-again Inv-loop μ-loop
 loop-again c =

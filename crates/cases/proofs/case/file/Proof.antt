@@ -13,7 +13,8 @@ returns : tie.Need-returns
 returns c =
     let s : tie.Start = search in
     let most : tie.After-at-most = search in
-    take-all (length (s .args .case .now) - most .at-most .result) (drop (most .at-most .result) (s .args .case .now)) (simp length-drop (omega arith))
+    take-all (length (s .args .case .now) - most .at-most .result) (drop (most .at-most .result) (s .args .case .now))
+    (simp length-drop (omega arith))
     ∙ drop-most _ (headBytes (s .args .numbers)) (s .args .case .now) (most .at-most .ensures)
 
 pub file-spec : {M : Type 1} → statement M

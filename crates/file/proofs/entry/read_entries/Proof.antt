@@ -10,14 +10,16 @@ use Rattle.file.proofs.entry.read_entries.Statement.{statement}
 use Rattle.file.proofs.entry.read_entries.Tie as tie
 
 abbrev Inv-loop : tie.InvT-loop
-Inv-loop kind file a n out₀ bytes words i₀ out i = (i ≤ n) × (length out ≡ length out₀) × (out ≡ entries kind file a i ++ drop (i * words) out₀)
+Inv-loop kind file a n out₀ bytes words i₀ out i =
+    (i ≤ n) × (length out ≡ length out₀) × (out ≡ entries kind file a i ++ drop (i * words) out₀)
 
 abbrev μ-loop : tie.MeasureT-loop
 μ-loop kind file a n out₀ bytes words i₀ out i = n - i
 
 -- entry i is whole, in the file and in what is filled
 record Room (c : tie.In-loop Inv-loop μ-loop) : Type 0 where
-  bytes : c .before .before .before .before .before .args .a + c .before .loop .i * c .before .before .before .bytes .result + c .before .before .before .bytes .result ≤ length (c .before .before .before .before .before .args .file .now)
+  bytes : c .before .before .before .before .before .args .a + c .before .loop .i * c .before .before .before .bytes .result
+      + c .before .before .before .bytes .result ≤ length (c .before .before .before .before .before .args .file .now)
   words : c .before .loop .i * c .before .before .words .result + c .before .before .words .result ≤ length (c .before .loop .out)
 
 room : (c : tie.In-loop Inv-loop μ-loop) → Room c
@@ -86,7 +88,8 @@ loop-again c =
     let g = b .before .before .args in (
       omega arith,
       c .out .given .1 ∙ l .loop .inv .1,
-      entries-pour (g .kind) (g .file .now) (g .a) (b .bytes .result) (w .words .result) (b .bytes .ensures) (w .words .ensures) (g .out .now) (l .loop .out) _ (l .loop .i) (l .loop .inv .2) (entered .read-entry .ensures),
+      entries-pour (g .kind) (g .file .now) (g .a) (b .bytes .result) (w .words .result) (b .bytes .ensures) (w .words .ensures)
+          (g .out .now) (l .loop .out) _ (l .loop .i) (l .loop .inv .2) (entered .read-entry .ensures),
     )
 
 same-length : tie.Need-same-length Inv-loop μ-loop

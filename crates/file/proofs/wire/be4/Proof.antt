@@ -11,4 +11,5 @@ returns c =
     (omega arith, omega arith)
 
 pub be4-spec : {M : Type 1} → statement M
-be4-spec = tie.close (tie.spec (λ c κs. search needs) (λ c. search needs) (λ c. search needs) (λ c κs. search needs) (λ c. search needs) returns)
+be4-spec =
+    tie.close (tie.spec (λ c κs. search needs) (λ c. search needs) (λ c. search needs) (λ c κs. search needs) (λ c. search needs) returns)

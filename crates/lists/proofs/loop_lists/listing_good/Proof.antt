@@ -19,26 +19,32 @@ flag : (c : tie.After-outside) → (let a : tie.After-find-loops = search in let
     c .outside .result ≡ outZ (pos 1) (pos (a .find-loops .result .count)) (s .args .number))
 flag c =
     let s : tie.Start = search in
-    simp (toZ-ofZ (s .fits .number)) at (rw (stored _ (c .before .signed-count .ok) (c .before .signed-count .ensures)) at (c .outside .ensures))
+    simp (toZ-ofZ (s .fits .number)) at (rw (stored _ (c .before .signed-count .ok) (c .before .signed-count .ensures)) at
+    (c .outside .ensures))
 
 size : (c : tie.After-magnitude) → (let s : tie.Start = search in c .magnitude .result ≡ natAbs (s .args .number))
 size c = let s : tie.Start = search in simp (toZ-ofZ (s .fits .number)) at (c .magnitude .ensures)
 
 -- there is a loop of this number
-there : (c : tie.After-magnitude) → (let s : tie.Start = search in (0 < c .magnitude .result) × (c .magnitude .result - 1 < length (loopsOf (s .args .book .marks) (s .args .lines .now))))
+there : (c : tie.After-magnitude)
+    → (let s : tie.Start = search in (0 < c .magnitude .result)
+    × (c .magnitude .result - 1 < length (loopsOf (s .args .book .marks) (s .args .lines .now))))
 there c =
     let after-find-loops : tie.After-find-loops = search in
     let after-outside : tie.After-outside = search in
     let else1 : tie.Else1 = search in
     let s : tie.Start = search in
-    let w = place-of _ _ (s .pre) (after-find-loops .find-loops .ensures .1) (s .args .number) (sym (flag after-outside) ∙ else1 .if1 .left) in
+    let w =
+    place-of _ _ (s .pre) (after-find-loops .find-loops .ensures .1) (s .args .number) (sym (flag after-outside) ∙ else1 .if1 .left)
+    in
     rw (size c) w
 
 returns : tie.Need-returns
 returns c =
     let after-find-loops : tie.After-find-loops = search in
     let s : tie.Start = search in
-    rw (c .refuse .ensures) (eight-is _ _ (s .pre) (after-find-loops .find-loops .ensures .1) (s .args .number) (s .args .out .now) (sym (flag (c .before .before)) ∙ c .before .if1 .taken))
+    rw (c .refuse .ensures) (eight-is _ _ (s .pre) (after-find-loops .find-loops .ensures .1) (s .args .number) (s .args .out .now)
+    (sym (flag (c .before .before)) ∙ c .before .if1 .taken))
 
 sub-i : tie.Need-sub-i
 sub-i c = there c .0
@@ -72,7 +78,14 @@ mul-write-run c =
     let after-find-loops : tie.After-find-loops = search in
     let after-magnitude : tie.After-magnitude = search in
     let s : tie.Start = search in
-    omega (arith, run-rises (after-find-loops .find-loops .ensures .1) (after-magnitude .magnitude .result - 1) (there after-magnitude .1), run-fits (after-find-loops .find-loops .ensures .1) (after-magnitude .magnitude .result - 1) (there after-magnitude .1), after-find-loops .find-loops .kept)
+    omega (
+      arith,
+      run-rises (after-find-loops .find-loops .ensures .1) (after-magnitude .magnitude .result - 1)
+          (there after-magnitude .1),
+      run-fits (after-find-loops .find-loops .ensures .1) (after-magnitude .magnitude .result - 1)
+          (there after-magnitude .1),
+      after-find-loops .find-loops .kept,
+    )
 
 sub-write-run : tie.Need-sub-write-run
 sub-write-run c =
@@ -107,7 +120,9 @@ returns-2 c =
     let after-outside : tie.After-outside = search in
     let else1 : tie.Else1 = search in
     c .before .write-run .ensures
-    ∙ run-listed _ _ (s .pre) (after-find-loops .find-loops .ensures .1) (after-magnitude .magnitude .result - 1) (there after-magnitude .1) (s .args .number) (s .args .out .now) (sym (flag after-outside) ∙ else1 .if1 .left) (omega (arith, size after-magnitude))
+    ∙ run-listed _ _ (s .pre) (after-find-loops .find-loops .ensures .1) (after-magnitude .magnitude .result - 1)
+    (there after-magnitude .1) (s .args .number) (s .args .out .now) (sym (flag after-outside) ∙ else1 .if1 .left)
+    (omega (arith, size after-magnitude))
 
 pub listing-good-spec : {M : Type 1} → statement M
 listing-good-spec =

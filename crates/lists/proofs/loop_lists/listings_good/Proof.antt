@@ -15,7 +15,12 @@ array-share-prefix-runs c =
 slice-aggregate-write-run : tie.Need-slice-aggregate-write-run
 slice-aggregate-write-run c =
     let after-find-loops : tie.After-find-loops = search in
-    simp length-take (omega (arith, last-end (after-find-loops .find-loops .ensures .1), runs-fit (after-find-loops .find-loops .ensures .1)))
+    simp length-take (omega (
+      arith,
+      last-end (after-find-loops .find-loops .ensures .1),
+      runs-fit
+          (after-find-loops .find-loops .ensures .1),
+    ))
 
 write-run-requires : tie.Need-write-run-requires
 write-run-requires c κs =

@@ -38,7 +38,8 @@ returns : tie.Need-returns
 returns c =
     let after-list-book : tie.After-list-book = search in
     let s : tie.Start = search in
-    rw (list-is (s .args .book) (s .args .lines .now) (s .pre) (search needs) (after-list-book .list-book .ensures)) at (c .before .write-list .ensures)
+    rw (list-is (s .args .book) (s .args .lines .now) (s .pre) (search needs) (after-list-book .list-book .ensures)) at
+    (c .before .write-list .ensures)
 
 pub not-checked-good-spec : {M : Type 1} → statement M
 not-checked-good-spec =

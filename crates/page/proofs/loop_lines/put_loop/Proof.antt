@@ -30,8 +30,10 @@ returns c =
     let a3 : tie.After-loop-text-arg3 = search in
     let a4 : tie.After-loop-text-arg4 = search in
     let after-loop-text : tie.After-loop-text = search in
-    line-put (s .args .t) (s .args .number) (s .args .lines .now) (s .args .run .now) (after-row-of .row-of .ensures) (list-front (s .args .run .now) (replicate 256 (pos 0)) _ (after-list-run .list-run .ensures))
-    (rw (back _ (a2 .loop-text-arg2 .given), back _ (a3 .loop-text-arg3 .given), back _ (a4 .loop-text-arg4 .given)) at (after-loop-text .loop-text .ensures))
+    line-put (s .args .t) (s .args .number) (s .args .lines .now) (s .args .run .now) (after-row-of .row-of .ensures)
+    (list-front (s .args .run .now) (replicate 256 (pos 0)) _ (after-list-run .list-run .ensures))
+    (rw (back _ (a2 .loop-text-arg2 .given), back _ (a3 .loop-text-arg3 .given), back _ (a4 .loop-text-arg4 .given)) at
+    (after-loop-text .loop-text .ensures))
 
 pub put-loop-spec : {M : Type 1} → statement M
 put-loop-spec =

@@ -10,7 +10,8 @@ use Rattle.page.proofs.loop_lines.put_loops.Statement.{statement}
 use Rattle.page.proofs.loop_lines.put_loops.Tie as tie
 
 abbrev Inv-loop : tie.InvT-loop
-Inv-loop lines starts runs count out₀ at t after₀ i₀ out after i = (i ≤ count) × (length out ≡ length out₀) × AllPut lines starts runs count t out₀ at out after i
+Inv-loop lines starts runs count out₀ at t after₀ i₀ out after i =
+    (i ≤ count) × (length out ≡ length out₀) × AllPut lines starts runs count t out₀ at out after i
 
 abbrev μ-loop : tie.MeasureT-loop
 μ-loop lines starts runs count out₀ at t after₀ i₀ out after i = count - i
@@ -59,7 +60,13 @@ mul-put-loop c =
     let at-loop : tie.At-loop Inv-loop μ-loop = search in
     let entry : tie.Start Inv-loop μ-loop = search in
     let p = entry .pre in
-    omega (arith, run-rises (p .1) (at-loop .loop .i) (omega (arith, p .1 .counted)), run-fits (p .1) (at-loop .loop .i) (omega (arith, p .1 .counted)), entry .good)
+    omega (
+      arith,
+      run-rises (p .1) (at-loop .loop .i) (omega (arith, p .1 .counted)),
+      run-fits (p .1) (at-loop .loop .i)
+          (omega (arith, p .1 .counted)),
+      entry .good,
+    )
 
 sub-put-loop : tie.Need-sub-put-loop Inv-loop μ-loop
 sub-put-loop c =
@@ -93,8 +100,12 @@ loop-again : tie.Need-loop-again Inv-loop μ-loop
 loop-again c =
     let at-loop : tie.At-loop Inv-loop μ-loop = search in
     let after-put-loop : tie.After-put-loop Inv-loop μ-loop = search in
-    let v = at-loop .loop .inv in
-    (omega arith, omega (arith, v .1, after-put-loop .put-loop .kept), all-put-next (omega arith) (v .2) (after-put-loop .put-loop .ensures))
+    let v = at-loop .loop .inv in (
+      omega arith,
+      omega (arith, v .1, after-put-loop .put-loop .kept),
+      all-put-next (omega arith) (v .2)
+          (after-put-loop .put-loop .ensures),
+    )
 
 returns : tie.Need-returns Inv-loop μ-loop
 returns c =

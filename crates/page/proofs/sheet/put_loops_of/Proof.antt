@@ -9,7 +9,8 @@ returns c =
     let after-head-text : tie.After-head-text = search in
     let after-find-loops : tie.After-find-loops = search in
     let s : tie.Start = search in
-    loops-put _ _ (s .pre) (after-find-loops .find-loops .ensures .0) (after-head-text .head-text .ensures) (after-put-loops .put-loops .ensures)
+    loops-put _ _ (s .pre) (after-find-loops .find-loops .ensures .0) (after-head-text .head-text .ensures)
+    (after-put-loops .put-loops .ensures)
 
 pub put-loops-of-spec : {M : Type 1} → statement M
 put-loops-of-spec =

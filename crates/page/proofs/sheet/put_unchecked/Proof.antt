@@ -22,7 +22,8 @@ returns : tie.Need-returns
 returns c =
     let after-not-checked-good : tie.After-not-checked-good = search in
     let s : tie.Start = search in
-    rw (unchecked-is (s .args .book) (s .args .lines .now) (s .pre) _ (search needs) (after-not-checked-good .not-checked-good .ensures)) at (c .before .before .not-checked-text .ensures)
+    rw (unchecked-is (s .args .book) (s .args .lines .now) (s .pre) _ (search needs) (after-not-checked-good .not-checked-good .ensures))
+    at (c .before .before .not-checked-text .ensures)
 
 pub put-unchecked-spec : {M : Type 1} → statement M
 put-unchecked-spec =

@@ -27,30 +27,43 @@ slice-aggregate-differs c =
     let after-write-rows : tie.After-write-rows = search in
     let after-find-loops : tie.After-find-loops = search in
     let s : tie.Start = search in
-    simp length-take (omega (arith, few-words _ _ (s .pre .0) (after-find-loops .find-loops .ensures .0), after-write-rows .write-rows .kept))
+    simp length-take (omega (
+      arith,
+      few-words _ _ (s .pre .0) (after-find-loops .find-loops .ensures .0),
+      after-write-rows .write-rows .kept,
+    ))
 
 -- the flag that the code has is the definition's comparison
-flag : (c : tie.After-differs) → (let s : tie.Start = search in c .differs .result ≡ otherReport (s .args .report .now) (fresh (s .args .book) (s .args .lines .now) (s .pre .0)))
+flag : (c : tie.After-differs)
+    → (let s : tie.Start = search in c .differs .result ≡ otherReport (s .args .report .now)
+    (fresh (s .args .book) (s .args .lines .now) (s .pre .0)))
 flag c =
     let after-write-rows : tie.After-write-rows = search in
     let after-find-loops : tie.After-find-loops = search in
     let s : tie.Start = search in
-    rw (front-is _ _ (s .pre .0) (after-find-loops .find-loops .ensures .0) _ _ (after-write-rows .write-rows .ensures)) at (c .differs .ensures)
+    rw (front-is _ _ (s .pre .0) (after-find-loops .find-loops .ensures .0) _ _ (after-write-rows .write-rows .ensures)) at
+    (c .differs .ensures)
 
-count-is : (c : tie.After-find-loops) → (let s : tie.Start = search in c .find-loops .result .count ≡ length (loopsOf (s .args .book .marks) (s .args .lines .now)))
+count-is : (c : tie.After-find-loops)
+    → (let s : tie.Start = search in c .find-loops .result .count ≡ length (loopsOf (s .args .book .marks) (s .args .lines .now)))
 count-is c = ap (λ (f : Found). f .count) (c .find-loops .ensures .0)
 
 returns : tie.Need-returns
 returns c =
     let after-find-loops : tie.After-find-loops = search in
-    let s : tie.Start = search in
-    (kept-other _ _ (s .pre .0) (s .args .report .now) _ (flag (c .before)) (c .if1 .taken), rw (← (count-is after-find-loops)) (after-find-loops .find-loops .ensures .1))
+    let s : tie.Start = search in (
+      kept-other _ _ (s .pre .0) (s .args .report .now) _ (flag (c .before)) (c .if1 .taken),
+      rw (← (count-is after-find-loops))
+          (after-find-loops .find-loops .ensures .1),
+    )
 
 returns-2 : tie.Need-returns-2
 returns-2 c =
     let after-find-loops : tie.After-find-loops = search in
-    let s : tie.Start = search in
-    (kept-own _ _ (s .pre .0) (s .args .report .now) _ (flag (c .before)) (after-find-loops .find-loops .ensures .0) (c .if1 .left), rw (← (count-is after-find-loops)) (after-find-loops .find-loops .ensures .1))
+    let s : tie.Start = search in (
+      kept-own _ _ (s .pre .0) (s .args .report .now) _ (flag (c .before)) (after-find-loops .find-loops .ensures .0) (c .if1 .left),
+      rw (← (count-is after-find-loops)) (after-find-loops .find-loops .ensures .1),
+    )
 
 pub kept-report-spec : {M : Type 1} → statement M
 kept-report-spec =

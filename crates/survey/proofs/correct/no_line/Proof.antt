@@ -15,7 +15,8 @@ use Rattle.survey.proofs.correct.no_line.Statement.{statement}
 use Rattle.survey.proofs.correct.no_line.Tie as tie
 
 -- the flag that the code has is the definition's test
-flag : (c : tie.After-outside) → (let a = c .before .before .args in c .outside .result ≡ outZ (pos 1) (pos (lineCount (a .lines .now))) (a .number))
+flag : (c : tie.After-outside)
+    → (let a = c .before .before .args in c .outside .result ≡ outZ (pos 1) (pos (lineCount (a .lines .now))) (a .number))
 flag c =
     let n = c .before in
     (rw (stored _ (n .signed-count .ok) (n .signed-count .ensures)) at (c .outside .ensures)) ∙ search needs
@@ -47,7 +48,9 @@ shared-slice-copy-out-same : tie.Need-shared-slice-copy-out-same
 shared-slice-copy-out-same c = let w = inside (c .before) in let m = size c in omega (arith, w .low, w .high)
 
 -- the flag of a withdrawn line
-gone : (c : tie.After-same) → (let entry : tie.Start = search in c .same .result ≡ eqZ (standingAt (entry .args .lines .now) (c .before .before .magnitude .result - 1)) (pos 0))
+gone : (c : tie.After-same)
+    → (let entry : tie.Start = search in c .same .result ≡ eqZ
+    (standingAt (entry .args .lines .now) (c .before .before .magnitude .result - 1)) (pos 0))
 gone c = c .same .ensures ∙ search needs
 
 returns-2 : tie.Need-returns-2

@@ -34,18 +34,23 @@ size : (c : tie.After-magnitude) → (let entry : tie.Start = search in c .magni
 size c = c .magnitude .ensures ∙ search needs
 
 -- where the number that is set stands
-inside : (c : tie.After-magnitude) → (let entry : tie.Start = search in (c .magnitude .result ≡ c .magnitude .result - 1 + 1) × (place (c .magnitude .result - 1) differenceField < length (entry .args .lines .now)))
+inside : (c : tie.After-magnitude)
+    → (let entry : tie.Start = search in (c .magnitude .result ≡ c .magnitude .result - 1 + 1)
+    × (place (c .magnitude .result - 1) differenceField < length (entry .args .lines .now)))
 inside c =
     let else1 : tie.Else1 = search in
     let n = ap natAbs (stands else1 .its-number) in
     (omega (arith, size c, n), omega (arith, size c, n, stands else1 .there))
 
 -- the report that was lent is the book's own
-own-before : (c : tie.After-kept) → (let s : tie.Start = search in (otherReport (s .args .report .now) (fresh (s .args .book) (s .args .lines .now) (s .pre .0)) ≡ false) × (c .kept .given .0 .0 ≡ foundIn (s .args .book .marks) (s .args .lines .now)))
+own-before : (c : tie.After-kept)
+    → (let s : tie.Start = search in (otherReport (s .args .report .now) (fresh (s .args .book) (s .args .lines .now) (s .pre .0))
+    ≡ false) × (c .kept .given .0 .0 ≡ foundIn (s .args .book .marks) (s .args .lines .now)))
 own-before c =
     let after-kept-report : tie.After-kept-report = search in
     let s : tie.Start = search in
-    is-own (s .args .book) (s .args .lines .now) (s .pre .0) (s .args .report .now) _ (after-kept-report .kept-report .ensures .0) _ (c .kept .given .1)
+    is-own (s .args .book) (s .args .lines .now) (s .pre .0) (s .args .report .now) _ (after-kept-report .kept-report .ensures .0) _
+    (c .kept .given .1)
 
 returns : tie.Need-returns
 unfolding correctGood
@@ -61,7 +66,8 @@ returns-2 c =
     rw (
       ← (flag after-no-line),
       else1 .if1 .left,
-      is-other (s .args .book) (s .args .lines .now) (s .pre .0) (s .args .report .now) _ (after-kept-report .kept-report .ensures .0) (c .before .enum-told .given .1),
+      is-other (s .args .book) (s .args .lines .now) (s .pre .0) (s .args .report .now) _ (after-kept-report .kept-report .ensures .0)
+          (c .before .enum-told .given .1),
       c .refuse2 .ensures,
     )
 
@@ -101,12 +107,15 @@ else-before c = search
 
 -- the lines as they now are
 new-lines : (c : tie.After-magnitude) → (let entry : tie.Start = search in let a = entry .args in
-    set (a .lines .now) (place (c .magnitude .result - 1) differenceField) (toZ w64 (ofZ w64 (a .difference))) ≡ rerunLines (a .lines .now) (a .number) (a .difference))
+    set (a .lines .now) (place (c .magnitude .result - 1) differenceField) (toZ w64 (ofZ w64 (a .difference)))
+    ≡ rerunLines (a .lines .now) (a .number) (a .difference))
 unfolding rerunLines
 new-lines c = let entry : tie.Start = search in rw (size c, toZ-ofZ (entry .fits .difference))
 
 -- the book with its new lines is good
-new-good : (c : tie.After-magnitude) → (let entry : tie.Start = search in let a = entry .args in GoodLines (a .book) (rerunLines (a .lines .now) (a .number) (a .difference)))
+new-good : (c : tie.After-magnitude)
+    → (let entry : tie.Start = search in let a = entry .args in GoodLines (a .book)
+    (rerunLines (a .lines .now) (a .number) (a .difference)))
 new-good c =
     let else1 : tie.Else1 = search in
     let s : tie.Start = search in
@@ -123,7 +132,8 @@ write-rows-requires c κs =
     rw (new-lines m) (
       new-good m,
       (
-        rw (ap (λ (f : Found). f .count) (o .1)) (table-of-again (s .args .book .marks) (s .args .lines .now) (s .args .number) (s .args .difference) _ (stands e) (after-kept-report .kept-report .ensures .1)),
+        rw (ap (λ (f : Found). f .count) (o .1)) (table-of-again (s .args .book .marks) (s .args .lines .now) (s .args .number)
+            (s .args .difference) _ (stands e) (after-kept-report .kept-report .ensures .1)),
         omega (arith, words-are _ _ (s .pre .0) (o .1), own-places _ _ (s .pre .0) (s .args .report .now) (o .0)),
       ),
     )
@@ -138,8 +148,10 @@ returns-3 c =
     let o = own-before after-kept in
     let f = o .1 ∙ sym (found-again (s .args .book .marks) (s .args .lines .now) (s .args .number) (s .args .difference) _ (stands e)) in
     rw (new-lines m, c .count-of .ensures)
-    (corrected-is (s .args .book) (s .args .lines .now) _ (s .args .report .now) _ (s .args .number) _ (s .pre .0) (sym (flag (e .before)) ∙ e .if1 .left) (o .0) (o .1)
-    (refreshed-same _ _ (new-good m) (s .args .report .now) _ _ _ (sym (words-are _ _ (new-good m) f)) (counts-are _ _ (new-good m) f) (rw (new-lines m) at (after-write-rows .write-rows .ensures))))
+    (corrected-is (s .args .book) (s .args .lines .now) _ (s .args .report .now) _ (s .args .number) _ (s .pre .0)
+    (sym (flag (e .before)) ∙ e .if1 .left) (o .0) (o .1)
+    (refreshed-same _ _ (new-good m) (s .args .report .now) _ _ _ (sym (words-are _ _ (new-good m) f)) (counts-are _ _ (new-good m) f)
+    (rw (new-lines m) at (after-write-rows .write-rows .ensures))))
 
 pub rerun-good-spec : {M : Type 1} → statement M
 rerun-good-spec =

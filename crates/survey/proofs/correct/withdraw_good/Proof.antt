@@ -27,18 +27,23 @@ size : (c : tie.After-magnitude) → (let entry : tie.Start = search in c .magni
 size c = c .magnitude .ensures ∙ search needs
 
 -- where the number that is set stands
-inside : (c : tie.After-magnitude) → (let entry : tie.Start = search in (c .magnitude .result ≡ c .magnitude .result - 1 + 1) × (place (c .magnitude .result - 1) standingField < length (entry .args .lines .now)))
+inside : (c : tie.After-magnitude)
+    → (let entry : tie.Start = search in (c .magnitude .result ≡ c .magnitude .result - 1 + 1)
+    × (place (c .magnitude .result - 1) standingField < length (entry .args .lines .now)))
 inside c =
     let else1 : tie.Else1 = search in
     let n = ap natAbs (stands else1 .its-number) in
     (omega (arith, size c, n), omega (arith, size c, n, stands else1 .there))
 
 -- the report that was lent is the book's own
-own-before : (c : tie.After-kept) → (let s : tie.Start = search in (otherReport (s .args .report .now) (fresh (s .args .book) (s .args .lines .now) (s .pre)) ≡ false) × (c .kept .given .0 .0 ≡ foundIn (s .args .book .marks) (s .args .lines .now)))
+own-before : (c : tie.After-kept)
+    → (let s : tie.Start = search in (otherReport (s .args .report .now) (fresh (s .args .book) (s .args .lines .now) (s .pre)) ≡ false)
+    × (c .kept .given .0 .0 ≡ foundIn (s .args .book .marks) (s .args .lines .now)))
 own-before c =
     let after-kept-report : tie.After-kept-report = search in
     let s : tie.Start = search in
-    is-own (s .args .book) (s .args .lines .now) (s .pre) (s .args .report .now) _ (after-kept-report .kept-report .ensures .0) _ (c .kept .given .1)
+    is-own (s .args .book) (s .args .lines .now) (s .pre) (s .args .report .now) _ (after-kept-report .kept-report .ensures .0) _
+    (c .kept .given .1)
 
 returns : tie.Need-returns
 unfolding correctGood
@@ -54,7 +59,8 @@ returns-2 c =
     rw (
       ← (flag after-no-line),
       else1 .if1 .left,
-      is-other (s .args .book) (s .args .lines .now) (s .pre) (s .args .report .now) _ (after-kept-report .kept-report .ensures .0) (c .before .enum-told .given .1),
+      is-other (s .args .book) (s .args .lines .now) (s .pre) (s .args .report .now) _ (after-kept-report .kept-report .ensures .0)
+          (c .before .enum-told .given .1),
       c .refuse2 .ensures,
     )
 
@@ -95,7 +101,8 @@ unfolding withdrawLines
 new-lines c = rw (size c)
 
 -- the book with its new lines is good
-new-good : (c : tie.After-magnitude) → (let entry : tie.Start = search in let a = entry .args in GoodLines (a .book) (withdrawLines (a .lines .now) (a .number)))
+new-good : (c : tie.After-magnitude)
+    → (let entry : tie.Start = search in let a = entry .args in GoodLines (a .book) (withdrawLines (a .lines .now) (a .number)))
 new-good c =
     let else1 : tie.Else1 = search in
     let s : tie.Start = search in
@@ -122,7 +129,8 @@ returns-3 c =
     let s : tie.Start = search in
     let o = own-before after-kept in
     rw (new-lines m)
-    (corrected-is (s .args .book) (s .args .lines .now) _ (s .args .report .now) _ (s .args .number) _ (s .pre) (sym (flag (e .before)) ∙ e .if1 .left) (o .0) (o .1)
+    (corrected-is (s .args .book) (s .args .lines .now) _ (s .args .report .now) _ (s .args .number) _ (s .pre)
+    (sym (flag (e .before)) ∙ e .if1 .left) (o .0) (o .1)
     (rw (new-lines m) at (c .before .refresh .ensures)))
 
 pub withdraw-good-spec : {M : Type 1} → statement M

@@ -8,7 +8,8 @@ returns : tie.Need-returns
 returns c =
     let after-find-loops : tie.After-find-loops = search in
     let s : tie.Start = search in
-    rw (c .refuse .ensures) (ten-is _ _ (s .pre) (after-find-loops .find-loops .ensures .0) (s .args .rows .now) (omega (arith, c .before .if1 .taken)))
+    rw (c .refuse .ensures) (ten-is _ _ (s .pre) (after-find-loops .find-loops .ensures .0) (s .args .rows .now)
+    (omega (arith, c .before .if1 .taken)))
 
 returns-2 : tie.Need-returns-2
 returns-2 c =
@@ -16,7 +17,8 @@ returns-2 c =
     let s : tie.Start = search in
     let else1 : tie.Else1 = search in
     let after-write-rows : tie.After-write-rows = search in
-    rw (c .count-of .ensures) (survey-is _ _ (s .pre) (after-find-loops .find-loops .ensures .0) (s .args .rows .now) _ (omega (arith, else1 .if1 .left)) (after-write-rows .write-rows .ensures))
+    rw (c .count-of .ensures) (survey-is _ _ (s .pre) (after-find-loops .find-loops .ensures .0) (s .args .rows .now) _
+    (omega (arith, else1 .if1 .left)) (after-write-rows .write-rows .ensures))
 
 pub survey-good-spec : {M : Type 1} → statement M
 survey-good-spec =

@@ -16,7 +16,19 @@ returns c =
     let c₃ = c₄ .before in
     let c₂ = c₃ .before in
     let c₁ = c₂ .before in
-    rw (c .first5 .ensures, c₁₀ .outside4 .ensures, c₉ .outside3 .ensures, c₈ .first4 .ensures, c₇ .same .ensures, c₆ .first3 .ensures, c₅ .outside-difference .ensures, c₄ .first2 .ensures, c₃ .outside2 .ensures, c₂ .first .ensures, c₁ .outside .ensures) (search needs)
+    rw (
+      c .first5 .ensures,
+      c₁₀ .outside4 .ensures,
+      c₉ .outside3 .ensures,
+      c₈ .first4 .ensures,
+      c₇ .same .ensures,
+      c₆ .first3 .ensures,
+      c₅ .outside-difference .ensures,
+      c₄ .first2 .ensures,
+      c₃ .outside2 .ensures,
+      c₂ .first .ensures,
+      c₁ .outside .ensures,
+    ) (search needs)
 
 pub fault-spec : {M : Type 1} → statement M
 fault-spec =
