@@ -7,11 +7,10 @@ use mathlib.Core.Bool.{Bool, true, false}
 use mathlib.Core.List.{List, [], _∷_, List·Memᴰ, List·Memᴰ·head, List·Memᴰ·tail, List·Memᴰ·not-nil}
 use lib.Dec.{eqb}
 use lib.ListN.{getD}
-use borrow.Author.Tests.{eqb-true, eqb-false, eq-eqb, ne-eqb}
+use borrow.Author.Tests.{eqb-true, eqb-false}
 use Rattle.network.specs.Standing.{Line}
 use Rattle.chains.specs.Chains.{markOf, On, here, later, Chain, no-half, first, leftBy, leaving, InOrder, Sound, halves}
 use Rattle.chains.specs.Link.{RoomChains, Linked, Joined}
-use Rattle.chains.proofs.Halves.{on-split}
 use Rattle.chains.proofs.Joining.{next-new, head-old, head-new, chain-new, link-room}
 
 -- what is on a chain is one of its halves

@@ -8,7 +8,7 @@ use lib.ListN.{length, drop, replicate, length-append, replicate-append-replicat
 use lib.Seq.{drop-append-seam}
 use lib.IntN.{ℤ, pos, natAbs}
 use Rattle.book.specs.Lent.{Lent, withLines}
-use Rattle.book.specs.Test.{testOf, refusal}
+use Rattle.book.specs.Test.{testOf}
 use Rattle.book.specs.Good.{GoodBook}
 use Rattle.book.specs.declared.Book.{Book}
 use Rattle.book.specs.declared.Refusal.{Refusal}

@@ -8,14 +8,13 @@ use lib.IntN.{ℤ, pos, natAbs}
 use Rattle.laws.specs.Tests.{outZ, outN, eqZ}
 use Rattle.laws.specs.Scan.{firstFrom, firstBad, anyBelow}
 use Rattle.book.specs.Lent.{Lent, lent}
-use Rattle.book.specs.Line.{differenceAt}
+use Rattle.book.specs.Line.{differenceAt, differenceField}
 use Rattle.book.specs.Good.{GoodBook}
 use Rattle.book.specs.Test.{testOf, noRefusal}
 use Rattle.book.specs.declared.Book.{Book}
 use Rattle.book.specs.declared.Tested.the-variants.{Good}
 use Rattle.book.proofs.Passing.{good-passes}
 use Rattle.network.specs.Standing.{Line, standing}
-use Rattle.book.specs.Line.{differenceField}
 use Rattle.network.proofs.Standing.{from-on}
 use Rattle.loops.specs.Row.{closingNumber, rowClosing}
 use Rattle.loops.specs.Circuit.{Circuit}

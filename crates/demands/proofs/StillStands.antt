@@ -11,7 +11,7 @@ use Rattle.book.specs.Line.{differenceAt}
 use Rattle.book.specs.Test.{testOf}
 use Rattle.book.specs.declared.Book.{Book}
 use Rattle.book.specs.declared.Tested.the-variants.{Good}
-use Rattle.book.proofs.Goods.{tested-good}
+use Rattle.book.proofs.Goods.{tested-good, good-lines}
 use Rattle.network.specs.Standing.{Line, standing}
 use Rattle.network.specs.Field.{lineAt}
 use Rattle.network.specs.Sound.{Sound}
@@ -34,7 +34,6 @@ use Rattle.loops.proofs.Rerun.{rerun-moves-misclosure}
 use Rattle.loops.proofs.Withdrawal.{withdrawal-keeps-loops, one-loop-goes, loops-never-grow, at-most-one-loop-fewer}
 use Rattle.loops.specs.Report.{loopsOf, piecesOf}
 use Rattle.survey.specs.Correction.{rerunLines, withdrawLines, rerunOf, withdrawOf}
-use Rattle.book.proofs.Goods.{good-lines}
 use Rattle.loops.proofs.Sounding.{good-sound}
 use Rattle.survey.proofs.Corrected.{its-line}
 use Rattle.loops.proofs.Places.{loop-at-is}

@@ -6,7 +6,6 @@ use mathlib.Core.List.{List, _++_}
 use Prim.Native.Nat.{ℕ, _*_, _≤_}
 use lib.ListN.{length, drop}
 use lib.IntN.{ℤ, pos, natAbs}
-use Rattle.book.specs.Test.{refusal}
 use Rattle.book.specs.Lent.{Lent, withLines}
 use Rattle.book.specs.Limits.{mostDifference}
 use Rattle.book.specs.Held.{heldWords}

@@ -10,7 +10,6 @@ use lib.Ieee.{binary64, inSigned, toSigned, ofInt}
 use lib.ListN.{length, take, drop}
 use lib.IntN.{ℤ, pos, natAbs, _+ℤ_}
 use Rattle.laws.specs.Tests.{outZ, eqZ}
-use Rattle.book.specs.Test.{refusal}
 use Rattle.book.specs.Lent.{Lent}
 use Rattle.book.specs.Line.{lineCount}
 use Rattle.network.specs.Standing.{Line, standing}

@@ -23,7 +23,7 @@ use Rattle.book.specs.declared.Book.{Book}
 use Rattle.book.specs.declared.Refusal.{Refusal}
 use Rattle.book.specs.declared.Tested.the-variants.{Good, Refused}
 use Rattle.book.proofs.IfGood.{either-way}
-use Rattle.book.proofs.Goods.{tested-good, tested-numbered}
+use Rattle.book.proofs.Goods.{tested-good, tested-numbered, good-lines}
 use Rattle.network.specs.Standing.{standing}
 use Rattle.network.proofs.Entries.{tree-lines-count}
 use Rattle.book.specs.Good.{GoodLines}
@@ -37,7 +37,6 @@ use Rattle.lists.specs.Listing.{Listing, listOf, listingGood, listingOf, listin
 use Rattle.lists.specs.NotChecked.{uncheckedOf, notCheckedOf}
 use Rattle.loops.specs.Loops.{loopAt}
 use Rattle.loops.specs.Row.{listed, listings}
-use Rattle.book.proofs.Goods.{good-lines}
 use Rattle.loops.proofs.Sounding.{lines-sound, few-loops}
 use Rattle.survey.proofs.Corrected.{stands-of, rerun-lines-good, withdrawn-lines-good}
 use Rattle.rates.specs.Rates as rates

@@ -1,5 +1,5 @@
 -- The not-checked list of a good book: the steps of the work give the definition's list. Assumes nothing.
-use Prim.Native.Nat.{ℕ, zero, suc, _+_, _*_, _-_, _≤_, _<_}
+use Prim.Native.Nat.{ℕ, zero, suc, _+_, _≤_, _<_}
 use native.Mathlib.Omega.{arith}
 use mathlib.Core.Path.{_≡_, refl, sym, _∙_, ap, ap₂, subst}
 use mathlib.Core.Bool.{Bool, true, false, cond}
@@ -7,7 +7,7 @@ use mathlib.Core.List.{List, [], _∷_, map, List·Memᴰ, List·Memᴰ·head, L
 use lib.IntN.{ℤ, pos, natAbs}
 use lib.ListN.{length, take, drop, getD, length-map, List·getD-map}
 use lib.Seq.{length-sets, sets-eq, take-at}
-use Rattle.book.specs.Limits.{mostMarks, mostLines}
+use Rattle.book.specs.Limits.{mostLines}
 use Rattle.book.specs.Good.{GoodLines}
 use Rattle.book.specs.declared.Book.{Book}
 use Rattle.network.specs.Standing.{Line, standing}
@@ -16,7 +16,7 @@ use Rattle.loops.specs.Checked.{checked, notChecked}
 use Rattle.loops.specs.Report.{loopsOf}
 use Rattle.network.proofs.Standing.{few-standing}
 use Rattle.loops.proofs.Sounding.{line-limits}
-use Rattle.chains.specs.Chains.{halves, numberLimit}
+use Rattle.chains.specs.Chains.{numberLimit}
 use Rattle.unchecked.specs.Book.{BookListed}
 use Rattle.lists.specs.NotChecked.{uncheckedOf}
 use Rattle.lists.specs.Numbers.{Numbers}

@@ -72,7 +72,7 @@ rising-without x (k ∷ ls) (then above r) = go (not (eqb (k .number) x)) (risin
     go true ih = then (λ j i. above j (of-without x ls j i)) ih
     go false ih = ih
 
--- ---- the tree is the same where x is no line of it: what is lowest is settled by its laws alone, not by how `lowest` goes through the list
+-- ---- the tree is the same where x is no line of it: what is lowest is settled by its laws, not by how `lowest` goes through the list
 
 module _ (lines : List Line) (rising : Rising lines) (x : ℕ) where
   candidate-eq : (c d : Candidate) → c .line ≡ d .line → c .score ≡ d .score → c ≡ d

@@ -16,7 +16,7 @@ use Rattle.book.specs.Test.{testOf, ifGood}
 use Rattle.book.specs.declared.Book.{Book}
 use Rattle.book.specs.declared.Tested.{Tested}
 use Rattle.book.specs.declared.Tested.the-variants.{Good, Refused}
-use Rattle.book.proofs.Goods.{tested-numbered}
+use Rattle.book.proofs.Goods.{tested-numbered, good-lines}
 use Rattle.file.specs.Read.{Outcome, answered, refusedWith, headOf, linesOf, bookIn, roomOf, bodyOf, afterHead, readOf}
 use Rattle.file.specs.Owed.{BookRead}
 use Rattle.file.specs.declared.Head as head
@@ -27,7 +27,6 @@ use Rattle.file.proofs.Entries.{entries-length}
 use Rattle.file.proofs.Heads.{head-states, head-numbered}
 use Rattle.file.proofs.Reading.{zero-is-read}
 use Rattle.book.specs.Good.{GoodLines}
-use Rattle.book.proofs.Goods.{good-lines}
 use Rattle.text.specs.Report.{refusedText}
 use Rattle.page.specs.Page.{bookPage, statedPage, pageOf}
 

@@ -1,8 +1,8 @@
 -- The lines of the loops, one after the other, from the table of loops. Assumes nothing.
-use Prim.Native.Nat.{ℕ, suc, _+_, _-_, _≤_, _<_}
+use Prim.Native.Nat.{ℕ, suc, _+_, _-_, _<_}
 use native.Mathlib.Omega.{arith}
 use native.Mathlib.Numerals.{add-one}
-use mathlib.Core.Path.{_≡_, refl, sym, _∙_, ap, ap₂, subst}
+use mathlib.Core.Path.{_≡_, sym, _∙_, ap, ap₂, subst}
 use mathlib.Core.List.{List, [], _∷_, _++_, map, append-assoc, append-nil}
 use lib.IntN.{ℤ, pos}
 use lib.ListN.{length, getD, take, drop, length-map}
@@ -11,7 +11,7 @@ use Rattle.book.specs.Good.{GoodLines}
 use Rattle.book.specs.declared.Book.{Book}
 use Rattle.network.specs.Codes.{codes}
 use Rattle.loops.specs.Loops.{Loop, loopAt}
-use Rattle.loops.specs.Row.{row, listed}
+use Rattle.loops.specs.Row.{row}
 use Rattle.loops.specs.Report.{loopsOf}
 use Rattle.loops.specs.Table.{Table}
 use Rattle.loops.proofs.Places.{loop-at-is, loop-is}

@@ -22,7 +22,7 @@ use Rattle.laws.specs.Range.{Between}
 use Rattle.book.specs.Good.{GoodLine}
 use Rattle.chains.specs.Chains.{Half, fore, aft, markOf, metresOf, Bounded, Told, Drawn, InOrder, Sound, AllSound, halves, numberLimit}
 use Rattle.chains.specs.Link.{RoomChains, Fits, Joined, Wider}
-use Rattle.chains.proofs.Halves.{half-no, half-ok, told-mark, told-metres}
+use Rattle.chains.proofs.Halves.{half-no, told-mark}
 use Rattle.chains.proofs.Joining.{join-draws, draws-none}
 use Rattle.chains.proofs.Order.{join-order, order-none}
 use Rattle.prepare.specs.Drawn.{Entry, endOf, Drew, withdrawn, drawn, Sheet, BookDrawn}

@@ -1,9 +1,8 @@
 -- A good book and room for it are what the drawing and the planting ask for. Assumes nothing.
-use Prim.Native.Nat.{_+_, _-_}
+use Prim.Native.Nat.{_+_, _-_, ℕ}
 use native.Mathlib.Omega.{arith}
 use mathlib.Core.Path.{_≡_, sym, subst}
 use mathlib.Core.List.{List}
-use Prim.Native.Nat.{ℕ}
 use lib.IntN.{ℤ}
 use Rattle.book.specs.Line.{lineCount}
 use Rattle.book.specs.Good.{GoodLine, GoodLines}

@@ -1,7 +1,7 @@
 -- The sums over a loop's run are those of the definition over its passes, and a loop's run is one in its book. Assumes nothing.
 use Prim.Native.Nat.{ℕ, zero, suc, _+_, _*_, _/_, _%_, _<_}
 use native.Mathlib.Omega.{arith}
-use mathlib.Core.Path.{_≡_, refl, sym, _∙_, ap, ap₂, subst}
+use mathlib.Core.Path.{_≡_, refl, sym, ap, ap₂}
 use mathlib.Core.Bool.{Bool, true, false, cond}
 use mathlib.Core.List.{List, [], _∷_, List·Memᴰ, List·Memᴰ·head, List·Memᴰ·tail}
 use lib.IntN.{ℤ, pos, natAbs, negℤ, _+ℤ_}
@@ -15,7 +15,7 @@ use Rattle.network.specs.Standing.{Line, standing}
 use Rattle.network.specs.Codes.{codeOf, codes}
 use Rattle.network.specs.Walk.{Pass, wayLength}
 use Rattle.network.proofs.Standing.{of-standing}
-use Rattle.loops.specs.Loops.{Loop, loops}
+use Rattle.loops.specs.Loops.{Loop}
 use Rattle.loops.specs.Row.{signed, misclosure, within, verdict, closingNumber, row}
 use Rattle.loops.specs.Report.{loopsOf}
 use Rattle.loops.proofs.Row.{allowances-sum}

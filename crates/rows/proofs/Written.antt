@@ -1,9 +1,9 @@
 -- Rows written one after the other, from the table of loops. Assumes nothing.
-use Prim.Native.Nat.{ℕ, suc, _+_, _*_, _-_, _≤_, _<_}
+use Prim.Native.Nat.{ℕ, _+_, _*_, _-_, _<_}
 use native.Mathlib.Omega.{arith}
 use native.Mathlib.Numerals.{add-one}
-use mathlib.Core.Path.{_≡_, refl, sym, _∙_, ap, ap₂, subst}
-use mathlib.Core.List.{List, [], _∷_, _++_, List·Memᴰ, append-assoc, append-nil}
+use mathlib.Core.Path.{_≡_, refl, sym, _∙_, ap, ap₂}
+use mathlib.Core.List.{List, [], _∷_, _++_, append-assoc, append-nil}
 use lib.IntN.{ℤ}
 use lib.ListN.{length, getD, take, drop}
 use lib.Seq.{take-suc, take-all, length-take-le}
@@ -13,7 +13,7 @@ use Rattle.book.specs.Good.{GoodLines}
 use Rattle.book.specs.declared.Book.{Book}
 use Rattle.loops.specs.Loops.{Loop, loopAt}
 use Rattle.loops.specs.Row.{rowWords, row, rows}
-use Rattle.loops.specs.Report.{loopsOf, reportOf}
+use Rattle.loops.specs.Report.{loopsOf}
 use Rattle.loops.specs.Table.{Table}
 use Rattle.loops.proofs.Row.{rows-length}
 use Rattle.loops.proofs.Places.{loop-at-is, loop-is}

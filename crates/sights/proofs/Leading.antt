@@ -1,7 +1,7 @@
 -- The chain of a mark in the drawn book leads by the lines at that mark. Assumes nothing.
-use Prim.Native.Nat.{ℕ, zero, suc, _+_, _*_, _%_, _≤_, _<_}
+use Prim.Native.Nat.{ℕ, zero, suc, _+_, _*_, _≤_, _<_}
 use native.Mathlib.Omega.{arith}
-use mathlib.Core.Path.{_≡_, refl, sym, _∙_, subst}
+use mathlib.Core.Path.{_≡_, refl, _∙_, subst}
 use mathlib.Core.List.{List, [], _∷_}
 use mathlib.Core.Bool.{Bool, true, false}
 use lib.Dec.{eqb}
@@ -9,9 +9,9 @@ use lib.ListN.{getD}
 use lib.IntN.{ℤ, pos, natAbs, negℤ}
 use Rattle.laws.specs.Tests.{eqZ}
 use Rattle.book.specs.Line.{fromAt, toAt, differenceAt, lengthAt, standingAt}
-use Rattle.book.specs.Good.{GoodLine, Lines}
-use Rattle.network.specs.Standing.{Line, standing}
-use Rattle.network.specs.Field.{HasLine, lineAt, standsFrom}
+use Rattle.book.specs.Good.{Lines}
+use Rattle.network.specs.Standing.{standing}
+use Rattle.network.specs.Field.{standsFrom}
 use Rattle.network.proofs.Standing.{stands-all, stands-none, stands-not, stands-here}
 use Rattle.chains.specs.Chains.{Chain, no-half, first, leftBy, leaving, InOrder}
 use Rattle.divisions.specs.Weight.{weightOf}

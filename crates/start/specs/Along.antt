@@ -9,7 +9,7 @@ use mathlib.Core.Option.{Option, none, some}
 use lib.Dec.{eqb}
 use lib.ListN.{length, getD, drop}
 use lib.IntN.{ℤ, pos, natAbs, _+ℤ_}
-use Rattle.book.specs.Limits.{mostDifference, mostMarks, mostHeld, mostHeldHeight}
+use Rattle.book.specs.Limits.{mostDifference, mostMarks, mostHeldHeight}
 use Rattle.book.specs.Good.{GoodHeld}
 use Rattle.book.specs.Line.{fromAt, toAt, differenceAt}
 use Rattle.network.specs.Standing.{Line}

@@ -6,7 +6,6 @@ use mathlib.Core.Path.{_≡_, sym, _∙_, ap, ap₂, subst}
 use mathlib.Core.List.{List, map}
 use lib.IntN.{ℤ}
 use lib.ListN.{length, length-map}
-use Rattle.book.specs.declared.Book.{Book}
 use Rattle.network.specs.Standing.{Line, standing}
 use Rattle.book.specs.Line.{differenceField}
 use Rattle.network.specs.Redone.{newDifference, redone, redonePass}
@@ -18,7 +17,6 @@ use Rattle.loops.specs.Table.{Table}
 use Rattle.loops.proofs.Rerun.{rerun-keeps-loops, rerun-keeps-pieces}
 use Rattle.loops.proofs.Table.{table-again}
 use Rattle.table.specs.Filled.{foundIn}
-use Rattle.table.specs.declared.Found.{Found}
 use Rattle.survey.specs.Stands.{Stands}
 use Rattle.survey.specs.Correction.{rerunLines}
 use Rattle.survey.proofs.Corrected.{place-is, has-line}

@@ -1,12 +1,12 @@
 -- One loop's turn after the other fills the table. Assumes nothing.
-use Prim.Native.Nat.{ℕ, suc, _+_, _*_, _-_, _≤_, _<_}
+use Prim.Native.Nat.{ℕ, _+_, _*_, _-_, _≤_, _<_}
 use native.Mathlib.Omega.{arith}
 use native.Mathlib.Decide.{ℕ-discrete}
 use mathlib.Core.Path.{_≡_, refl, sym, _∙_, ap, ap₂, subst}
 use mathlib.Core.Bool.{true}
 use mathlib.Core.List.{List, [], _∷_, _++_}
 use lib.ListN.{length, getD, take, drop, set, length-append, length-set}
-use lib.Seq.{sets, take-all, take-append-le, getD-set-same, getD-set-other}
+use lib.Seq.{take-all, take-append-le, getD-set-same, getD-set-other}
 use borrow.Rule.Slice.PartMut.{midOf, putMid}
 use Rattle.network.specs.Standing.{Line}
 use Rattle.network.specs.Path.{Pass, pass, shortest}
@@ -17,7 +17,7 @@ use Rattle.loops.specs.Table.{runsOf, Table}
 use Rattle.loops.proofs.Table.{codes-length, runs-append, runs-more}
 use Rattle.chains.specs.Chains.{numberLimit}
 use Rattle.search.specs.Front.{RoomPath}
-use Rattle.subgraph.specs.LoopTurn.{Taking, Takes, Took, Taken, Going}
+use Rattle.subgraph.specs.LoopTurn.{Taking, Takes, Took, Taken}
 use Rattle.subgraph.proofs.LoopTurns.{Next, going-turn, going-next, going-more, going-none, going-all}
 use Rattle.table.specs.Filled.{Ready, Fills, FilledTo}
 use Rattle.table.proofs.Runs.{run-on}

@@ -4,9 +4,6 @@ use borrow.Author.Needs.{needs}
 use Rattle.adjust_cases.proofs.one_case.Statement.{statement}
 use Rattle.adjust_cases.proofs.one_case.Tie as tie
 
-slice-aggregate-read-and-run-3 : tie.Need-slice-aggregate-read-and-run-3
-slice-aggregate-read-and-run-3 c = simp length-take (omega arith)
-
 pub one-case-spec : {M : Type 1} → statement M
 one-case-spec =
     tie.close
@@ -21,7 +18,7 @@ one-case-spec =
     (λ c. search needs)  -- slice-aggregate-read-and-run
     (λ c. search needs)  -- slice-aggregate-read-and-run-2
     (λ c. search needs)  -- array-borrow-prefix-heights
-    slice-aggregate-read-and-run-3
+    (λ c. simp length-take (omega arith))  -- slice-aggregate-read-and-run-3
     (λ c κs. search needs)  -- number-requires-2
     (λ c κs. search needs)  -- read-and-run-requires
     (λ c. search needs))  -- returns

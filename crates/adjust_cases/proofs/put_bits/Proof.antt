@@ -13,16 +13,13 @@ a-number nan e = absurd (true≢false (sym e))
 a-number (inf s) e = tt
 a-number (fin s m d) e = tt
 
-float-to-bits-print-decimal : tie.Need-float-to-bits-print-decimal
-float-to-bits-print-decimal c = a-number _ (c .before .before .if1 .taken)
-
 pub put-bits-spec : {M : Type 1} → statement M
 put-bits-spec =
     tie.close
     (tie.spec
     (λ c. search needs)  -- slice-aggregate-put
     (λ c κs. search needs)  -- put-requires
-    float-to-bits-print-decimal
+    (λ c. a-number _ (c .before .before .if1 .taken))  -- float-to-bits-print-decimal
     (λ c κs. search needs)  -- print-decimal-requires
     (λ c. search needs)  -- returns
     (λ c. search needs))  -- returns-2

@@ -4,12 +4,6 @@ use borrow.Author.Needs.{needs}
 use Rattle.adjust_cases.proofs.read_and_run.Statement.{statement}
 use Rattle.adjust_cases.proofs.read_and_run.Tie as tie
 
-slice-aggregate-run : tie.Need-slice-aggregate-run
-slice-aggregate-run c = simp length-take (omega arith)
-
-slice-aggregate-run-2 : tie.Need-slice-aggregate-run-2
-slice-aggregate-run-2 c = simp length-take (omega arith)
-
 same-length-3 : tie.Need-same-length-3
 same-length-3 c =
     let after-clear : tie.After-clear = search in
@@ -29,9 +23,9 @@ read-and-run-spec =
     (λ c. search needs)  -- mul-at-most-2
     (λ c κs. search needs)  -- at-most-requires-2
     (λ c. search needs)  -- slice-reshare-prefix-run
-    slice-aggregate-run
+    (λ c. simp length-take (omega arith))  -- slice-aggregate-run
     (λ c. search needs)  -- slice-relend-prefix-run
-    slice-aggregate-run-2
+    (λ c. simp length-take (omega arith))  -- slice-aggregate-run-2
     (λ c. search needs)  -- add-run
     (λ c κs. search needs)  -- run-requires
     (λ c. search needs)  -- same-length

@@ -4,16 +4,13 @@ use borrow.Author.Needs.{needs}
 use Rattle.afternoon.proofs.answer_lent.Statement.{statement}
 use Rattle.afternoon.proofs.answer_lent.Tie as tie
 
-slice-aggregate-answer : tie.Need-slice-aggregate-answer
-slice-aggregate-answer c = simp length-take (omega arith)
-
 pub answer-lent-spec : {M : Type 1} → statement M
 answer-lent-spec =
     tie.close
     (tie.spec
     (λ c κs. search needs)  -- at-most-requires
     (λ c. search needs)  -- slice-relend-prefix-answer
-    slice-aggregate-answer
+    (λ c. simp length-take (omega arith))  -- slice-aggregate-answer
     (λ c κs. search needs)  -- answer-requires
     (λ c. search needs)  -- same-length
     (λ c. search needs)  -- same-length-2

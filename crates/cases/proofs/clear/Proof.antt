@@ -15,9 +15,6 @@ Inv-loop s₀ i₀ s i = Laid (replicate (length s₀) untouched) s₀ s i
 abbrev μ-loop : tie.MeasureT-loop
 μ-loop s₀ i₀ s i = length s₀ - i
 
-loop-holds : tie.Need-loop-holds Inv-loop μ-loop
-loop-holds c = laid-start _ _
-
 loop-again : tie.Need-loop-again Inv-loop μ-loop
 loop-again c =
     let l = c .before in
@@ -41,7 +38,7 @@ clear-spec =
     (tie.spec
     Inv-loop
     μ-loop
-    loop-holds
+    (λ c. laid-start _ _)  -- loop-holds
     (λ c. search needs)  -- mul-s
     (λ c. search needs)  -- slice-set-of-s
     (λ c. search needs)  -- add-i

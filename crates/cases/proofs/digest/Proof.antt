@@ -19,9 +19,6 @@ Inv-loop s sum₀ i₀ sum i = (i ≤ length s) × (digestFrom sum (drop i s) �
 abbrev μ-loop : tie.MeasureT-loop
 μ-loop s sum₀ i₀ sum i = length s - i
 
-loop-holds : tie.Need-loop-holds Inv-loop μ-loop
-loop-holds c = (omega arith, refl)
-
 loop-again : tie.Need-loop-again Inv-loop μ-loop
 unfolding digestFrom
 loop-again c =
@@ -47,7 +44,7 @@ digest-spec =
     (tie.spec
     Inv-loop
     μ-loop
-    loop-holds
+    (λ c. (omega arith, refl))  -- loop-holds
     (λ c. search needs)  -- mul-mixed
     (λ c. search needs)  -- shared-slice-copy-out-mixed
     (λ c κs. tt)  -- mixed-requires

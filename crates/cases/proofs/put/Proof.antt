@@ -5,9 +5,6 @@ use Rattle.cases.proofs.Printed.{put-all, spaced-room}
 use Rattle.cases.proofs.put.Statement.{statement}
 use Rattle.cases.proofs.put.Tie as tie
 
-slice-aggregate-write-all : tie.Need-slice-aggregate-write-all
-slice-aggregate-write-all c = put-part (c .before .before .put-spaced .ensures) (omega arith)
-
 returns : tie.Need-returns
 returns c =
     let s : tie.Start = search in put-all (c .before .before .before .put-spaced .ensures) (spaced-room (s .args .n) (s .fits .n .fits))
@@ -19,6 +16,6 @@ put-spec =
     (λ c. search needs)  -- slice-aggregate-put-spaced
     (λ c κs. search needs)  -- put-spaced-requires
     (λ c. search needs)  -- array-share-prefix-out
-    slice-aggregate-write-all
+    (λ c. put-part (c .before .before .put-spaced .ensures) (omega arith))  -- slice-aggregate-write-all
     (λ c κs. search needs)  -- write-all-requires
     returns)

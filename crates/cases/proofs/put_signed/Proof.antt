@@ -6,9 +6,6 @@ use Rattle.cases.proofs.Printed.{put-all, line-room}
 use Rattle.cases.proofs.put_signed.Statement.{statement}
 use Rattle.cases.proofs.put_signed.Tie as tie
 
-slice-aggregate-write-all : tie.Need-slice-aggregate-write-all
-slice-aggregate-write-all c = put-part (c .before .before .put-line .ensures) (omega arith)
-
 returns : tie.Need-returns
 returns c =
     let s : tie.Start = search in
@@ -21,6 +18,6 @@ put-signed-spec =
     (λ c. search needs)  -- slice-aggregate-put-line
     (λ c κs. search needs)  -- put-line-requires
     (λ c. search needs)  -- array-share-prefix-out
-    slice-aggregate-write-all
+    (λ c. put-part (c .before .before .put-line .ensures) (omega arith))  -- slice-aggregate-write-all
     (λ c κs. search needs)  -- write-all-requires
     returns)

@@ -4,9 +4,6 @@ use Rattle.text.proofs.Puts.{put-part}
 use Rattle.cases.proofs.show_numbers.Statement.{statement}
 use Rattle.cases.proofs.show_numbers.Tie as tie
 
-slice-aggregate-write-all : tie.Need-slice-aggregate-write-all
-slice-aggregate-write-all c = put-part (c .before .before .put-numbers .ensures) (omega arith)
-
 returns : tie.Need-returns
 returns c = omega (arith, c .before .before .before .put-numbers .ensures .next-is)
 
@@ -17,6 +14,6 @@ show-numbers-spec =
     (λ c. search needs)  -- slice-aggregate-put-numbers
     (λ c κs. search needs)  -- put-numbers-requires
     (λ c. search needs)  -- array-share-prefix-out
-    slice-aggregate-write-all
+    (λ c. put-part (c .before .before .put-numbers .ensures) (omega arith))  -- slice-aggregate-write-all
     (λ c κs. search needs)  -- write-all-requires
     returns)

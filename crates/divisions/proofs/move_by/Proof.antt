@@ -35,9 +35,6 @@ nearest-size-requires c κs = (
   c .before .before .pre .1 .0,
 )
 
-signed-count-requires : tie.Need-signed-count-requires
-signed-count-requires c κs = small c
-
 sub-requires : tie.Need-sub-requires
 sub-requires c κs = let h = small (c .before .before) in rw (count (c .before)) (omega arith)
 
@@ -70,7 +67,7 @@ move-by-spec =
     (λ c κs. search needs)  -- magnitude-requires
     returns
     nearest-size-requires
-    signed-count-requires
+    (λ c κs. small c)  -- signed-count-requires
     sub-requires
     returns-2
     returns-3)

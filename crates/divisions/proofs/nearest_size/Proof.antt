@@ -8,9 +8,6 @@ use borrow.Author.Needs.{needs}
 use Rattle.divisions.proofs.nearest_size.Statement.{statement}
 use Rattle.divisions.proofs.nearest_size.Tie as tie
 
-mul-if1 : tie.Need-mul-if1
-mul-if1 c = omega (arith, mod-lt (c .args .a) (c .pre .0))
-
 add-result : tie.Need-add-result
 add-result c = let s = c .before in omega (arith, up-fits (s .args .a) (s .args .d) (s .pre .0) (c .if1 .taken))
 
@@ -23,4 +20,4 @@ unfolding nearestSize
 returns-2 c = rw (le-ltb _ _ (c .if1 .left))
 
 pub nearest-size-spec : {M : Type 1} → statement M
-nearest-size-spec = tie.close (tie.spec (λ c. search needs) (λ c. search needs) mul-if1 add-result returns returns-2)
+nearest-size-spec = tie.close (tie.spec (λ c. search needs) (λ c. search needs) (λ c. omega (arith, mod-lt (c .args .a) (c .pre .0))) add-result returns returns-2)

@@ -11,12 +11,6 @@ use borrow.Author.Needs.{needs}
 use Rattle.file.proofs.tested.Statement.{statement}
 use Rattle.file.proofs.tested.Tie as tie
 
-slice-aggregate-test : tie.Need-slice-aggregate-test
-slice-aggregate-test c = simp length-take (omega arith)
-
-slice-aggregate-test-2 : tie.Need-slice-aggregate-test-2
-slice-aggregate-test-2 c = simp length-take (omega arith)
-
 returns : tie.Need-returns
 unfolding heldOf linesOf
 returns c =
@@ -54,8 +48,8 @@ tested-spec =
     (λ c. search needs)  -- mul-held-words
     (λ c. search needs)  -- mul-line-words
     (λ c. search needs)  -- array-share-prefix-held
-    slice-aggregate-test
+    (λ c. simp length-take (omega arith))  -- slice-aggregate-test
     (λ c. search needs)  -- array-share-prefix-lines
-    slice-aggregate-test-2
+    (λ c. simp length-take (omega arith))  -- slice-aggregate-test-2
     (λ c κs. search needs)  -- test-requires
     returns)

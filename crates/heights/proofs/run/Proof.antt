@@ -4,15 +4,6 @@ use borrow.Author.Needs.{needs}
 use Rattle.heights.proofs.run.Statement.{statement}
 use Rattle.heights.proofs.run.Tie as tie
 
-slice-aggregate-sheet : tie.Need-slice-aggregate-sheet
-slice-aggregate-sheet c = simp length-take (omega arith)
-
-slice-aggregate-sheet-2 : tie.Need-slice-aggregate-sheet-2
-slice-aggregate-sheet-2 c = simp length-take (omega arith)
-
-slice-aggregate-sheet-3 : tie.Need-slice-aggregate-sheet-3
-slice-aggregate-sheet-3 c = simp length-take (omega arith)
-
 pub run-spec : {M : Type 1} → statement M
 run-spec =
     tie.close
@@ -29,11 +20,11 @@ run-spec =
     (λ c κs. search needs)  -- at-most-requires-2
     (λ c κs. search needs)  -- at-most-requires-3
     (λ c. search needs)  -- slice-reshare-prefix-sheet
-    slice-aggregate-sheet
+    (λ c. simp length-take (omega arith))  -- slice-aggregate-sheet
     (λ c. search needs)  -- slice-reshare-prefix-sheet-2
-    slice-aggregate-sheet-2
+    (λ c. simp length-take (omega arith))  -- slice-aggregate-sheet-2
     (λ c. search needs)  -- slice-relend-prefix-sheet
-    slice-aggregate-sheet-3
+    (λ c. simp length-take (omega arith))  -- slice-aggregate-sheet-3
     (λ c κs. search needs)  -- sheet-requires
     (λ c. search needs)  -- same-length-3
     (λ c. search needs)  -- same-length-4

@@ -18,9 +18,6 @@ abbrev μ-loop : tie.MeasureT-loop
 returns : tie.Need-returns Inv-loop μ-loop
 returns c = too-short _ _ (c .if1 .taken)
 
-loop-holds : tie.Need-loop-holds Inv-loop μ-loop
-loop-holds c = compare-start _ _
-
 -- the flag that the code has is the definition's test
 flag : (c : tie.After-same Inv-loop μ-loop) → (let l : tie.At-loop Inv-loop μ-loop = search in let g = l .before .before .args in
     c .same .result ≡ eqZ (getD (g .report .now) (l .loop .place) (pos 0)) (getD (g .rows .now) (l .loop .place) (pos 0)))
@@ -50,7 +47,7 @@ differs-spec =
     Inv-loop
     μ-loop
     returns
-    loop-holds
+    (λ c. compare-start _ _)  -- loop-holds
     (λ c. omega arith)  -- mul-same
     (λ c. omega arith)  -- shared-slice-copy-out-same
     (λ c. omega arith)  -- mul-same-2

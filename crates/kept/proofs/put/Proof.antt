@@ -13,16 +13,10 @@ Inv-loop rows out₀ i₀ out i = Laid rows out₀ out i
 abbrev μ-loop : tie.MeasureT-loop
 μ-loop rows out₀ i₀ out i = length rows - i
 
-loop-holds : tie.Need-loop-holds Inv-loop μ-loop
-loop-holds c = laid-start _ _
-
 loop-again : tie.Need-loop-again Inv-loop μ-loop
 loop-again c =
     let l = c .before .before in
     laid-next _ _ _ (l .loop .i) _ (pos 0) (l .before .pre) (c .before .loop-test .taken) (search needs) (l .loop .inv)
-
-same-length : tie.Need-same-length Inv-loop μ-loop
-same-length c = c .before .loop .inv .as-long
 
 returns : tie.Need-returns Inv-loop μ-loop
 returns c = laid-end _ _ _ (c .before .loop .i) (c .loop-test .left) (c .before .loop .inv)
@@ -33,7 +27,7 @@ put-spec =
     (tie.spec
     Inv-loop
     μ-loop
-    loop-holds
+    (λ c. laid-start _ _)  -- loop-holds
     (λ c. omega arith)  -- mul-out
     (λ c. omega arith)  -- shared-slice-copy-out-out
     (λ c. omega arith)  -- mul-t8
@@ -41,5 +35,5 @@ put-spec =
     (λ c. omega arith)  -- add-i
     (λ c. omega arith)  -- loop-less
     loop-again
-    same-length
+    (λ c. c .before .loop .inv .as-long)  -- same-length
     returns)

@@ -4,12 +4,6 @@ use borrow.Author.Needs.{needs}
 use Rattle.list_cases.proofs.read_and_run.Statement.{statement}
 use Rattle.list_cases.proofs.read_and_run.Tie as tie
 
-slice-aggregate-run : tie.Need-slice-aggregate-run
-slice-aggregate-run c = simp length-take (omega arith)
-
-slice-aggregate-run-2 : tie.Need-slice-aggregate-run-2
-slice-aggregate-run-2 c = simp length-take (omega arith)
-
 pub read-and-run-spec : {M : Type 1} → statement M
 read-and-run-spec =
     tie.close
@@ -22,9 +16,9 @@ read-and-run-spec =
     (λ c. search needs)  -- mul-at-most-2
     (λ c κs. search needs)  -- at-most-requires-2
     (λ c. search needs)  -- slice-relend-prefix-run
-    slice-aggregate-run
+    (λ c. simp length-take (omega arith))  -- slice-aggregate-run
     (λ c. search needs)  -- slice-relend-prefix-run-2
-    slice-aggregate-run-2
+    (λ c. simp length-take (omega arith))  -- slice-aggregate-run-2
     (λ c κs. search needs)  -- run-requires
     (λ c. search needs)  -- same-length
     (λ c. search needs)  -- same-length-2

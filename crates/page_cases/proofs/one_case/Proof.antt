@@ -4,9 +4,6 @@ use borrow.Author.Needs.{needs}
 use Rattle.page_cases.proofs.one_case.Statement.{statement}
 use Rattle.page_cases.proofs.one_case.Tie as tie
 
-slice-aggregate-write-all-2 : tie.Need-slice-aggregate-write-all-2
-slice-aggregate-write-all-2 c = simp length-take (omega arith)
-
 pub one-case-spec : {M : Type 1} → statement M
 one-case-spec =
     tie.close
@@ -20,6 +17,6 @@ one-case-spec =
     (λ c. search needs)  -- slice-aggregate-write-page
     (λ c κs. search needs)  -- write-page-requires
     (λ c. search needs)  -- array-share-prefix-page
-    slice-aggregate-write-all-2
+    (λ c. simp length-take (omega arith))  -- slice-aggregate-write-all-2
     (λ c κs. search needs)  -- write-all-requires-3
     (λ c. search needs))  -- returns

@@ -64,9 +64,6 @@ adjusted-size c =
       s .pre .1 .inside f,
     )
 
-index-requires : tie.Need-index-requires
-index-requires c κs = rw (to-read c) (not-negative (c .before .pre .0 .to))
-
 index-requires-2 : tie.Need-index-requires-2
 index-requires-2 c κs = let s : tie.Start = search in rw (from-read c) (not-negative (s .pre .0 .from))
 
@@ -123,7 +120,7 @@ pub correction-of-spec : {M : Type 1} → statement M
 correction-of-spec =
     tie.close
     (tie.spec
-    index-requires
+    (λ c κs. rw (to-read c) (not-negative (c .before .pre .0 .to)))  -- index-requires
     index-requires-2
     sub-sub
     mul-sub

@@ -46,9 +46,6 @@ length-read c =
     let known : tie.After-made = search in
     back (known .made .given .0 .0 .length) (c .struct-told2 .given .1 .1 .1 .0 .1) ∙ ap (λ (l : Line). l .length) (its-is known)
 
-line-of-requires : tie.Need-line-of-requires
-line-of-requires c κs = simp (length-take, length-drop) (omega arith)
-
 returns : tie.Need-returns
 returns c =
     let m = line-made (c .before .before .before) in
@@ -100,7 +97,7 @@ line-rate-spec =
     (λ c. search needs)  -- part-line-of-start
     (λ c. search needs)  -- part-line-of-end
     (λ c κs. search needs)  -- signed-count-requires
-    line-of-requires
+    (λ c κs. simp (length-take, length-drop) (omega arith))  -- line-of-requires
     (λ c. search needs)  -- enum-known-made
     (λ c. search needs)  -- enum-told
     (λ c κs. search needs)  -- refuse-requires

@@ -4,12 +4,6 @@ use borrow.Author.Needs.{needs}
 use Rattle.reader_cases.proofs.one_case.Statement.{statement}
 use Rattle.reader_cases.proofs.one_case.Tie as tie
 
-slice-aggregate-run : tie.Need-slice-aggregate-run
-slice-aggregate-run c = simp length-take (omega arith)
-
-slice-aggregate-run-2 : tie.Need-slice-aggregate-run-2
-slice-aggregate-run-2 c = simp length-take (omega arith)
-
 pub one-case-spec : {M : Type 1} → statement M
 one-case-spec =
     tie.close
@@ -24,8 +18,8 @@ one-case-spec =
     (λ c κs. search needs)  -- at-most-requires-2
     (λ c κs. search needs)  -- file-requires
     (λ c. search needs)  -- array-borrow-prefix-held
-    slice-aggregate-run
+    (λ c. simp length-take (omega arith))  -- slice-aggregate-run
     (λ c. search needs)  -- array-borrow-prefix-lines
-    slice-aggregate-run-2
+    (λ c. simp length-take (omega arith))  -- slice-aggregate-run-2
     (λ c κs. search needs)  -- run-requires
     (λ c. search needs))  -- returns

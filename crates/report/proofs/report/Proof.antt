@@ -4,9 +4,6 @@ use borrow.Author.Needs.{needs}
 use Rattle.report.proofs.report.Statement.{statement}
 use Rattle.report.proofs.report.Tie as tie
 
-slice-aggregate-write-all : tie.Need-slice-aggregate-write-all
-slice-aggregate-write-all c = put-part (c .before .before .write-page .ensures) (omega arith)
-
 pub report-spec : {M : Type 1} → statement M
 report-spec =
     tie.close
@@ -15,6 +12,6 @@ report-spec =
     (λ c. search needs)  -- slice-aggregate-write-page
     (λ c κs. search needs)  -- write-page-requires
     (λ c. search needs)  -- array-share-prefix-page
-    slice-aggregate-write-all
+    (λ c. put-part (c .before .before .write-page .ensures) (omega arith))  -- slice-aggregate-write-all
     (λ c κs. search needs)  -- write-all-requires
     (λ c. search needs))  -- returns

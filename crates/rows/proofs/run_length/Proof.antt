@@ -14,9 +14,6 @@ Inv-loop lines run sum₀ j₀ sum j = (j ≤ length run) × (sum + lengthOf lin
 abbrev μ-loop : tie.MeasureT-loop
 μ-loop lines run sum₀ j₀ sum j = length run - j
 
-loop-holds : tie.Need-loop-holds Inv-loop μ-loop
-loop-holds c = (omega arith, omega arith, omega arith)
-
 mul-length-by : tie.Need-mul-length-by Inv-loop μ-loop
 mul-length-by c =
     let entry : tie.Start Inv-loop μ-loop = search in
@@ -75,7 +72,7 @@ run-length-spec =
     (tie.spec
     Inv-loop
     μ-loop
-    loop-holds
+    (λ c. (omega arith, omega arith, omega arith))  -- loop-holds
     mul-length-by
     (λ c. omega arith)  -- shared-slice-read-length-by
     cast-length-by

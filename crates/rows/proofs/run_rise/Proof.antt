@@ -20,9 +20,6 @@ Inv-loop lines run sum₀ j₀ sum j =
 abbrev μ-loop : tie.MeasureT-loop
 μ-loop lines run sum₀ j₀ sum j = length run - j
 
-loop-holds : tie.Need-loop-holds Inv-loop μ-loop
-loop-holds c = (omega arith, +ℤ-idl _, omega arith)
-
 mul-rise-by : tie.Need-mul-rise-by Inv-loop μ-loop
 mul-rise-by c =
     let entry : tie.Start Inv-loop μ-loop = search in
@@ -79,7 +76,7 @@ run-rise-spec =
     (tie.spec
     Inv-loop
     μ-loop
-    loop-holds
+    (λ c. (omega arith, +ℤ-idl _, omega arith))  -- loop-holds
     mul-rise-by
     (λ c. omega arith)  -- shared-slice-read-rise-by
     cast-rise-by

@@ -7,9 +7,6 @@ use borrow.Author.Needs.{needs}
 use Rattle.rows.proofs.write_row.Statement.{statement}
 use Rattle.rows.proofs.write_row.Tie as tie
 
-slice-set-from-verdict : tie.Need-slice-set-from-verdict
-slice-set-from-verdict c = simp length-set (omega arith)
-
 returns : tie.Need-returns
 returns c =
     let entry : tie.Start = search in
@@ -29,6 +26,6 @@ write-row-spec =
     (λ c κs. search needs)  -- signed-count-requires-3
     (λ c. search needs)  -- slice-set-from-out-3
     (λ c. search needs)  -- slice-set-from-misclosure
-    slice-set-from-verdict
+    (λ c. simp length-set (omega arith))  -- slice-set-from-verdict
     (λ c. search needs)  -- same-length
     returns)

@@ -16,9 +16,6 @@ Inv-loop lines starts runs count out₀ t i₀ out i =
 abbrev μ-loop : tie.MeasureT-loop
 μ-loop lines starts runs count out₀ t i₀ out i = count - i
 
-loop-holds : tie.Need-loop-holds Inv-loop μ-loop
-loop-holds c = (omega arith, refl, all-written-start)
-
 mul-at : tie.Need-mul-at Inv-loop μ-loop
 mul-at c =
     let entry : tie.Start Inv-loop μ-loop = search in
@@ -149,7 +146,7 @@ write-rows-spec =
     (tie.spec
     Inv-loop
     μ-loop
-    loop-holds
+    (λ c. (omega arith, refl, all-written-start))  -- loop-holds
     mul-at
     mul-begin
     shared-slice-read-begin

@@ -1,10 +1,9 @@
-use Prim.Native.Nat.{_/_}
+use Prim.Native.Nat.{_/_, ℕ, _<_}
 use lib.ListN.{length-set, getD}
 use Rattle.chains.specs.Chains.{halves}
 use Rattle.search.proofs.Ways.{way-low, walk-end, walk-room, walk-falls, walk-next, walk-put}
 use borrow.Author.Needs.{needs}
 use native.Mathlib.Omega.{arith}
-use Prim.Native.Nat.{ℕ, _<_}
 use borrow.Fn.Kinds.{In}
 use borrow.Fn.PlainCycle.{Measures, is, falls, and}
 use Rattle.search.proofs.way.Reads as way

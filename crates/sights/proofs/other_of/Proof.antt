@@ -29,16 +29,10 @@ index-requires c κs =
     let s = c .before .before in
     rw (back (toAt (s .args .lines .now) (placeOf (s .args .h))) (c .index-arg .given)) (not-negative (s .pre .place .good .to))
 
-sub-result : tie.Need-sub-result
-sub-result c = omega (arith, to-read c, c .before .before .before .pre .place .good .to .low)
-
 index-requires-2 : tie.Need-index-requires-2
 index-requires-2 c κs =
     let s = c .before .before in
     rw (back (fromAt (s .args .lines .now) (placeOf (s .args .h))) (c .index-arg2 .given)) (not-negative (s .pre .place .good .from))
-
-sub-result-2 : tie.Need-sub-result-2
-sub-result-2 c = omega (arith, from-read c, c .before .before .before .pre .place .good .from .low)
 
 returns : tie.Need-returns
 returns c =
@@ -66,11 +60,11 @@ other-of-spec =
     (λ c. search needs)  -- mul-index
     (λ c. search needs)  -- shared-slice-copy-out-index
     index-requires
-    sub-result
+    (λ c. omega (arith, to-read c, c .before .before .before .pre .place .good .to .low))  -- sub-result
     (λ c. search needs)  -- add-index-2
     (λ c. search needs)  -- mul-index-2
     (λ c. search needs)  -- shared-slice-copy-out-index-2
     index-requires-2
-    sub-result-2
+    (λ c. omega (arith, from-read c, c .before .before .before .pre .place .good .from .low))  -- sub-result-2
     returns
     returns-2)

@@ -1,5 +1,4 @@
 use mathlib.Core.Path.{_≡_, sym, _∙_, ap}
-use Prim.Native.Nat.{_/_}
 use native.Mathlib.Omega.{arith}
 use lib.IntN.{negℤ, +ℤ-idl}
 use mir.Syntax.{w64}

@@ -1,5 +1,4 @@
 use mathlib.Core.Path.{_≡_, sym, _∙_, ap}
-use Prim.Native.Nat.{_/_}
 use native.Mathlib.Omega.{arith}
 use lib.IntN.{natAbs}
 use Rattle.laws.proofs.Signed.{back}
@@ -23,9 +22,6 @@ index-requires c κs =
     let s = c .before in rw (back (lengthAt (s .args .lines .now) (placeOf (s .args .h))) (c .index-arg .given))
     (not-negative (s .pre .place .good .long))
 
-weight-requires : tie.Need-weight-requires
-weight-requires c κs = omega (arith, length-read c, c .before .before .pre .place .good .long .low)
-
 returns : tie.Need-returns
 returns c =
     let s = c .before .before .before in
@@ -46,5 +42,5 @@ weight-of-spec =
     (λ c. search needs)  -- mul-index-2
     (λ c. search needs)  -- shared-slice-copy-out-index
     index-requires
-    weight-requires
+    (λ c κs. omega (arith, length-read c, c .before .before .pre .place .good .long .low))  -- weight-requires
     returns)

@@ -97,15 +97,6 @@ loop-again c =
       },
     )
 
-same-length : tie.Need-same-length Inv-loop μ-loop
-same-length c = c .before .loop .inv .0
-
-same-length-2 : tie.Need-same-length-2 Inv-loop μ-loop
-same-length-2 c = c .before .loop .inv .1
-
-same-length-3 : tie.Need-same-length-3 Inv-loop μ-loop
-same-length-3 c = c .before .loop .inv .2
-
 returns : tie.Need-returns Inv-loop μ-loop
 returns c = walk-end (c .before .loop .inv .3) (c .loop-test .left)
 
@@ -124,7 +115,7 @@ write-chain-spec =
     shared-slice-read-h-2
     loop-less
     loop-again
-    same-length
-    same-length-2
-    same-length-3
+    (λ c. c .before .loop .inv .0)  -- same-length
+    (λ c. c .before .loop .inv .1)  -- same-length-2
+    (λ c. c .before .loop .inv .2)  -- same-length-3
     returns)

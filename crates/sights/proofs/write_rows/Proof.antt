@@ -90,21 +90,6 @@ slice-write-first c =
     let s : tie.Start Inv-loop μ-loop = search in
     omega (arith, s .pre .1 .1 .1 .firsts, c .before .loop .inv .1)
 
-same-length : tie.Need-same-length Inv-loop μ-loop
-same-length c = simp length-set (c .before .loop .inv .1)
-
-same-length-2 : tie.Need-same-length-2 Inv-loop μ-loop
-same-length-2 c = c .before .loop .inv .2
-
-same-length-3 : tie.Need-same-length-3 Inv-loop μ-loop
-same-length-3 c = c .before .loop .inv .3
-
-same-length-4 : tie.Need-same-length-4 Inv-loop μ-loop
-same-length-4 c = c .before .loop .inv .4
-
-same-length-5 : tie.Need-same-length-5 Inv-loop μ-loop
-same-length-5 c = c .before .loop .inv .5
-
 returns : tie.Need-returns Inv-loop μ-loop
 returns c =
     let s : tie.Start Inv-loop μ-loop = search in
@@ -138,9 +123,9 @@ write-rows-spec =
     loop-again
     mul-first
     slice-write-first
-    same-length
-    same-length-2
-    same-length-3
-    same-length-4
-    same-length-5
+    (λ c. simp length-set (c .before .loop .inv .1))  -- same-length
+    (λ c. c .before .loop .inv .2)  -- same-length-2
+    (λ c. c .before .loop .inv .3)  -- same-length-3
+    (λ c. c .before .loop .inv .4)  -- same-length-4
+    (λ c. c .before .loop .inv .5)  -- same-length-5
     returns)

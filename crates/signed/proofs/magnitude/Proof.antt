@@ -23,9 +23,6 @@ sub-index c =
     rw (minus c) (record { sfits = omega arith })
 
 -- src/lib.rt:50:16
-index-requires : tie.Need-index-requires
-index-requires c κs = rw (toZ-ofZ (sub-index c), minus c) (le-ltb (natAbs (c .before .args .x) - 1) 0 zero-le)
-
 got : (c : tie.After-index) → c .index .result ≡ natAbs (c .before .before .args .x) - 1
 got c = c .index .ensures ∙ rw (toZ-ofZ (sub-index (c .before)), minus (c .before))
 
@@ -50,4 +47,4 @@ returns-2 c = rw (toZ-ofZ (c .before .before .fits .x)) at (c .index2 .ensures)
 
 pub magnitude-spec : {M : Type 1} → statement M
 magnitude-spec =
-    tie.close (tie.spec sub-index index-requires add-result (λ c κs. search needs) returns returns-2)
+    tie.close (tie.spec sub-index (λ c κs. rw (toZ-ofZ (sub-index c), minus c) (le-ltb (natAbs (c .before .args .x) - 1) 0 zero-le)) add-result (λ c κs. search needs) returns returns-2)

@@ -19,9 +19,6 @@ Inv-loop flags own root over base h₀ b v₀ h v =
 abbrev μ-loop : tie.MeasureT-loop
 μ-loop flags own root over base h₀ b v₀ h v = b - v
 
-loop-holds : tie.Need-loop-holds Inv-loop μ-loop
-loop-holds c = (search needs, refl, λ u l. absurd (omega arith))
-
 start-at-requires : tie.Need-start-at-requires Inv-loop μ-loop
 start-at-requires c κs =
     let s : tie.Start Inv-loop μ-loop = search in
@@ -37,12 +34,6 @@ slice-set-from-z c =
     let s : tie.Start Inv-loop μ-loop = search in
     omega (arith, c .before .loop-test .taken, s .pre .0, c .before .before .loop .inv .1)
 
-add-v : tie.Need-add-v Inv-loop μ-loop
-add-v c = omega (arith, c .before .loop-test .taken)
-
-loop-less : tie.Need-loop-less Inv-loop μ-loop
-loop-less c = omega (arith, c .before .loop-test .taken)
-
 loop-again : tie.Need-loop-again Inv-loop μ-loop
 loop-again c =
     let s : tie.Start Inv-loop μ-loop = search in
@@ -54,9 +45,6 @@ loop-again c =
           (s .args .base .now)) (l .h) (l .v) (toZ w64 (ofZ w64 (r .result)))
           (omega (arith, c .before .loop-test .taken, s .pre .0, l .inv .1)) (stored (r .result) (r .ok) (r .ensures)) (l .inv .2),
     )
-
-same-length : tie.Need-same-length Inv-loop μ-loop
-same-length c = c .before .loop .inv .1
 
 returns : tie.Need-returns Inv-loop μ-loop
 returns c =
@@ -70,12 +58,12 @@ begin-spec =
     (tie.spec
     Inv-loop
     μ-loop
-    loop-holds
+    (λ c. (search needs, refl, λ u l. absurd (omega arith)))  -- loop-holds
     start-at-requires
     mul-z
     slice-set-from-z
-    add-v
-    loop-less
+    (λ c. omega (arith, c .before .loop-test .taken))  -- add-v
+    (λ c. omega (arith, c .before .loop-test .taken))  -- loop-less
     loop-again
-    same-length
+    (λ c. c .before .loop .inv .1)  -- same-length
     returns)

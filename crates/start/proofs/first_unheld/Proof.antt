@@ -31,21 +31,12 @@ shared-slice-read-if1-2 c =
     s .pre .0 .marks (c .before .before .before .loop .v) (c .before .before .loop-test .taken) in
     omega (arith, g .0, g .1, s .pre .1)
 
-add-result : tie.Need-add-result Inv-loop μ-loop
-add-result c = omega (arith, c .before .before .before .loop-test .taken)
-
 returns : tie.Need-returns Inv-loop μ-loop
 returns c =
     let at-loop : tie.At-loop Inv-loop μ-loop = search in
     let s : tie.Start Inv-loop μ-loop = search in
     scan-stop (unheld (s .args .root .now) (s .args .has .now)) (s .args .b) (at-loop .loop .v)
     (c .before .before .before .loop-test .taken) (c .if1 .taken) (at-loop .loop .inv .1)
-
-add-v : tie.Need-add-v Inv-loop μ-loop
-add-v c = omega (arith, c .before .before .before .loop-test .taken)
-
-loop-less : tie.Need-loop-less Inv-loop μ-loop
-loop-less c = omega (arith, c .before .before .before .loop-test .taken)
 
 loop-again : tie.Need-loop-again Inv-loop μ-loop
 loop-again c =
@@ -72,9 +63,9 @@ first-unheld-spec =
     shared-slice-read-if1
     sub-if1
     shared-slice-read-if1-2
-    add-result
+    (λ c. omega (arith, c .before .before .before .loop-test .taken))  -- add-result
     returns
-    add-v
-    loop-less
+    (λ c. omega (arith, c .before .before .before .loop-test .taken))  -- add-v
+    (λ c. omega (arith, c .before .before .before .loop-test .taken))  -- loop-less
     loop-again
     returns-2)

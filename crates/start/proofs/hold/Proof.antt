@@ -25,9 +25,6 @@ index-requires c κs =
     let s = c .before .before in rw (back (markAt (s .args .held .now) (s .args .i)) (c .index-arg .given))
     (not-negative (s .pre .0 .good .mark))
 
-sub-v : tie.Need-sub-v
-sub-v c = omega (arith, mark-read c, c .before .before .before .pre .0 .good .mark .low)
-
 slice-write-flags : tie.Need-slice-write-flags
 slice-write-flags c =
     let s : tie.Start = search in
@@ -60,7 +57,7 @@ hold-spec =
     (λ c. search needs)  -- mul-index
     (λ c. search needs)  -- shared-slice-copy-out-index
     index-requires
-    sub-v
+    (λ c. omega (arith, mark-read c, c .before .before .before .pre .0 .good .mark .low))  -- sub-v
     (λ c. search needs)  -- add-z
     (λ c. search needs)  -- mul-z
     (λ c. search needs)  -- shared-slice-copy-out-z

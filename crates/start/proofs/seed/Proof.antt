@@ -14,23 +14,11 @@ Inv-loop root₀ b v₀ root v = (v ≤ b) × (length root ≡ length root₀) �
 abbrev μ-loop : tie.MeasureT-loop
 μ-loop root₀ b v₀ root v = b - v
 
-loop-holds : tie.Need-loop-holds Inv-loop μ-loop
-loop-holds c = (search needs, refl, λ u l. absurd (omega arith))
-
-add-root : tie.Need-add-root Inv-loop μ-loop
-add-root c = omega (arith, c .loop-test .taken)
-
 mul-root : tie.Need-mul-root Inv-loop μ-loop
 mul-root c = let s = c .before .before in omega (arith, c .loop-test .taken, s .pre)
 
 slice-write-root : tie.Need-slice-write-root Inv-loop μ-loop
 slice-write-root c = let s = c .before .before in omega (arith, c .loop-test .taken, s .pre, c .before .loop .inv .1)
-
-add-v : tie.Need-add-v Inv-loop μ-loop
-add-v c = omega (arith, c .loop-test .taken)
-
-loop-less : tie.Need-loop-less Inv-loop μ-loop
-loop-less c = omega (arith, c .loop-test .taken)
 
 loop-again : tie.Need-loop-again Inv-loop μ-loop
 loop-again c =
@@ -41,9 +29,6 @@ loop-again c =
       fill-next 0 suc (l .root) (l .v) (l .v + 1) (omega (arith, c .loop-test .taken, s .pre, l .inv .1)) (add-one (l .v)) (l .inv .2),
     )
 
-same-length : tie.Need-same-length Inv-loop μ-loop
-same-length c = c .before .loop .inv .1
-
 returns : tie.Need-returns Inv-loop μ-loop
 returns c = let l = c .before .loop in record { each = λ v h. l .inv .2 v (omega (arith, c .loop-test .left)) }
 
@@ -53,12 +38,12 @@ seed-spec =
     (tie.spec
     Inv-loop
     μ-loop
-    loop-holds
-    add-root
+    (λ c. (search needs, refl, λ u l. absurd (omega arith)))  -- loop-holds
+    (λ c. omega (arith, c .loop-test .taken))  -- add-root
     mul-root
     slice-write-root
-    add-v
-    loop-less
+    (λ c. omega (arith, c .loop-test .taken))  -- add-v
+    (λ c. omega (arith, c .loop-test .taken))  -- loop-less
     loop-again
-    same-length
+    (λ c. c .before .loop .inv .1)  -- same-length
     returns)

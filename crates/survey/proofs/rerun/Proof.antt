@@ -2,12 +2,11 @@ use mir.Facts.{toZ-ofZ}
 use mathlib.Core.Path.{_≡_, sym, _∙_}
 use Rattle.book.specs.Lent.{lent}
 use Rattle.book.specs.Test.{testOf}
-use Rattle.book.proofs.Goods.{tested-good}
+use Rattle.book.proofs.Goods.{tested-good, good-lines}
 use Rattle.survey.specs.Correction.{correctOf, rerunOf}
 use Prim.Native.Nat.{_≤_}
 use lib.IntN.{natAbs}
 use Rattle.book.specs.Limits.{mostDifference}
-use Rattle.book.proofs.Goods.{good-lines}
 use Rattle.laws.proofs.Size.{size-within}
 use Rattle.book.specs.Line.{differenceOut}
 use borrow.Author.Needs.{needs}

@@ -1,9 +1,8 @@
 use mathlib.Core.Path.{_≡_, sym, _∙_}
 use Rattle.book.specs.Lent.{lent}
 use Rattle.book.specs.Test.{testOf}
-use Rattle.book.proofs.Goods.{tested-good}
+use Rattle.book.proofs.Goods.{tested-good, good-lines}
 use Rattle.survey.specs.Survey.{surveyOf}
-use Rattle.book.proofs.Goods.{good-lines}
 use borrow.Author.Needs.{needs}
 use Rattle.survey.proofs.survey.Statement.{statement}
 use Rattle.survey.proofs.survey.Tie as tie

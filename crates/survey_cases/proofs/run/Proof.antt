@@ -4,12 +4,6 @@ use borrow.Author.Needs.{needs}
 use Rattle.survey_cases.proofs.run.Statement.{statement}
 use Rattle.survey_cases.proofs.run.Tie as tie
 
-slice-aggregate-survey-and-correct : tie.Need-slice-aggregate-survey-and-correct
-slice-aggregate-survey-and-correct c = simp length-take (omega arith)
-
-slice-aggregate-survey-and-correct-2 : tie.Need-slice-aggregate-survey-and-correct-2
-slice-aggregate-survey-and-correct-2 c = simp length-take (omega arith)
-
 same-length-3 : tie.Need-same-length-3
 same-length-3 c =
     let after-clear : tie.After-clear = search in
@@ -29,9 +23,9 @@ run-spec =
     (λ c. search needs)  -- mul-at-most-2
     (λ c κs. search needs)  -- at-most-requires-2
     (λ c. search needs)  -- slice-reshare-prefix-survey-and-correct
-    slice-aggregate-survey-and-correct
+    (λ c. simp length-take (omega arith))  -- slice-aggregate-survey-and-correct
     (λ c. search needs)  -- slice-relend-prefix-survey-and-correct
-    slice-aggregate-survey-and-correct-2
+    (λ c. simp length-take (omega arith))  -- slice-aggregate-survey-and-correct-2
     (λ c. search needs)  -- add-survey-and-correct
     (λ c κs. search needs)  -- survey-and-correct-requires
     (λ c. search needs)  -- same-length

@@ -27,9 +27,6 @@ loop-holds c =
       s .pre .1 .0,
     )
 
-sub-take-turn : tie.Need-sub-take-turn Inv-loop μ-loop
-sub-take-turn c = omega (arith, c .before .before .loop .inv .0)
-
 take-turn-requires : tie.Need-take-turn-requires Inv-loop μ-loop
 take-turn-requires c κs =
     let s : tie.Start Inv-loop μ-loop = search in
@@ -70,7 +67,7 @@ sweep-spec =
     Inv-loop
     μ-loop
     loop-holds
-    sub-take-turn
+    (λ c. omega (arith, c .before .before .loop .inv .0))  -- sub-take-turn
     take-turn-requires
     (λ c. omega arith)  -- sub-left
     (λ c. omega arith)  -- loop-less

@@ -16,9 +16,6 @@ Inv-loop ends close head₀ next₀ best₀ seg₀ starts₀ runs₀ n count at�
 abbrev μ-loop : tie.MeasureT-loop
 μ-loop ends close head₀ next₀ best₀ seg₀ starts₀ runs₀ n count at₀ i₀ head next best seg starts runs at i = count - i
 
-loop-holds : tie.Need-loop-holds Inv-loop μ-loop
-loop-holds c = (omega arith, (refl, refl, refl, refl, refl, refl), all-start)
-
 mul-number : tie.Need-mul-number Inv-loop μ-loop
 mul-number c =
     let entry : tie.Start Inv-loop μ-loop = search in
@@ -228,7 +225,7 @@ fill-spec =
     (tie.spec
     Inv-loop
     μ-loop
-    loop-holds
+    (λ c. (omega arith, (refl, refl, refl, refl, refl, refl), all-start))  -- loop-holds
     mul-number
     shared-slice-read-number
     mul-starts

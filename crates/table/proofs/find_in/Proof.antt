@@ -1,5 +1,4 @@
 use native.Mathlib.Omega.{arith}
-use mathlib.Core.Path.{_∙_}
 use Rattle.table.proofs.Finding.{listed-of, orders-of, fills-of, found-is, table-is}
 use borrow.Author.Needs.{needs}
 use Rattle.table.proofs.find_in.Statement.{statement}

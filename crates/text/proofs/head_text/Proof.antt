@@ -27,9 +27,6 @@ returns c =
     then loops .put-number4 .ensures
     then end .put-byte .ensures
 
-same-length : tie.Need-same-length
-same-length c = put-length (returns c)
-
 pub head-text-spec : {M : Type 1} → statement M
 head-text-spec =
     tie.close
@@ -47,5 +44,5 @@ head-text-spec =
     (λ c κs. tt)  -- put-requires-4
     (λ c κs. tt)  -- put-number-requires-4
     (λ c κs. tt)  -- put-byte-requires
-    same-length
+    (λ c. put-length (returns c))  -- same-length
     returns)

@@ -30,9 +30,6 @@ returns c =
     then listing .put-listed .ensures
     then end .put-byte .ensures)
 
-same-length : tie.Need-same-length
-same-length c = put-length (returns c)
-
 pub loop-text-spec : {M : Type 1} → statement M
 loop-text-spec =
     tie.close
@@ -49,5 +46,5 @@ loop-text-spec =
     (λ c κs. tt)  -- put-verdict-requires
     (λ c κs. tt)  -- put-listed-requires
     (λ c κs. tt)  -- put-byte-requires
-    same-length
+    (λ c. put-length (returns c))  -- same-length
     returns)

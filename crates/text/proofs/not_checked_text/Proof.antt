@@ -19,9 +19,6 @@ returns c =
     then list .put-listed .ensures
     then end .put-byte2 .ensures
 
-same-length : tie.Need-same-length
-same-length c = put-length (returns c)
-
 pub not-checked-text-spec : {M : Type 1} → statement M
 not-checked-text-spec =
     tie.close
@@ -32,5 +29,5 @@ not-checked-text-spec =
     (λ c κs. tt)  -- put-byte-requires
     (λ c κs. tt)  -- put-listed-requires
     (λ c κs. tt)  -- put-byte-requires-2
-    same-length
+    (λ c. put-length (returns c))  -- same-length
     returns)

@@ -13,15 +13,6 @@ Inv-loop out₀ at s next₀ i₀ out next i = (i ≤ length s) × Put out₀ ou
 abbrev μ-loop : tie.MeasureT-loop
 μ-loop out₀ at s next₀ i₀ out next i = length s - i
 
-loop-holds : tie.Need-loop-holds Inv-loop μ-loop
-loop-holds c = (omega arith, search nothing-put)
-
-loop-again : tie.Need-loop-again Inv-loop μ-loop
-loop-again c = (omega arith, search (one-more (λ s. s) (λ a b. refl)))
-
-same-length : tie.Need-same-length Inv-loop μ-loop
-same-length c = search put-length
-
 returns : tie.Need-returns Inv-loop μ-loop
 returns c = search (all-put (λ s. s) (λ a b. refl))
 
@@ -31,11 +22,11 @@ put-spec =
     (tie.spec
     Inv-loop
     μ-loop
-    loop-holds
+    (λ c. (omega arith, search nothing-put))  -- loop-holds
     (λ c. omega arith)  -- shared-slice-read-put-byte
     (λ c κs. tt)  -- put-byte-requires
     (λ c. omega arith)  -- add-i
     (λ c. omega arith)  -- loop-less
-    loop-again
-    same-length
+    (λ c. (omega arith, search (one-more (λ s. s) (λ a b. refl))))  -- loop-again
+    (λ c. search put-length)  -- same-length
     returns)

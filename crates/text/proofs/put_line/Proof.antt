@@ -13,8 +13,5 @@ returns c =
     let start = space .before .before .before in
     rw (listed-one (start .args .line), ← (toZ-ofZ (start .fits .line))) (space .put-byte .ensures then line .put-signed .ensures)
 
-same-length : tie.Need-same-length
-same-length c = put-length (returns c)
-
 pub put-line-spec : {M : Type 1} → statement M
-put-line-spec = tie.close (tie.spec (λ c κs. tt) (λ c κs. tt) same-length returns)
+put-line-spec = tie.close (tie.spec (λ c κs. tt) (λ c κs. tt) (λ c. put-length (returns c)) returns)

@@ -32,9 +32,6 @@ loop-again c =
           (rw (back _ (arg .put-line-arg2 .given)) at (turn .put-line .ensures)),
     )
 
-same-length : tie.Need-same-length Inv-loop μ-loop
-same-length c = search put-length
-
 returns : tie.Need-returns Inv-loop μ-loop
 returns c = search (all-put listedText listed-append)
 
@@ -51,5 +48,5 @@ put-listed-spec =
     (λ c. omega arith)  -- add-i
     (λ c. omega arith)  -- loop-less
     loop-again
-    same-length
+    (λ c. search put-length)  -- same-length
     returns)

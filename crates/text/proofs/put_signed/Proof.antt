@@ -20,9 +20,6 @@ returns c =
     rw (signed-below (m .before .before .args .x) (rw (toZ-ofZ (m .before .before .fits .x)) at (below .if1 .taken)), size m)
     (sign .put-byte .ensures then number .put-number .ensures)
 
-same-length : tie.Need-same-length
-same-length c = put-length (returns c)
-
 returns-2 : tie.Need-returns-2
 returns-2 c =
     let number = c .before .before in
@@ -31,9 +28,6 @@ returns-2 c =
     rw (signed-plain (m .before .before .args .x) (rw (toZ-ofZ (m .before .before .fits .x)) at (plain .if1 .left)), size m)
     (number .put-number2 .ensures)
 
-same-length-2 : tie.Need-same-length-2
-same-length-2 c = put-length (returns-2 c)
-
 pub put-signed-spec : {M : Type 1} → statement M
 put-signed-spec =
     tie.close
@@ -41,8 +35,8 @@ put-signed-spec =
     (λ c κs. tt)  -- magnitude-requires
     (λ c κs. tt)  -- put-byte-requires
     (λ c κs. tt)  -- put-number-requires
-    same-length
+    (λ c. put-length (returns c))  -- same-length
     returns
     (λ c κs. tt)  -- put-number-requires-2
-    same-length-2
+    (λ c. put-length (returns-2 c))  -- same-length-2
     returns-2)

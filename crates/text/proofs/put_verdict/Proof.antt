@@ -14,9 +14,6 @@ returns c =
     rw (← (toZ-ofZ (same .before .before .fits .verdict)), ← (same .same .ensures), within .before .before .before .if1 .taken)
     (within .put .ensures)
 
-same-length : tie.Need-same-length
-same-length c = put-length (returns c)
-
 returns-2 : tie.Need-returns-2
 unfolding bytes verdictText
 returns-2 c =
@@ -24,9 +21,6 @@ returns-2 c =
     let same = over .before .before .before .before in
     rw (← (toZ-ofZ (same .before .before .fits .verdict)), ← (same .same .ensures), over .before .before .before .if1 .left)
     (over .put2 .ensures)
-
-same-length-2 : tie.Need-same-length-2
-same-length-2 c = put-length (returns-2 c)
 
 pub put-verdict-spec : {M : Type 1} → statement M
 put-verdict-spec =
@@ -37,7 +31,7 @@ put-verdict-spec =
     (λ c κs. tt)  -- put-requires
     (λ c. refl)  -- slice-aggregate-put-2
     (λ c κs. tt)  -- put-requires-2
-    same-length
+    (λ c. put-length (returns c))  -- same-length
     returns
-    same-length-2
+    (λ c. put-length (returns-2 c))  -- same-length-2
     returns-2)

@@ -16,9 +16,6 @@ returns c =
     refused .put .ensures then number .put-number .ensures then at .put2 .ensures then place .put-number2 .ensures then
     end .put-byte .ensures
 
-same-length : tie.Need-same-length
-same-length c = put-length (returns c)
-
 pub refused-text-spec : {M : Type 1} → statement M
 refused-text-spec =
     tie.close
@@ -30,5 +27,5 @@ refused-text-spec =
     (λ c κs. tt)  -- put-requires-2
     (λ c κs. tt)  -- put-number-requires-2
     (λ c κs. tt)  -- put-byte-requires
-    same-length
+    (λ c. put-length (returns c))  -- same-length
     returns)

@@ -13,9 +13,6 @@ Inv-loop best n i j₀ j = (i ≤ j) × (j ≤ n) × ((x : ℕ) → i ≤ x → 
 abbrev μ-loop : tie.MeasureT-loop
 μ-loop best n i j₀ j = n - j
 
-loop-holds : tie.Need-loop-holds Inv-loop μ-loop
-loop-holds c = (omega arith, omega arith, λ x a b e. omega arith)
-
 returns : tie.Need-returns Inv-loop μ-loop
 returns c = let v = c .before .before .before .loop .inv in record {
   low = omega arith;
@@ -48,7 +45,7 @@ first-far-spec =
     (tie.spec
     Inv-loop
     μ-loop
-    loop-holds
+    (λ c. (omega arith, omega arith, λ x a b e. omega arith))  -- loop-holds
     (λ c. omega arith)  -- mul-if1
     (λ c. omega arith)  -- shared-slice-read-if1
     returns

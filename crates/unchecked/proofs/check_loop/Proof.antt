@@ -14,33 +14,6 @@ use Rattle.unchecked.proofs.check_loop.Tie as tie
 low : {ends best marked : List ℕ} {number : ℕ} → Checks ends best marked number → number < numberLimit
 low p = small-number (p .held) (p .c) (p .isLine) (p .its)
 
-mul-marked : tie.Need-mul-marked
-mul-marked c = omega (arith, low (c .pre))
-
-element-write-marked : tie.Need-element-write-marked
-element-write-marked c = omega (arith, low (c .pre))
-
-mul-from : tie.Need-mul-from
-mul-from c = omega (arith, low (c .pre))
-
-add-from : tie.Need-add-from
-add-from c = omega (arith, low (c .pre))
-
-mul-from-2 : tie.Need-mul-from-2
-mul-from-2 c = omega (arith, low (c .pre))
-
-element-copy-out-from : tie.Need-element-copy-out-from
-element-copy-out-from c = omega (arith, low (c .pre))
-
-mul-to : tie.Need-mul-to
-mul-to c = omega (arith, low (c .before .pre))
-
-mul-to-2 : tie.Need-mul-to-2
-mul-to-2 c = omega (arith, low (c .before .pre))
-
-element-copy-out-to : tie.Need-element-copy-out-to
-element-copy-out-to c = omega (arith, low (c .before .pre))
-
 follow-requires : tie.Need-follow-requires
 follow-requires c κs =
     let entry : tie.Start = search in
@@ -66,14 +39,14 @@ pub check-loop-spec : {M : Type 1} → statement M
 check-loop-spec =
     tie.close
     (tie.spec
-    mul-marked
-    element-write-marked
-    mul-from
-    add-from
-    mul-from-2
-    element-copy-out-from
-    mul-to
-    mul-to-2
-    element-copy-out-to
+    (λ c. omega (arith, low (c .pre)))  -- mul-marked
+    (λ c. omega (arith, low (c .pre)))  -- element-write-marked
+    (λ c. omega (arith, low (c .pre)))  -- mul-from
+    (λ c. omega (arith, low (c .pre)))  -- add-from
+    (λ c. omega (arith, low (c .pre)))  -- mul-from-2
+    (λ c. omega (arith, low (c .pre)))  -- element-copy-out-from
+    (λ c. omega (arith, low (c .before .pre)))  -- mul-to
+    (λ c. omega (arith, low (c .before .pre)))  -- mul-to-2
+    (λ c. omega (arith, low (c .before .pre)))  -- element-copy-out-to
     follow-requires
     returns)

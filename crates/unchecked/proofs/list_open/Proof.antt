@@ -15,9 +15,6 @@ Inv-loop ends marked out₀ q c₀ number₀ out c number = (c < number) × (len
 abbrev μ-loop : tie.MeasureT-loop
 μ-loop ends marked out₀ q c₀ number₀ out c number = q - number
 
-loop-holds : tie.Need-loop-holds Inv-loop μ-loop
-loop-holds c = (omega arith, refl, writing-start _ _ _ _)
-
 is-open-requires : tie.Need-is-open-requires Inv-loop μ-loop
 is-open-requires c κs =
     let entry : tie.Start Inv-loop μ-loop = search in
@@ -55,7 +52,7 @@ list-open-spec =
     (tie.spec
     Inv-loop
     μ-loop
-    loop-holds
+    (λ c. (omega arith, refl, writing-start _ _ _ _))  -- loop-holds
     is-open-requires
     mul-out
     slice-write-out

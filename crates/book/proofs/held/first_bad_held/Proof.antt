@@ -46,9 +46,6 @@ held-flag c =
     let known : tie.After-made Inv-loop μ-loop Inv-scan μ-scan = search in
     rw (← (good known .1)) (c .same .ensures ∙ search needs)
 
-scan-holds : tie.Need-scan-holds Inv-loop μ-loop Inv-scan μ-scan
-scan-holds c = scan-start _ _
-
 loop-holds : tie.Need-loop-holds Inv-loop μ-loop Inv-scan μ-scan
 unfolding heldBefore
 loop-holds c =
@@ -98,7 +95,7 @@ first-bad-held-spec =
     μ-loop
     Inv-scan
     μ-scan
-    scan-holds
+    (λ c. scan-start _ _)  -- scan-holds
     (λ c. search needs)  -- mul-at
     (λ c. search needs)  -- add-new
     (λ c. search needs)  -- mul-new

@@ -18,12 +18,6 @@ Inv-loop lines b n i₀ i = Scanned (lineBad (toZ w64 b) lines) n i
 abbrev μ-loop : tie.MeasureT-loop
 μ-loop lines b n i₀ i = n - i
 
-loop-holds : tie.Need-loop-holds Inv-loop μ-loop
-loop-holds c = scan-start _ _
-
-line-of-requires : tie.Need-line-of-requires Inv-loop μ-loop
-line-of-requires c κs = simp (length-take, length-drop) (omega arith)
-
 returns : tie.Need-returns Inv-loop μ-loop
 unfolding firstBadLine
 returns c =
@@ -50,14 +44,14 @@ first-bad-line-spec =
     (tie.spec
     Inv-loop
     μ-loop
-    loop-holds
+    (λ c. scan-start _ _)  -- loop-holds
     (λ c. omega arith)  -- mul-at
     (λ c. omega arith)  -- add-line-of
     (λ c. omega arith)  -- mul-line-of
     (λ c. omega arith)  -- sub-line-of
     (λ c. omega arith)  -- part-line-of-start
     (λ c. omega arith)  -- part-line-of-end
-    line-of-requires
+    (λ c κs. simp (length-take, length-drop) (omega arith))  -- line-of-requires
     (λ c. omega arith)  -- enum-told
     (λ c. omega arith)  -- add-result
     returns

@@ -3,12 +3,6 @@ use borrow.Author.Needs.{needs}
 use Rattle.cases.proofs.case.two.Statement.{statement}
 use Rattle.cases.proofs.case.two.Tie as tie
 
-mul-result : tie.Need-mul-result
-mul-result c = omega (arith, c .wide .ensures .1)
-
-add-result : tie.Need-add-result
-add-result c = omega (arith, c .before .before .wide .ensures .1, c .wide2 .ensures .1)
-
 returns : tie.Need-returns
 returns c =
     let high = c .before .before .wide .ensures in
@@ -21,9 +15,9 @@ two-spec =
     (tie.spec
     (λ c. search needs)  -- shared-slice-read-wide
     (λ c κs. search needs)  -- wide-requires
-    mul-result
+    (λ c. omega (arith, c .wide .ensures .1))  -- mul-result
     (λ c. search needs)  -- add-wide
     (λ c. search needs)  -- shared-slice-read-wide-2
     (λ c κs. search needs)  -- wide-requires-2
-    add-result
+    (λ c. omega (arith, c .before .before .wide .ensures .1, c .wide2 .ensures .1))  -- add-result
     returns)

@@ -92,9 +92,6 @@ loop-again c =
           (g .out .now) (l .loop .out) _ (l .loop .i) (l .loop .inv .2) (entered .read-entry .ensures),
     )
 
-same-length : tie.Need-same-length Inv-loop μ-loop
-same-length c = c .before .loop .inv .1
-
 returns : tie.Need-returns Inv-loop μ-loop
 returns c =
     let l = c .before in
@@ -127,5 +124,5 @@ read-entries-spec =
     (λ c. omega arith)  -- add-i
     (λ c. omega arith)  -- loop-less
     loop-again
-    same-length
+    (λ c. c .before .loop .inv .1)  -- same-length
     returns)

@@ -12,9 +12,6 @@ use borrow.Author.Needs.{needs}
 use Rattle.file.proofs.entry.read_line.Statement.{statement}
 use Rattle.file.proofs.entry.read_line.Tie as tie
 
-slice-set-of-out : tie.Need-slice-set-of-out
-slice-set-of-out c = simp length-set (omega arith)
-
 returns : tie.Need-returns
 unfolding lineNumbers
 returns c =
@@ -47,6 +44,6 @@ read-line-spec =
     (λ c. search needs)  -- slice-set-from-to
     (λ c. search needs)  -- slice-set-from-difference
     (λ c. search needs)  -- slice-set-from-length
-    slice-set-of-out
+    (λ c. simp length-set (omega arith))  -- slice-set-of-out
     (λ c. search needs)  -- same-length
     returns)

@@ -46,32 +46,29 @@ returns c =
     rw (c .refuse .ensures) (eight-is _ _ (s .pre) (after-find-loops .find-loops .ensures .1) (s .args .number) (s .args .out .now)
     (sym (flag (c .before .before)) ∙ c .before .if1 .taken))
 
-sub-i : tie.Need-sub-i
-sub-i c = there c .0
-
 mul-begin : tie.Need-mul-begin
 mul-begin c =
     let after-magnitude : tie.After-magnitude = search in
     let s : tie.Start = search in
-    omega (arith, there after-magnitude, few-loops _ _ (s .pre), s .pre .few)
+    omega (arith, there after-magnitude, few-loops _ _ (s .pre), s .pre .good .few)
 
 array-read-begin : tie.Need-array-read-begin
 array-read-begin c =
     let after-magnitude : tie.After-magnitude = search in
     let s : tie.Start = search in
-    omega (arith, there after-magnitude, few-loops _ _ (s .pre), s .pre .few)
+    omega (arith, there after-magnitude, few-loops _ _ (s .pre), s .pre .good .few)
 
 mul-end : tie.Need-mul-end
 mul-end c =
     let after-magnitude : tie.After-magnitude = search in
     let s : tie.Start = search in
-    omega (arith, there after-magnitude, few-loops _ _ (s .pre), s .pre .few)
+    omega (arith, there after-magnitude, few-loops _ _ (s .pre), s .pre .good .few)
 
 array-read-end : tie.Need-array-read-end
 array-read-end c =
     let after-magnitude : tie.After-magnitude = search in
     let s : tie.Start = search in
-    omega (arith, there after-magnitude, few-loops _ _ (s .pre), s .pre .few)
+    omega (arith, there after-magnitude, few-loops _ _ (s .pre), s .pre .good .few)
 
 mul-write-run : tie.Need-mul-write-run
 mul-write-run c =
@@ -136,7 +133,7 @@ listing-good-spec =
     (λ c κs. search needs)  -- refuse-requires
     returns
     (λ c κs. search needs)  -- magnitude-requires
-    sub-i
+    (λ c. there c .0)  -- sub-i
     mul-begin
     array-read-begin
     (λ c. search needs)  -- add-end

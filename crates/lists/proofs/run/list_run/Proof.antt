@@ -15,9 +15,6 @@ Inv-loop run out₀ i₀ out i = Laid (map listedBy run) out₀ out i
 abbrev μ-loop : tie.MeasureT-loop
 μ-loop run out₀ i₀ out i = length run - i
 
-loop-holds : tie.Need-loop-holds Inv-loop μ-loop
-loop-holds c = laid-start _ _
-
 mul-listed-by : tie.Need-mul-listed-by Inv-loop μ-loop
 mul-listed-by c =
     let entry : tie.Start Inv-loop μ-loop = search in
@@ -55,9 +52,6 @@ loop-again c =
     (stored _ (c .listed-by .ok) (c .listed-by .ensures) ∙ sym (List·getD-map listedBy run (at-loop .loop .i) 0))
     (at-loop .loop .inv)
 
-same-length : tie.Need-same-length Inv-loop μ-loop
-same-length c = c .before .loop .inv .as-long
-
 returns : tie.Need-returns Inv-loop μ-loop
 returns c =
     let entry : tie.Start Inv-loop μ-loop = search in
@@ -70,7 +64,7 @@ list-run-spec =
     (tie.spec
     Inv-loop
     μ-loop
-    loop-holds
+    (λ c. laid-start _ _)  -- loop-holds
     mul-listed-by
     (λ c. omega arith)  -- shared-slice-read-listed-by
     listed-by-requires
@@ -79,5 +73,5 @@ list-run-spec =
     add-i
     (λ c. omega arith)  -- loop-less
     loop-again
-    same-length
+    (λ c. c .before .loop .inv .as-long)  -- same-length
     returns)

@@ -20,9 +20,6 @@ returns : tie.Need-returns
 unfolding listedBy
 returns c = rw (eq-eqb _ _ (c .if1 .taken)) (toZ-pos w64 (omega arith))
 
-sub-requires : tie.Need-sub-requires
-sub-requires c κs = rw (number c) (omega arith)
-
 returns-2 : tie.Need-returns-2
 unfolding listedBy
 returns-2 c =
@@ -31,4 +28,4 @@ returns-2 c =
     (back _ (c .sub .ok) ∙ (rw (number e) at (c .sub .ensures)) ∙ +ℤ-idl (negℤ (pos (e .before .args .code / 2))))
 
 pub listed-by-spec : {M : Type 1} → statement M
-listed-by-spec = tie.close (tie.spec (λ c. search needs) returns sub-requires returns-2)
+listed-by-spec = tie.close (tie.spec (λ c. search needs) returns (λ c κs. rw (number c) (omega arith)) returns-2)

@@ -22,9 +22,6 @@ returns c =
     let s = c .before .before .before in
     rw (c .refuse .ensures) (list-ten _ (s .args .out .now) (omega (arith, length-map (s .args .list .now) pos, c .before .if1 .taken)))
 
-loop-holds : tie.Need-loop-holds Inv-loop μ-loop
-loop-holds c = laid-start _ _
-
 signed-count-requires : tie.Need-signed-count-requires Inv-loop μ-loop
 signed-count-requires c κs =
     let entry : tie.Start Inv-loop μ-loop = search in
@@ -39,9 +36,6 @@ loop-again c =
     laid-next _ _ _ (l .loop .i) _ (pos 0) (omega (arith, n, else1 .if1 .left)) (omega (arith, n))
     (stored _ (c .signed-count .ok) (c .signed-count .ensures) ∙ sym (List·getD-map pos (s .args .list .now) (l .loop .i) 0))
     (l .loop .inv)
-
-same-length : tie.Need-same-length Inv-loop μ-loop
-same-length c = c .before .before .loop .inv .as-long
 
 returns-2 : tie.Need-returns-2 Inv-loop μ-loop
 returns-2 c =
@@ -58,7 +52,7 @@ write-list-spec =
     μ-loop
     (λ c κs. search needs)  -- refuse-requires
     returns
-    loop-holds
+    (λ c. laid-start _ _)  -- loop-holds
     (λ c. omega arith)  -- mul-signed-count
     (λ c. omega arith)  -- shared-slice-read-signed-count
     signed-count-requires
@@ -68,5 +62,5 @@ write-list-spec =
     (λ c. omega arith)  -- loop-less
     loop-again
     (λ c κs. search needs)  -- entered-requires
-    same-length
+    (λ c. c .before .before .loop .inv .as-long)  -- same-length
     returns-2)

@@ -1,10 +1,7 @@
 use native.Mathlib.Omega.{arith}
-use mathlib.Core.Path.{_∙_}
 use lib.IntN.{pos}
 use lib.ListN.{length-take, replicate}
 use Rattle.laws.proofs.Signed.{back}
-use Rattle.lists.specs.Run.{listedBy}
-use Rattle.page.specs.Run.{runLine}
 use Rattle.page.proofs.Lines.{run-coded, list-front, line-put}
 use borrow.Author.Needs.{needs}
 use Rattle.page.proofs.loop_lines.put_loop.Statement.{statement}

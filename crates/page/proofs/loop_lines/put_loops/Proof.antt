@@ -16,9 +16,6 @@ Inv-loop lines starts runs count out₀ at t after₀ i₀ out after i =
 abbrev μ-loop : tie.MeasureT-loop
 μ-loop lines starts runs count out₀ at t after₀ i₀ out after i = count - i
 
-loop-holds : tie.Need-loop-holds Inv-loop μ-loop
-loop-holds c = (omega arith, refl, all-put-start)
-
 mul-begin : tie.Need-mul-begin Inv-loop μ-loop
 mul-begin c =
     let entry : tie.Start Inv-loop μ-loop = search in
@@ -119,7 +116,7 @@ put-loops-spec =
     (tie.spec
     Inv-loop
     μ-loop
-    loop-holds
+    (λ c. (omega arith, refl, all-put-start))  -- loop-holds
     mul-begin
     shared-slice-read-begin
     add-end

@@ -1,5 +1,4 @@
-use Prim.Native.Nat.{_+_, _*_, _-_}
-use lib.ListN.{getD}
+use Prim.Native.Nat.{_-_}
 use mathlib.Core.Path.{_≡_, sym, _∙_}
 use native.Mathlib.Omega.{arith}
 use lib.IntN.{pos, natAbs}

@@ -1,19 +1,16 @@
 use mathlib.Core.Path.{_≡_, sym, _∙_, ap}
 use mathlib.Core.Bool.{false}
-use Prim.Native.Nat.{_+_, _*_, _-_, _<_}
+use Prim.Native.Nat.{_+_, _-_, _<_}
 use native.Mathlib.Omega.{arith}
-use lib.IntN.{pos, natAbs}
+use lib.IntN.{natAbs}
 use lib.ListN.{length, set}
 use mir.Syntax.{w64}
 use mir.Val.{toZ, ofZ}
 use mir.Facts.{toZ-ofZ}
 use Rattle.book.specs.Line.{place, differenceField}
-use Rattle.loops.specs.Row.{rowWords}
 use Rattle.table.specs.Filled.{foundIn}
 use Rattle.table.specs.declared.Found.{Found}
 use Rattle.book.specs.Good.{GoodLines}
-use Rattle.loops.specs.Report.{loopsOf}
-use Rattle.loops.specs.Table.{Table}
 use Rattle.survey.specs.Stands.{Stands}
 use Rattle.survey.specs.Correction.{noLine, otherReport, rerunLines, correctGood}
 use Rattle.survey.proofs.Corrected.{stands-of, rerun-lines-good}

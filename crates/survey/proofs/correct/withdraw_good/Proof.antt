@@ -1,12 +1,11 @@
 use mathlib.Core.Path.{_≡_, sym, _∙_, ap}
 use mathlib.Core.Bool.{false}
-use Prim.Native.Nat.{_+_, _*_, _-_, _<_}
+use Prim.Native.Nat.{_+_, _-_, _<_}
 use native.Mathlib.Omega.{arith}
 use lib.IntN.{pos, natAbs}
 use lib.ListN.{length, set}
 use Rattle.book.specs.Line.{place, standingField}
 use Rattle.table.specs.Filled.{foundIn}
-use Rattle.table.specs.declared.Found.{Found}
 use Rattle.book.specs.Good.{GoodLines}
 use Rattle.survey.specs.Stands.{Stands}
 use Rattle.survey.specs.Correction.{noLine, otherReport, withdrawLines, correctGood}
