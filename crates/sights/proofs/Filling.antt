@@ -11,7 +11,7 @@ use lib.IntN.{ℤ, pos}
 use Rattle.chains.specs.Chains.{halves}
 use Rattle.sights.specs.Sights.{Sight, sight}
 use Rattle.sights.specs.Halves.{placeOf, sightAt, Leads, no-more, one-more}
-use Rattle.sights.specs.Table.{seen, InRange, Upto, Written, Filling, Filled}
+use Rattle.sights.specs.Table.{seen, InRange, RoomUpto, Written, Filling, Filled}
 
 length-seen : (other : List ℕ) (rise : List ℤ) (weight : List ℕ) (a k : ℕ) → length (seen other rise weight a k) ≡ k
 unfolding seen
@@ -48,7 +48,8 @@ module _ (other : List ℕ) (rise : List ℤ) (weight : List ℕ) (other′ : Li
       ))
 
   -- the sight itself
-  seen-here : 0 < s .other → Upto other rise weight (c + 1) → sight (suc (getD other′ c 0)) (getD rise′ c (pos 0)) (getD weight′ c 0) ≡ s
+  seen-here : 0 < s .other → RoomUpto other rise weight (c + 1)
+      → sight (suc (getD other′ c 0)) (getD rise′ c (pos 0)) (getD weight′ c 0) ≡ s
   seen-here p u =
       rw (
         w .others,
@@ -63,7 +64,7 @@ module _ (other : List ℕ) (rise : List ℤ) (weight : List ℕ) (other′ : Li
 
 -- before the first, after one more, and after the last
 pub filling-start : (other : List ℕ) (rise : List ℤ) (weight : List ℕ) (b a : ℕ) (all : List Sight) → InRange other rise weight b
-    → Upto other rise weight (a + length all)
+    → RoomUpto other rise weight (a + length all)
     → Filling other rise weight other rise weight b a a all all
 unfolding seen
 filling-start other rise weight b a all r u = record {
@@ -145,7 +146,7 @@ pub record Turn (lines : List ℤ) (n : ℕ) (next other₀ : List ℕ) (rise₀
   pub rest : List Sight
   pub leads : Leads lines n next (getD next h 0) rest
   pub filling : Filling other₀ rise₀ weight₀ other rise weight b a c (sightAt lines h ∷ rest) all
-  pub room : Upto other rise weight (c + 1)
+  pub room : RoomUpto other rise weight (c + 1)
   pub more : c < a + length all
 
 module _ {lines : List ℤ} {n : ℕ} {next other₀ : List ℕ} {rise₀ : List ℤ} {weight₀ other : List ℕ} {rise : List ℤ} {weight : List ℕ}

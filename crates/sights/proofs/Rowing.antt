@@ -12,7 +12,7 @@ use lib.Seq.{getD-set-same, getD-set-other}
 use lib.IntN.{ℤ}
 use Rattle.divisions.specs.Weight.{mostWeight}
 use Rattle.sights.specs.Sights.{Sight, weights}
-use Rattle.sights.specs.Table.{seen, rows, InRange, Upto, Filled, weighed, taken, Rowed, Broad, Table, Weighable}
+use Rattle.sights.specs.Table.{seen, rows, InRange, RoomUpto, Filled, weighed, taken, Rowed, RoomRows, Table, Weighable}
 
 -- the weights of the sights from place a on
 pub weighed-is : (other : List ℕ) (rise : List ℤ) (weight : List ℕ) (a k : ℕ) → weights (seen other rise weight a k) ≡ weighed weight a k
@@ -110,7 +110,7 @@ module _ (sights : ℕ → List Sight) where
 
   -- the last row ends at place c, which is written too: the table
   module _ (first other : List ℕ) (rise : List ℤ) (weight total first′ : List ℕ) (b c : ℕ)
-      (broad : Broad sights first′ other rise weight total b)
+      (broad : RoomRows sights first′ other rise weight total b)
       (h : Rowed sights first other rise weight total b b c) (l : b < length first) (ef : first′ ≡ set first b c) where
     first-at : (u : ℕ) → u ≤ b → getD first′ u 0 ≡ taken sights u
     first-at u s =
@@ -143,12 +143,12 @@ module _ (sights : ℕ → List Sight) where
 
   -- there is room for the next row, and its weights can be summed
   module _ (first other : List ℕ) (rise : List ℤ) (weight total : List ℕ) (b v c : ℕ)
-      (broad : Broad sights first other rise weight total b) (h : Rowed sights first other rise weight total b v c) (l : v < b)
+      (broad : RoomRows sights first other rise weight total b) (h : Rowed sights first other rise weight total b v c) (l : v < b)
       (ss : List Sight) (es : ss ≡ sights (suc v)) where
     end-here : c + length ss ≤ taken sights b
     end-here = let e = ap length es in omega (arith, h .next, taken-more v, taken-up (suc v) b l)
 
-    pub row-room : Upto other rise weight (c + length ss)
+    pub row-room : RoomUpto other rise weight (c + length ss)
     row-room =
         let u = broad .upto in
         let e = end-here in
@@ -163,10 +163,10 @@ module _ (sights : ℕ → List Sight) where
 
   -- room is kept where lengths are
   pub broad-kept : (first other : List ℕ) (rise : List ℤ) (weight total first′ other′ : List ℕ) (rise′ : List ℤ)
-      (weight′ total′ : List ℕ) (b : ℕ) → Broad sights first other rise weight total b
+      (weight′ total′ : List ℕ) (b : ℕ) → RoomRows sights first other rise weight total b
       → length first′ ≡ length first → length other′ ≡ length other → length rise′ ≡ length rise → length weight′ ≡ length weight
       → length total′ ≡ length total
-      → Broad sights first′ other′ rise′ weight′ total′ b
+      → RoomRows sights first′ other′ rise′ weight′ total′ b
   broad-kept first other rise weight total first′ other′ rise′ weight′ total′ b h ef eo er ew et = record {
     firsts = omega (arith, h .firsts);
     totals = omega (arith, h .totals);

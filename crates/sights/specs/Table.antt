@@ -50,7 +50,7 @@ pub record InRange (other : List ℕ) (rise : List ℤ) (weight : List ℕ) (b :
   pub weightIn : (j : ℕ) → getD weight j 0 ≤ mostWeight
 
 -- Room up to place e
-pub record Upto (other : List ℕ) (rise : List ℤ) (weight : List ℕ) (e : ℕ) : Type 0 where
+pub record RoomUpto (other : List ℕ) (rise : List ℤ) (weight : List ℕ) (e : ℕ) : Type 0 where
   pub others : e ≤ length other
   pub rises : e ≤ length rise
   pub weighed : e ≤ length weight
@@ -78,7 +78,7 @@ weighed weight a (suc k) = getD weight a 0 + weighed weight (suc a) k
 pub record Filling (other₀ : List ℕ) (rise₀ : List ℤ) (weight₀ : List ℕ) (other : List ℕ) (rise : List ℤ) (weight : List ℕ) (b a c : ℕ)
     (rest all : List Sight) : Type 0 where
   pub range : InRange other rise weight b
-  pub room : Upto other rise weight (c + length rest)
+  pub room : RoomUpto other rise weight (c + length rest)
   pub reached : a ≤ c
   pub done : seen other rise weight a (c - a) ++ rest ≡ all
   pub before : (i k : ℕ) → i + k ≤ a → seen other rise weight i k ≡ seen other₀ rise₀ weight₀ i k
@@ -97,10 +97,10 @@ pub record Rowed (sights : ℕ → List Sight) (first other : List ℕ) (rise : 
   pub totals : (u : ℕ) → u < v → getD total u 0 ≡ weights (sights (suc u))
 
 -- Room for all rows
-pub record Broad (sights : ℕ → List Sight) (first other : List ℕ) (rise : List ℤ) (weight total : List ℕ) (b : ℕ) : Type 0 where
+pub record RoomRows (sights : ℕ → List Sight) (first other : List ℕ) (rise : List ℤ) (weight total : List ℕ) (b : ℕ) : Type 0 where
   pub firsts : b < length first
   pub totals : b ≤ length total
-  pub upto : Upto other rise weight (taken sights b)
+  pub upto : RoomUpto other rise weight (taken sights b)
   pub few : (m : ℕ) → length (sights m) ≤ mostLines
 
 -- Weights from place a to place e, few and small enough for their sum

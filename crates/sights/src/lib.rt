@@ -9,7 +9,7 @@ ghost use Rattle.network.specs.Standing.{standing};
 ghost use Rattle.chains.specs.Chains.{InOrder};
 ghost use Rattle.divisions.specs.Weight.{mostWeight};
 ghost use Rattle.sights.specs.Sights.{sightsOf};
-ghost use Rattle.sights.specs.Table.{Upto, InRange, Written, Filled, Weighable, weighed, Rowed, Broad, Table, rows, Sighted};
+ghost use Rattle.sights.specs.Table.{RoomUpto, InRange, Written, Filled, Weighable, weighed, Rowed, RoomRows, Table, rows, Sighted};
 ghost use Rattle.sights.specs.Halves.{sightAt, HalfHere};
 use book::line::Line;
 
@@ -54,7 +54,7 @@ fn write_half(
     h: usize,
 )
     requires { ⌜ HalfHere (now lines) b n h ⌝
-        ∗ ⌜ Upto (now other) (now rise) (now weight) (c + 1) ⌝
+        ∗ ⌜ RoomUpto (now other) (now rise) (now weight) (c + 1) ⌝
         ∗ ⌜ InRange (now other) (now rise) (now weight) b ⌝ }
     ensures { λ _. ⌜ Written (now (other .entry)) (now (rise .entry)) (now (weight .entry)) (now (other .exit)) (now (rise .exit))
         (now (weight .exit)) c (sightAt (now (lines .entry)) h) ⌝
@@ -82,7 +82,7 @@ fn write_chain(
         ∗ ⌜ InOrder (standing (now lines)) (b + 1) (now head) (now next) ⌝
         ∗ ⌜ m ≤ b ⌝
         ∗ ⌜ InRange (now other) (now rise) (now weight) b ⌝
-        ∗ ⌜ Upto (now other) (now rise) (now weight) (a + length (sightsOf (standing (now lines)) m)) ⌝ }
+        ∗ ⌜ RoomUpto (now other) (now rise) (now weight) (a + length (sightsOf (standing (now lines)) m)) ⌝ }
     ensures { λ r. ⌜ r ≡ a + length (sightsOf (standing (now (lines .entry))) m) ⌝
         ∗ ⌜ Filled (now (other .entry)) (now (rise .entry)) (now (weight .entry)) (now (other .exit)) (now (rise .exit))
         (now (weight .exit)) b a
@@ -130,7 +130,7 @@ fn write_row(
     requires { ⌜ Lines (now lines) b n ⌝
         ∗ ⌜ InOrder (standing (now lines)) (b + 1) (now head) (now next) ⌝
         ∗ ⌜ Rowed (sightsOf (standing (now lines))) (now first) (now other) (now rise) (now weight) (now total) b v c ⌝
-        ∗ ⌜ Broad (sightsOf (standing (now lines))) (now first) (now other) (now rise) (now weight) (now total) b ⌝
+        ∗ ⌜ RoomRows (sightsOf (standing (now lines))) (now first) (now other) (now rise) (now weight) (now total) b ⌝
         ∗ ⌜ v < b ⌝ }
     ensures { λ r. ⌜ Rowed (sightsOf (standing (now (lines .entry)))) (now (first .exit)) (now (other .exit)) (now (rise .exit))
         (now (weight .exit)) (now (total .exit)) b (v + 1) r ⌝ }
@@ -157,7 +157,7 @@ pub fn write_rows(
     requires { ⌜ Lines (now lines) b n ⌝
         ∗ ⌜ InOrder (standing (now lines)) (b + 1) (now head) (now next) ⌝
         ∗ ⌜ InRange (now other) (now rise) (now weight) b ⌝
-        ∗ ⌜ Broad (sightsOf (standing (now lines))) (now first) (now other) (now rise) (now weight) (now total) b ⌝ }
+        ∗ ⌜ RoomRows (sightsOf (standing (now lines))) (now first) (now other) (now rise) (now weight) (now total) b ⌝ }
     ensures { λ _. ⌜ Table (now (first .exit)) (now (other .exit)) (now (rise .exit)) (now (weight .exit)) (now (total .exit)) b ⌝
         ∗ ⌜ Sighted (rows (now (first .exit)) (now (other .exit)) (now (rise .exit)) (now (weight .exit)))
         (sightsOf (standing (now (lines .entry)))) b ⌝ }

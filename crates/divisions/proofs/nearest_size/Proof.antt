@@ -20,4 +20,12 @@ unfolding nearestSize
 returns-2 c = rw (le-ltb _ _ (c .if1 .left))
 
 pub nearest-size-spec : {M : Type 1} → statement M
-nearest-size-spec = tie.close (tie.spec (λ c. search needs) (λ c. search needs) (λ c. omega (arith, mod-lt (c .args .a) (c .pre .0))) add-result returns returns-2)
+nearest-size-spec =
+    tie.close
+    (tie.spec
+    (λ c. search needs)
+    (λ c. search needs)
+    (λ c. omega (arith, mod-lt (c .args .a) (c .pre .0)))
+    add-result
+    returns
+    returns-2)

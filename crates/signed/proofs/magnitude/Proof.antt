@@ -47,4 +47,11 @@ returns-2 c = rw (toZ-ofZ (c .before .before .fits .x)) at (c .index2 .ensures)
 
 pub magnitude-spec : {M : Type 1} → statement M
 magnitude-spec =
-    tie.close (tie.spec sub-index (λ c κs. rw (toZ-ofZ (sub-index c), minus c) (le-ltb (natAbs (c .before .args .x) - 1) 0 zero-le)) add-result (λ c κs. search needs) returns returns-2)
+    tie.close
+    (tie.spec
+    sub-index
+    (λ c κs. rw (toZ-ofZ (sub-index c), minus c) (le-ltb (natAbs (c .before .args .x) - 1) 0 zero-le))
+    add-result
+    (λ c κs. search needs)
+    returns
+    returns-2)
