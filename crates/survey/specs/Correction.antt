@@ -2,11 +2,11 @@
 -- Assumes nothing.
 use mathlib.Core.Bool.{Bool, cond, _||_}
 use mathlib.Core.List.{List, _++_}
-use Prim.Native.Nat.{ℕ, _+_, _-_, _*_}
+use Prim.Native.Nat.{ℕ, _-_}
 use lib.ListN.{length, drop, set, replicate}
 use lib.IntN.{ℤ, pos, natAbs}
 use Rattle.laws.specs.Tests.{outZ, eqZ}
-use Rattle.book.specs.Line.{lineWords, differenceField, standingField, lineCount, standingAt, differenceOut}
+use Rattle.book.specs.Line.{place, differenceField, standingField, lineCount, standingAt, differenceOut}
 use Rattle.book.specs.Lent.{Lent}
 use Rattle.book.specs.Test.{refusal, testOf, ifGood}
 use Rattle.book.specs.declared.Book.{Book}
@@ -51,7 +51,7 @@ correctOf book report number new =
 
 -- the place in the slice of a line's k-th number, by the line's number from 1
 abbrev pub placeOf : ℤ → ℕ → ℕ
-placeOf number k = (natAbs number - 1) * lineWords + k
+placeOf number k = place (natAbs number - 1) k
 
 -- "Re-run sets the line's difference to the new one .. and nothing else in the book changes"
 unfoldable pub rerunLines : List ℤ → ℤ → ℤ → List ℤ
