@@ -8,7 +8,7 @@ use lib.IntN.{ℤ, pos}
 use Rattle.book.specs.Good.{Lines}
 use Rattle.network.specs.Standing.{standing}
 use Rattle.sights.specs.Sights.{sightsOf}
-use Rattle.sights.specs.Table.{InRange, RoomRows}
+use Rattle.sights.specs.Table.{columns, InRange, RoomRows}
 use Rattle.fields.proofs.Fair.{fair-lines}
 use Rattle.sights.proofs.Counting.{few-sights, taken-most}
 
@@ -28,7 +28,7 @@ all-null zero j = refl
 all-null (suc w) zero = refl
 all-null (suc w) (suc j) = all-null w j
 
-pub range-zeros : (w b : ℕ) → 0 < b → InRange (zeros w) (nulls w) (zeros w) b
+pub range-zeros : (w b : ℕ) → 0 < b → InRange (columns (zeros w) (nulls w) (zeros w)) b
 range-zeros w b l = record {
   otherIn = λ j. rw (all-zero w j) l;
   riseIn = λ j. rw (all-null w j) zero-le;
@@ -36,7 +36,7 @@ range-zeros w b l = record {
 }
 
 pub broad-zeros : (lines : List ℤ) (b n f w t : ℕ) → Lines lines b n → b < f → b ≤ t → 2 * n ≤ w
-    → RoomRows (sightsOf (standing lines)) (zeros f) (zeros w) (nulls w) (zeros w) (zeros t) b
+    → RoomRows (sightsOf (standing lines)) (zeros f) (columns (zeros w) (nulls w) (zeros w)) (zeros t) b
 broad-zeros lines b n f w t good lf lt lw =
     let fairs = fair-lines lines b n good in
     let most = taken-most fairs b in

@@ -11,7 +11,7 @@ use Rattle.book.specs.Limits.{mostDifference, leastLength}
 use Rattle.book.specs.Line.{fromAt, toAt, differenceAt, lengthAt}
 use Rattle.divisions.specs.Weight.{weightOf, mostWeight}
 use Rattle.sights.specs.Sights.{Sight, sight}
-use Rattle.sights.specs.Table.{InRange}
+use Rattle.sights.specs.Table.{Columns, columns, InRange}
 use Rattle.sights.specs.Halves.{placeOf, sideOf, sightAt, HalfHere}
 use Rattle.fields.proofs.Setting.{set-all}
 
@@ -51,10 +51,10 @@ pub weight-most : (l : ℕ) → leastLength ≤ l → weightOf l ≤ mostWeight
 unfolding weightOf
 weight-most l h = div-le-of-le-mul l (omega arith)
 
-pub range-set : (other : List ℕ) (rise : List ℤ) (weight : List ℕ) (b c o w : ℕ) (r : ℤ) → InRange other rise weight b → o < b
-    → natAbs r ≤ mostDifference → w ≤ mostWeight → InRange (set other c o) (set rise c r) (set weight c w) b
-range-set other rise weight b c o w r h ho hr hw = record {
-  otherIn = set-all (λ (x : ℕ). x < b) other c o 0 ho (h .otherIn);
-  riseIn = set-all (λ (x : ℤ). natAbs x ≤ mostDifference) rise c r (pos 0) hr (h .riseIn);
-  weightIn = set-all (λ (x : ℕ). x ≤ mostWeight) weight c w 0 hw (h .weightIn);
+pub range-set : (cols : Columns) (b c o w : ℕ) (r : ℤ) → InRange cols b → o < b → natAbs r ≤ mostDifference → w ≤ mostWeight
+    → InRange (columns (set (cols .other) c o) (set (cols .rise) c r) (set (cols .weight) c w)) b
+range-set cols b c o w r h ho hr hw = record {
+  otherIn = set-all (λ (x : ℕ). x < b) (cols .other) c o 0 ho (h .otherIn);
+  riseIn = set-all (λ (x : ℤ). natAbs x ≤ mostDifference) (cols .rise) c r (pos 0) hr (h .riseIn);
+  weightIn = set-all (λ (x : ℕ). x ≤ mostWeight) (cols .weight) c w 0 hw (h .weightIn);
 }

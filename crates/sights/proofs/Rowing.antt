@@ -12,13 +12,17 @@ use lib.Seq.{getD-set-same, getD-set-other}
 use lib.IntN.{ℤ}
 use Rattle.divisions.specs.Weight.{mostWeight}
 use Rattle.sights.specs.Sights.{Sight, weights}
-use Rattle.sights.specs.Table.{seen, rows, InRange, RoomUpto, Filled, weighed, taken, Rowed, RoomRows, Table, Weighable}
+use Rattle.sights.specs.Table.{Columns, seen, rows, InRange, RoomUpto, Filled, weighed, taken, Rowed, RoomRows, Table, Weighable}
+
+-- room for more is room for less
+pub room-less : {cols : Columns} {e k : ℕ} → RoomUpto cols e → k ≤ e → RoomUpto cols k
+room-less u l = record { others = omega (arith, u .others); rises = omega (arith, u .rises); weighed = omega (arith, u .weighed) }
 
 -- the weights of the sights from place a on
-pub weighed-is : (other : List ℕ) (rise : List ℤ) (weight : List ℕ) (a k : ℕ) → weights (seen other rise weight a k) ≡ weighed weight a k
+pub weighed-is : (cols : Columns) (a k : ℕ) → weights (seen cols a k) ≡ weighed (cols .weight) a k
 unfolding weights seen weighed
-weighed-is other rise weight a zero = refl
-weighed-is other rise weight a (suc k) = ap (λ (x : ℕ). getD weight a 0 + x) (weighed-is other rise weight (suc a) k)
+weighed-is cols a zero = refl
+weighed-is cols a (suc k) = ap (λ (x : ℕ). getD (cols .weight) a 0 + x) (weighed-is cols (suc a) k)
 
 -- one turn of that sum, and its end
 pub weighed-turn : (weight : List ℕ) (a e j s : ℕ) → j < e → s + weighed weight j (e - j) ≡ weighed weight a (e - a)
@@ -47,10 +51,10 @@ module _ (sights : ℕ → List Sight) where
   pub taken-up : (v b : ℕ) → v ≤ b → taken sights v ≤ taken sights b
   taken-up v b l = let e : b - v + v ≡ b = omega arith in subst (λ (x : ℕ). taken sights v ≤ taken sights x) e (taken-le v (b - v))
 
-  pub rowed-none : (first other : List ℕ) (rise : List ℤ) (weight total : List ℕ) (b : ℕ) → InRange other rise weight b
-      → Rowed sights first other rise weight total b 0 0
+  pub rowed-none : (first : List ℕ) (cols : Columns) (total : List ℕ) (b : ℕ) → InRange cols b
+      → Rowed sights first cols total b 0 0
   unfolding taken
-  rowed-none first other rise weight total b r =
+  rowed-none first cols total b r =
       record {
         range = r;
         next = refl;
@@ -60,19 +64,19 @@ module _ (sights : ℕ → List Sight) where
             (omega arith);
       }
 
-  module _ (first other : List ℕ) (rise : List ℤ) (weight total first′ other′ : List ℕ) (rise′ : List ℤ) (weight′ total′ : List ℕ)
+  module _ (first : List ℕ) (cols : Columns) (total first′ : List ℕ) (cols′ : Columns) (total′ : List ℕ)
       (b v c r t : ℕ)
-      (l : v < length first) (l′ : v < length total) (h : Rowed sights first other rise weight total b v c)
-      (ef : first′ ≡ set first v c) (filled : Filled other rise weight other′ rise′ weight′ b c (sights (suc v)))
+      (l : v < length first) (l′ : v < length total) (h : Rowed sights first cols total b v c)
+      (ef : first′ ≡ set first v c) (filled : Filled cols cols′ b c (sights (suc v)))
       (er : r ≡ c + length (sights (suc v)))
-      (et : total′ ≡ set total v t) (ew : t ≡ weighed weight′ c (r - c)) where
+      (et : total′ ≡ set total v t) (ew : t ≡ weighed (cols′ .weight) c (r - c)) where
     total-here : t ≡ weights (sights (suc v))
     total-here =
         let e : r - c ≡ length (sights (suc v)) = omega arith in
-        ew ∙ ap (weighed weight′ c) e ∙ sym (weighed-is other′ rise′ weight′ c (length (sights (suc v)))) ∙ ap weights (filled .here)
+        ew ∙ ap (weighed (cols′ .weight) c) e ∙ sym (weighed-is cols′ c (length (sights (suc v)))) ∙ ap weights (filled .here)
 
     old : (u : ℕ) → u < v
-        → (getD first′ u 0 ≡ taken sights u) × (seen other′ rise′ weight′ (taken sights u) (length (sights (suc u))) ≡ sights (suc u))
+        → (getD first′ u 0 ≡ taken sights u) × (seen cols′ (taken sights u) (length (sights (suc u))) ≡ sights (suc u))
         × (getD total′ u 0 ≡ weights (sights (suc u)))
     old u s =
         let w : taken sights u + length (sights (suc u)) ≤ c = omega (arith, h .next, taken-more u, taken-up (suc u) v s) in (
@@ -81,7 +85,7 @@ module _ (sights : ℕ → List Sight) where
           rw (et, getD-set-other total v u t 0 (λ e. omega arith)) (h .totals u s),
         )
 
-    new : (getD first′ v 0 ≡ taken sights v) × (seen other′ rise′ weight′ (taken sights v) (length (sights (suc v))) ≡ sights (suc v))
+    new : (getD first′ v 0 ≡ taken sights v) × (seen cols′ (taken sights v) (length (sights (suc v))) ≡ sights (suc v))
         × (getD total′ v 0 ≡ weights (sights (suc v)))
     new = (
       rw (ef, getD-set-same first v c 0 l) (h .next),
@@ -90,16 +94,16 @@ module _ (sights : ℕ → List Sight) where
     )
 
     each : (u : ℕ) → u < v + 1
-        → (getD first′ u 0 ≡ taken sights u) × (seen other′ rise′ weight′ (taken sights u) (length (sights (suc u))) ≡ sights (suc u))
+        → (getD first′ u 0 ≡ taken sights u) × (seen cols′ (taken sights u) (length (sights (suc u))) ≡ sights (suc u))
         × (getD total′ u 0 ≡ weights (sights (suc u)))
     each u s =
         let q : u ≤ v = omega arith in
         ⊎-elim (λ (e : u ≡ v). subst (λ (x : ℕ). (getD first′ x 0 ≡ taken sights x)
-        × (seen other′ rise′ weight′ (taken sights x) (length (sights (suc x))) ≡ sights (suc x))
+        × (seen cols′ (taken sights x) (length (sights (suc x))) ≡ sights (suc x))
         × (getD total′ x 0 ≡ weights (sights (suc x)))) (sym e) new)
         (λ (p : u < v). old u p) (eq-or-lt-of-le q)
 
-    pub rowed-next : Rowed sights first′ other′ rise′ weight′ total′ b (v + 1) r
+    pub rowed-next : Rowed sights first′ cols′ total′ b (v + 1) r
     rowed-next = record {
       range = filled .range;
       next = rw add-one (omega (arith, er, h .next, taken-more v));
@@ -109,52 +113,43 @@ module _ (sights : ℕ → List Sight) where
     }
 
   -- the last row ends at place c, which is written too: the table
-  module _ (first other : List ℕ) (rise : List ℤ) (weight total first′ : List ℕ) (b c : ℕ)
-      (broad : RoomRows sights first′ other rise weight total b)
-      (h : Rowed sights first other rise weight total b b c) (l : b < length first) (ef : first′ ≡ set first b c) where
+  module _ (first : List ℕ) (cols : Columns) (total first′ : List ℕ) (b c : ℕ)
+      (broad : RoomRows sights first′ cols total b)
+      (h : Rowed sights first cols total b b c) (l : b < length first) (ef : first′ ≡ set first b c) where
     first-at : (u : ℕ) → u ≤ b → getD first′ u 0 ≡ taken sights u
     first-at u s =
         ⊎-elim (λ (e : u ≡ b). rw (e, ef, getD-set-same first b c 0 l) (h .next))
         (λ (p : u < b). rw (ef, getD-set-other first b u c 0 (λ e. omega arith)) (h .firsts u p)) (eq-or-lt-of-le s)
 
-    pub rows-are : (v : ℕ) → v < b → rows first′ other rise weight (suc v) ≡ sights (suc v)
+    pub rows-are : (v : ℕ) → v < b → rows first′ cols (suc v) ≡ sights (suc v)
     unfolding rows
     rows-are v s =
         let e : suc v - 1 ≡ v = omega arith in
         let k : taken sights (suc v) - taken sights v ≡ length (sights (suc v)) = omega (arith, taken-more v) in
         rw (e, first-at v (omega arith), first-at (suc v) s, k) (h .rowAt v s)
 
-    pub table-is : Table first′ other rise weight total b
+    pub table-is : Table first′ cols total b
     table-is = record {
       firsts = broad .firsts;
       totals = broad .totals;
       span = λ v s. rw (add-one v, first-at v (omega arith), first-at (suc v) s)
           (record { order = omega (arith, taken-more v); few = omega (arith, taken-more v, broad .few (suc v)) });
-      ends = λ v s. rw (add-one v, first-at (suc v) s) (record {
-        others = omega (arith, taken-up (suc v) b s, broad .upto .others);
-        rises = omega (arith, taken-up (suc v) b s, broad .upto .rises);
-        weighed = omega (arith, taken-up (suc v) b s, broad .upto .weighed);
-        otherIn = h .range .otherIn;
-        riseIn = h .range .riseIn;
-        weightIn = h .range .weightIn;
-      });
+      ends = λ v s. rw (add-one v, first-at (suc v) s)
+          (record { room = room-less (broad .upto) (taken-up (suc v) b s); range = h .range });
       sum = λ v s. h .totals v s ∙ ap weights (sym (rows-are v s));
     }
 
   -- there is room for the next row, and its weights can be summed
-  module _ (first other : List ℕ) (rise : List ℤ) (weight total : List ℕ) (b v c : ℕ)
-      (broad : RoomRows sights first other rise weight total b) (h : Rowed sights first other rise weight total b v c) (l : v < b)
+  module _ (first : List ℕ) (cols : Columns) (total : List ℕ) (b v c : ℕ)
+      (broad : RoomRows sights first cols total b) (h : Rowed sights first cols total b v c) (l : v < b)
       (ss : List Sight) (es : ss ≡ sights (suc v)) where
     end-here : c + length ss ≤ taken sights b
     end-here = let e = ap length es in omega (arith, h .next, taken-more v, taken-up (suc v) b l)
 
-    pub row-room : RoomUpto other rise weight (c + length ss)
-    row-room =
-        let u = broad .upto in
-        let e = end-here in
-        record { others = omega (arith, u .others); rises = omega (arith, u .rises); weighed = omega (arith, u .weighed) }
+    pub row-room : RoomUpto cols (c + length ss)
+    row-room = room-less (broad .upto) end-here
 
-    pub row-weights : (weight′ : List ℕ) (e : ℕ) → e ≡ c + length ss → length weight′ ≡ length weight
+    pub row-weights : (weight′ : List ℕ) (e : ℕ) → e ≡ c + length ss → length weight′ ≡ length (cols .weight)
         → ((j : ℕ) → getD weight′ j 0 ≤ mostWeight) → Weighable weight′ c e
     row-weights weight′ e ee k s =
         let f = broad .few (suc v) in
@@ -162,12 +157,12 @@ module _ (sights : ℕ → List Sight) where
         record { long = omega (arith, end-here, broad .upto .weighed); span = record { order = omega arith; few = omega arith }; small = s }
 
   -- room is kept where lengths are
-  pub broad-kept : (first other : List ℕ) (rise : List ℤ) (weight total first′ other′ : List ℕ) (rise′ : List ℤ)
-      (weight′ total′ : List ℕ) (b : ℕ) → RoomRows sights first other rise weight total b
-      → length first′ ≡ length first → length other′ ≡ length other → length rise′ ≡ length rise → length weight′ ≡ length weight
+  pub broad-kept : (first : List ℕ) (cols : Columns) (total first′ : List ℕ) (cols′ : Columns) (total′ : List ℕ) (b : ℕ)
+      → RoomRows sights first cols total b → length first′ ≡ length first → length (cols′ .other) ≡ length (cols .other)
+      → length (cols′ .rise) ≡ length (cols .rise) → length (cols′ .weight) ≡ length (cols .weight)
       → length total′ ≡ length total
-      → RoomRows sights first′ other′ rise′ weight′ total′ b
-  broad-kept first other rise weight total first′ other′ rise′ weight′ total′ b h ef eo er ew et = record {
+      → RoomRows sights first′ cols′ total′ b
+  broad-kept first cols total first′ cols′ total′ b h ef eo er ew et = record {
     firsts = omega (arith, h .firsts);
     totals = omega (arith, h .totals);
     upto = record {

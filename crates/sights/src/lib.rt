@@ -9,7 +9,8 @@ ghost use Rattle.network.specs.Standing.{standing};
 ghost use Rattle.chains.specs.Chains.{InOrder};
 ghost use Rattle.divisions.specs.Weight.{mostWeight};
 ghost use Rattle.sights.specs.Sights.{sightsOf};
-ghost use Rattle.sights.specs.Table.{RoomUpto, InRange, Written, Filled, Weighable, weighed, Rowed, RoomRows, Table, rows, Sighted};
+ghost use Rattle.sights.specs.Table.{columns, RoomUpto, InRange, Written, Filled, Weighable, weighed};
+ghost use Rattle.sights.specs.Table.{Rowed, RoomRows, Table, rows, Sighted};
 ghost use Rattle.sights.specs.Halves.{sightAt, HalfHere};
 use book::line::Line;
 
@@ -54,11 +55,11 @@ fn write_half(
     h: usize,
 )
     requires { ⌜ HalfHere (now lines) b n h ⌝
-        ∗ ⌜ RoomUpto (now other) (now rise) (now weight) (c + 1) ⌝
-        ∗ ⌜ InRange (now other) (now rise) (now weight) b ⌝ }
-    ensures { λ _. ⌜ Written (now (other .entry)) (now (rise .entry)) (now (weight .entry)) (now (other .exit)) (now (rise .exit))
-        (now (weight .exit)) c (sightAt (now (lines .entry)) h) ⌝
-        ∗ ⌜ InRange (now (other .exit)) (now (rise .exit)) (now (weight .exit)) b ⌝ }
+        ∗ ⌜ RoomUpto (columns (now other) (now rise) (now weight)) (c + 1) ⌝
+        ∗ ⌜ InRange (columns (now other) (now rise) (now weight)) b ⌝ }
+    ensures { λ _. ⌜ Written (columns (now (other .entry)) (now (rise .entry)) (now (weight .entry)))
+        (columns (now (other .exit)) (now (rise .exit)) (now (weight .exit))) c (sightAt (now (lines .entry)) h) ⌝
+        ∗ ⌜ InRange (columns (now (other .exit)) (now (rise .exit)) (now (weight .exit))) b ⌝ }
 {
     other[c] = other_of(lines, b, n, h);
     rise[c] = rise_of(lines, b, n, h);
@@ -81,12 +82,11 @@ fn write_chain(
     requires { ⌜ Lines (now lines) b n ⌝
         ∗ ⌜ InOrder (standing (now lines)) (b + 1) (now head) (now next) ⌝
         ∗ ⌜ m ≤ b ⌝
-        ∗ ⌜ InRange (now other) (now rise) (now weight) b ⌝
-        ∗ ⌜ RoomUpto (now other) (now rise) (now weight) (a + length (sightsOf (standing (now lines)) m)) ⌝ }
+        ∗ ⌜ InRange (columns (now other) (now rise) (now weight)) b ⌝
+        ∗ ⌜ RoomUpto (columns (now other) (now rise) (now weight)) (a + length (sightsOf (standing (now lines)) m)) ⌝ }
     ensures { λ r. ⌜ r ≡ a + length (sightsOf (standing (now (lines .entry))) m) ⌝
-        ∗ ⌜ Filled (now (other .entry)) (now (rise .entry)) (now (weight .entry)) (now (other .exit)) (now (rise .exit))
-        (now (weight .exit)) b a
-        (sightsOf (standing (now (lines .entry))) m) ⌝ }
+        ∗ ⌜ Filled (columns (now (other .entry)) (now (rise .entry)) (now (weight .entry)))
+        (columns (now (other .exit)) (now (rise .exit)) (now (weight .exit))) b a (sightsOf (standing (now (lines .entry))) m) ⌝ }
 {
     let mut c = a;
     let mut h = head[m] as usize;
@@ -129,11 +129,11 @@ fn write_row(
 ) -> usize
     requires { ⌜ Lines (now lines) b n ⌝
         ∗ ⌜ InOrder (standing (now lines)) (b + 1) (now head) (now next) ⌝
-        ∗ ⌜ Rowed (sightsOf (standing (now lines))) (now first) (now other) (now rise) (now weight) (now total) b v c ⌝
-        ∗ ⌜ RoomRows (sightsOf (standing (now lines))) (now first) (now other) (now rise) (now weight) (now total) b ⌝
+        ∗ ⌜ Rowed (sightsOf (standing (now lines))) (now first) (columns (now other) (now rise) (now weight)) (now total) b v c ⌝
+        ∗ ⌜ RoomRows (sightsOf (standing (now lines))) (now first) (columns (now other) (now rise) (now weight)) (now total) b ⌝
         ∗ ⌜ v < b ⌝ }
-    ensures { λ r. ⌜ Rowed (sightsOf (standing (now (lines .entry)))) (now (first .exit)) (now (other .exit)) (now (rise .exit))
-        (now (weight .exit)) (now (total .exit)) b (v + 1) r ⌝ }
+    ensures { λ r. ⌜ Rowed (sightsOf (standing (now (lines .entry)))) (now (first .exit))
+        (columns (now (other .exit)) (now (rise .exit)) (now (weight .exit))) (now (total .exit)) b (v + 1) r ⌝ }
 {
     first[v] = c;
     let e = write_chain(lines, head, next, other, rise, weight, b, n, v + 1, c);
@@ -156,10 +156,11 @@ pub fn write_rows(
 )
     requires { ⌜ Lines (now lines) b n ⌝
         ∗ ⌜ InOrder (standing (now lines)) (b + 1) (now head) (now next) ⌝
-        ∗ ⌜ InRange (now other) (now rise) (now weight) b ⌝
-        ∗ ⌜ RoomRows (sightsOf (standing (now lines))) (now first) (now other) (now rise) (now weight) (now total) b ⌝ }
-    ensures { λ _. ⌜ Table (now (first .exit)) (now (other .exit)) (now (rise .exit)) (now (weight .exit)) (now (total .exit)) b ⌝
-        ∗ ⌜ Sighted (rows (now (first .exit)) (now (other .exit)) (now (rise .exit)) (now (weight .exit)))
+        ∗ ⌜ InRange (columns (now other) (now rise) (now weight)) b ⌝
+        ∗ ⌜ RoomRows (sightsOf (standing (now lines))) (now first) (columns (now other) (now rise) (now weight)) (now total) b ⌝ }
+    ensures { λ _. ⌜ Table (now (first .exit)) (columns (now (other .exit)) (now (rise .exit)) (now (weight .exit)))
+        (now (total .exit)) b ⌝
+        ∗ ⌜ Sighted (rows (now (first .exit)) (columns (now (other .exit)) (now (rise .exit)) (now (weight .exit))))
         (sightsOf (standing (now (lines .entry)))) b ⌝ }
 {
     let mut c = 0;

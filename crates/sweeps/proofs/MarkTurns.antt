@@ -17,7 +17,7 @@ use Rattle.book.specs.Limits.{mostHeight}
 use Rattle.book.specs.Height.{workHeightOut}
 use Rattle.fields.specs.Heights.{height, Working}
 use Rattle.sights.specs.Sights.{Sight, weights, pull}
-use Rattle.sights.specs.Table.{seen, rows, Ends, Table}
+use Rattle.sights.specs.Table.{Columns, seen, rows, Ends, Table}
 use Rattle.divisions.specs.Nearest.{nearest}
 use Rattle.sweeps.specs.Sweeps.{moveOf, Swept, still, moved, placed, visited}
 use Rattle.fields.proofs.Setting.{set-all, place}
@@ -25,22 +25,22 @@ use Rattle.divisions.proofs.Rounding.{nearest-le, nearest-size, nearest-none}
 use Rattle.sweeps.proofs.Best.{no-weight}
 use Rattle.sweeps.proofs.Sums.{pull-size}
 
-module _ (other : List ℕ) (rise : List ℤ) (weight : List ℕ) (b e : ℕ) (ends : Ends other rise weight b e) where
-  pub weights-size : (j k : ℕ) → weights (seen other rise weight j k) ≤ k * mostWeight
+module _ (cols : Columns) (b e : ℕ) (ends : Ends cols b e) where
+  pub weights-size : (j k : ℕ) → weights (seen cols j k) ≤ k * mostWeight
   unfolding weights seen
   weights-size j zero = omega arith
   weights-size j (suc k) =
       let h = weights-size (suc j) k in
-      let w = ends .weightIn j in
+      let w = ends .range .weightIn j in
       omega arith
 
-module _ (first other : List ℕ) (rise : List ℤ) (weight total : List ℕ) (hs : List ℤ) (b v : ℕ)
-    (table : Table first other rise weight total b) (working : Working hs b) (l : v < b) where
+module _ {first : List ℕ} {cols : Columns} {total : List ℕ} {hs : List ℤ} {b v : ℕ}
+    (table : Table first cols total b) (working : Working hs b) (l : v < b) where
   -- the mark's lines
   abbrev pub linesHere : List Sight
-  linesHere = seen other rise weight (getD first v 0) (getD first (v + 1) 0 - getD first v 0)
+  linesHere = seen cols (getD first v 0) (getD first (v + 1) 0 - getD first v 0)
 
-  pub rows-at : rows first other rise weight (suc v) ≡ linesHere
+  pub rows-at : rows first cols (suc v) ≡ linesHere
   unfolding rows
   rows-at = rw (place v, ← add-one v)
 
@@ -51,7 +51,7 @@ module _ (first other : List ℕ) (rise : List ℤ) (weight total : List ℕ) (h
   pub pull-fits : natAbs pullHere < 2 ^ 62 + 2 ^ 61
   pull-fits =
       let h =
-      pull-size other rise weight hs (getD hs v (pos 0)) b (getD first (v + 1) 0) (table .ends v l) working (working .inside v)
+      pull-size cols hs (getD hs v (pos 0)) b (getD first (v + 1) 0) (table .ends v l) working (working .inside v)
       (getD first v 0) (getD first (v + 1) 0 - getD first v 0) in
       let s = table .span v l .few in
       omega arith
@@ -62,7 +62,7 @@ module _ (first other : List ℕ) (rise : List ℤ) (weight total : List ℕ) (h
   pub total-fits : getD total v 0 < 2 ^ 62
   total-fits =
       let h =
-      weights-size other rise weight b (getD first (v + 1) 0) (table .ends v l) (getD first v 0)
+      weights-size cols b (getD first (v + 1) 0) (table .ends v l) (getD first v 0)
       (getD first (v + 1) 0 - getD first v 0) in
       let s = table .span v l .few in
       let e = total-is in
@@ -72,7 +72,7 @@ module _ (first other : List ℕ) (rise : List ℤ) (weight total : List ℕ) (h
   total-zero e = ap natAbs (no-weight hs (getD hs v (pos 0)) linesHere (sym total-is ∙ e))
 
   -- the move
-  pub move-is : nearest pullHere (getD total v 0) ≡ moveOf (rows first other rise weight (suc v)) hs (suc v)
+  pub move-is : nearest pullHere (getD total v 0) ≡ moveOf (rows first cols (suc v)) hs (suc v)
   unfolding moveOf
   move-is = rw (rows-at, total-is, place v)
 

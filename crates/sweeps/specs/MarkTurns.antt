@@ -5,6 +5,7 @@ use mathlib.Core.Bool.{Bool, true, false}
 use mathlib.Core.List.{List}
 use lib.ListN.{getD}
 use lib.IntN.{ℤ, pos, _+ℤ_, _-ℤ_, _*ℤ_}
+use Rattle.sights.specs.Table.{Columns}
 use Rattle.sweeps.specs.Sweeps.{Swept, still, moved, Settled, settled, unsettled}
 use Rattle.sweeps.specs.declared.Turn.{Turn}
 use Rattle.sweeps.specs.declared.Turn.the-variants as turn
@@ -12,8 +13,8 @@ use Rattle.sweeps.specs.declared.End.{End}
 use Rattle.sweeps.specs.declared.End.the-variants as end
 
 -- what the line at place j adds to the g of a mark that stands at z
-unfoldable pub termAt : List ℕ → List ℤ → List ℕ → List ℤ → ℤ → ℕ → ℤ
-termAt other rise weight hs z j = pos (getD weight j 0) *ℤ (getD hs (getD other j 0) (pos 0) +ℤ getD rise j (pos 0) -ℤ z)
+unfoldable pub termAt : Columns → List ℤ → ℤ → ℕ → ℤ
+termAt cols hs z j = pos (getD (cols .weight) j 0) *ℤ (getD hs (getD (cols .other) j 0) (pos 0) +ℤ getD (cols .rise) j (pos 0) -ℤ z)
 
 -- the marks that are held
 abbrev pub flags : List Bool → ℕ → Bool

@@ -9,7 +9,7 @@ ghost use Rattle.book.specs.Limits.{mostHeight, mostMarks};
 ghost use Rattle.chains.specs.Chains.{InOrder};
 ghost use Rattle.fields.specs.Heights.{Working};
 ghost use Rattle.sights.specs.Sights.{sightsOf, pull};
-ghost use Rattle.sights.specs.Table.{seen, rows, Ends, Span, Table};
+ghost use Rattle.sights.specs.Table.{columns, seen, rows, Ends, Span, Table};
 ghost use Rattle.sweeps.specs.MarkTurns.{termAt, flags, swept, endedAt, joinedTurn, movedTurn, outsideTurn};
 ghost use Rattle.sweeps.specs.Sweeps.{moveOf, visited, visit, sweep, settle};
 use book::Book;
@@ -48,10 +48,10 @@ fn term(
     z: i64,
     j: usize,
 ) -> i64
-    requires { ⌜ Ends (now other) (now rise) (now weight) b (j + 1) ⌝
+    requires { ⌜ Ends (columns (now other) (now rise) (now weight)) b (j + 1) ⌝
         ∗ ⌜ Working (now h) b ⌝
         ∗ ⌜ natAbs z ≤ mostHeight ⌝ }
-    ensures { λ r. ⌜ r ≡ termAt (now (other .entry)) (now (rise .entry)) (now (weight .entry)) (now (h .entry)) z j ⌝ }
+    ensures { λ r. ⌜ r ≡ termAt (columns (now (other .entry)) (now (rise .entry)) (now (weight .entry))) (now (h .entry)) z j ⌝ }
 {
     let given = signed::add(h[other[j]], rise[j]);
     signed::mul(signed::signed_count(weight[j]), signed::sub(given, z))
@@ -68,11 +68,12 @@ fn pull_of(
     a: usize,
     e: usize,
 ) -> i64
-    requires { ⌜ Ends (now other) (now rise) (now weight) b e ⌝
+    requires { ⌜ Ends (columns (now other) (now rise) (now weight)) b e ⌝
         ∗ ⌜ Working (now h) b ⌝
         ∗ ⌜ natAbs z ≤ mostHeight ⌝
         ∗ ⌜ Span a e ⌝ }
-    ensures { λ r. ⌜ r ≡ pull (now (h .entry)) z (seen (now (other .entry)) (now (rise .entry)) (now (weight .entry)) a (e - a)) ⌝ }
+    ensures { λ r. ⌜ r ≡ pull (now (h .entry)) z
+        (seen (columns (now (other .entry)) (now (rise .entry)) (now (weight .entry))) a (e - a)) ⌝ }
 {
     let mut g = 0i64;
     let mut j = a;
@@ -94,10 +95,11 @@ fn move_of(
     b: usize,
     v: usize,
 ) -> i64
-    requires { ⌜ Table (now first) (now other) (now rise) (now weight) (now total) b ⌝
+    requires { ⌜ Table (now first) (columns (now other) (now rise) (now weight)) (now total) b ⌝
         ∗ ⌜ Working (now h) b ⌝
         ∗ ⌜ v < b ⌝ }
-    ensures { λ r. ⌜ (r ≡ moveOf (rows (now (first .entry)) (now (other .entry)) (now (rise .entry)) (now (weight .entry)) (suc v))
+    ensures { λ r. ⌜ (r ≡ moveOf
+        (rows (now (first .entry)) (columns (now (other .entry)) (now (rise .entry)) (now (weight .entry))) (suc v))
         (now (h .entry)) (suc v)) × (natAbs r < 2 ^ 62 + 2 ^ 61) ⌝ }
 {
     let g = pull_of(other, rise, weight, h, b, h[v], first[v], first[v + 1]);
@@ -115,11 +117,12 @@ fn visit(
     b: usize,
     v: usize,
 ) -> Turn
-    requires { ⌜ Table (now first) (now other) (now rise) (now weight) (now total) b ⌝
+    requires { ⌜ Table (now first) (columns (now other) (now rise) (now weight)) (now total) b ⌝
         ∗ ⌜ Working (now h) b ⌝
         ∗ ⌜ v < b ⌝ }
-    ensures { λ r. ⌜ (swept r (now (h .exit)) ≡ visited (rows (now (first .entry)) (now (other .entry)) (now (rise .entry))
-        (now (weight .entry)) (suc v)) (now (h .entry)) (suc v)) × Working (now (h .exit)) b ⌝ }
+    ensures { λ r. ⌜ (swept r (now (h .exit)) ≡ visited
+        (rows (now (first .entry)) (columns (now (other .entry)) (now (rise .entry)) (now (weight .entry))) (suc v))
+        (now (h .entry)) (suc v)) × Working (now (h .exit)) b ⌝ }
 {
     let d = move_of(first, other, rise, weight, total, h, b, v);
     let made = Height::in_work(signed::add(h[v], d));
@@ -179,12 +182,12 @@ fn take_turn(
     v: usize,
     s: Turn,
 ) -> Turn
-    requires { ⌜ Table (now first) (now other) (now rise) (now weight) (now total) b ⌝
+    requires { ⌜ Table (now first) (columns (now other) (now rise) (now weight)) (now total) b ⌝
         ∗ ⌜ Working (now h) b ⌝
         ∗ ⌜ v < b ⌝
         ∗ ⌜ b ≤ length (now held) ⌝ }
     ensures { λ r. ⌜ (swept r (now (h .exit)) ≡ visit (flags (now (held .entry)) (suc v))
-        (rows (now (first .entry)) (now (other .entry)) (now (rise .entry)) (now (weight .entry)) (suc v)) (suc v)
+        (rows (now (first .entry)) (columns (now (other .entry)) (now (rise .entry)) (now (weight .entry))) (suc v)) (suc v)
         (swept s (now (h .entry)))) × Working (now (h .exit)) b ⌝ }
 {
     if held[v] {
@@ -207,11 +210,12 @@ fn sweep(
     h: &mut [i64],
     b: usize,
 ) -> Turn
-    requires { ⌜ Table (now first) (now other) (now rise) (now weight) (now total) b ⌝
+    requires { ⌜ Table (now first) (columns (now other) (now rise) (now weight)) (now total) b ⌝
         ∗ ⌜ Working (now h) b ⌝
         ∗ ⌜ b ≤ length (now held) ⌝ }
-    ensures { λ r. ⌜ (swept r (now (h .exit)) ≡ sweep (rows (now (first .entry)) (now (other .entry)) (now (rise .entry))
-        (now (weight .entry))) (flags (now (held .entry))) (now (h .entry)) b) × Working (now (h .exit)) b ⌝ }
+    ensures { λ r. ⌜ (swept r (now (h .exit)) ≡ sweep
+        (rows (now (first .entry)) (columns (now (other .entry)) (now (rise .entry)) (now (weight .entry))))
+        (flags (now (held .entry))) (now (h .entry)) b) × Working (now (h .exit)) b ⌝ }
 {
     let mut s = Turn::Still;
     let mut left = b;
@@ -233,11 +237,12 @@ fn settle(
     h: &mut [i64],
     b: usize,
 ) -> End
-    requires { ⌜ Table (now first) (now other) (now rise) (now weight) (now total) b ⌝
+    requires { ⌜ Table (now first) (columns (now other) (now rise) (now weight)) (now total) b ⌝
         ∗ ⌜ Working (now h) b ⌝
         ∗ ⌜ b ≤ length (now held) ⌝ }
-    ensures { λ r. ⌜ endedAt r (now (h .exit)) ≡ settle (rows (now (first .entry)) (now (other .entry)) (now (rise .entry))
-        (now (weight .entry))) (flags (now (held .entry))) b (now (h .entry)) ⌝ }
+    ensures { λ r. ⌜ endedAt r (now (h .exit)) ≡ settle
+        (rows (now (first .entry)) (columns (now (other .entry)) (now (rise .entry)) (now (weight .entry))))
+        (flags (now (held .entry))) b (now (h .entry)) ⌝ }
 {
     let mut n = 0;
     while n < MAX_SWEEPS {

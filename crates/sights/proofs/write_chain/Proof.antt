@@ -5,6 +5,7 @@ use borrow.Author.Needs.{needs}
 use lib.ListN.{length}
 use Rattle.network.specs.Standing.{standing}
 use Rattle.sights.specs.Sights.{sightsOf}
+use Rattle.sights.specs.Table.{columns}
 use Rattle.sights.proofs.Halves.{other-low}
 use Rattle.sights.proofs.Leading.{leads-all, half-here}
 use Rattle.sights.proofs.Filling.{Walking, Turn, turn-of, walk-end, filling-start, filling-next}
@@ -14,7 +15,7 @@ use Rattle.sights.proofs.write_chain.Tie as tie
 abbrev Inv-loop : tie.InvT-loop
 Inv-loop lines head next other₀ rise₀ weight₀ b n m a c₀ h₀ other rise weight c h =
     (length other ≡ length other₀) × (length rise ≡ length rise₀) × (length weight ≡ length weight₀)
-    × Walking lines n next other₀ rise₀ weight₀ other rise weight b a c h (sightsOf (standing lines) m)
+    × Walking lines n next (columns other₀ rise₀ weight₀) (columns other rise weight) b a c h (sightsOf (standing lines) m)
 
 abbrev μ-loop : tie.MeasureT-loop
 μ-loop lines head next other₀ rise₀ weight₀ b n m a c₀ h₀ other rise weight c h = a + length (sightsOf (standing lines) m) - c
@@ -26,9 +27,9 @@ start-of c = search
 turn : (c : tie.In-loop Inv-loop μ-loop) →
     (let l = c .before in
     let s = start-of l in
-    Turn (s .args .lines .now) (s .args .n) (s .args .next .now) (s .args .other .now) (s .args .rise .now) (s .args .weight .now)
-    (l .loop .other) (l .loop .rise)
-    (l .loop .weight) (s .args .b) (s .args .a) (l .loop .c) (l .loop .h) (sightsOf (standing (s .args .lines .now)) (s .args .m)))
+    Turn (s .args .lines .now) (s .args .n) (s .args .next .now)
+    (columns (s .args .other .now) (s .args .rise .now) (s .args .weight .now)) (columns (l .loop .other) (l .loop .rise) (l .loop .weight))
+    (s .args .b) (s .args .a) (l .loop .c) (l .loop .h) (sightsOf (standing (s .args .lines .now)) (s .args .m)))
 turn c = turn-of (c .before .loop .inv .3) (c .loop-test .taken)
 
 shared-slice-read-h : tie.Need-shared-slice-read-h Inv-loop μ-loop
@@ -46,7 +47,7 @@ loop-holds c =
       record {
         rest = _;
         leads = leads-all _ _ _ (s .pre .0) _ (s .pre .1 .0) (p .0);
-        filling = filling-start _ _ _ _ _ _ (p .1 .0) (p .1 .1);
+        filling = filling-start _ _ _ _ (p .1 .0) (p .1 .1);
       },
     )
 
@@ -91,7 +92,7 @@ loop-again c =
       record {
         rest = t .rest;
         leads = t .leads;
-        filling = filling-next _ _ _ _ _ _ _ _ _ _ _ _ _ _ _
+        filling = filling-next _ _ _ _ _ _ _ _ _
             (other-low _ _ (half-here _ _ _ (s .pre .0) (s .args .m) (t .some-line) (t .inside))) (w .ensures .0) (w .ensures .1)
             (t .filling);
       },

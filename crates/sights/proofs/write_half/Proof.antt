@@ -22,8 +22,7 @@ returns c =
         rises = ap (λ (x : ℤ). set (s .args .rise .now) (s .args .c) x) (e ∙ r .ensures .0);
         weighed = ap (λ (x : ℕ). set (s .args .weight .now) (s .args .c) x) (w .ensures .0);
       },
-      range-set (s .args .other .now) (s .args .rise .now) (s .args .weight .now) (s .args .b) (s .args .c) (o .result) (w .result)
-          (toZ w64 (ofZ w64 (r .result))) (s .pre .1 .1) (o .ensures .1) (rw e (r .ensures .1)) (w .ensures .1),
+      range-set _ _ _ _ _ _ (s .pre .1 .1) (o .ensures .1) (rw e (r .ensures .1)) (w .ensures .1),
     )
 
 pub write-half-spec : {M : Type 1} → statement M

@@ -21,7 +21,7 @@ write-chain-requires : tie.Need-write-chain-requires
 write-chain-requires c κs =
     let s : tie.Start = search in
     let p = s .pre .1 .1 in
-    (s .pre .0, (s .pre .1 .0, (omega (arith, p .1 .1), (p .0 .range, row-room _ _ _ _ _ _ _ _ _ (p .1 .0) (p .0) (p .1 .1) _ (here s)))))
+    (s .pre .0, (s .pre .1 .0, (omega (arith, p .1 .1), (p .0 .range, row-room _ _ _ _ _ _ _ (p .1 .0) (p .0) (p .1 .1) _ (here s)))))
 
 total-of-requires : tie.Need-total-of-requires
 total-of-requires c κs =
@@ -29,7 +29,7 @@ total-of-requires c κs =
     let s : tie.Start = search in
     let w = after-write-chain .write-chain in
     let p = s .pre .1 .1 in
-    row-weights _ _ _ _ _ _ _ _ _ (p .1 .0) (p .0) (p .1 .1) _ (here s) _ _ (w .ensures .0) (w .kept .1 .1 .1 .1 .1 .0)
+    row-weights _ _ _ _ _ _ _ (p .1 .0) (p .0) (p .1 .1) _ (here s) _ _ (w .ensures .0) (w .kept .1 .1 .1 .1 .1 .0)
     (w .ensures .1 .range .weightIn)
 
 returns : tie.Need-returns
@@ -39,11 +39,9 @@ returns c =
     let w = after-write-chain .write-chain in
     let p = s .pre .1 .1 in
     let e = here s in
-    rowed-next (sightsOf (standing (s .args .lines .now))) _ _ _ _ _ _ _ _ _ _ _ _ _ _ _ (omega (arith, p .1 .0 .firsts))
+    rowed-next (sightsOf (standing (s .args .lines .now))) _ _ _ _ _ _ _ _ _ _ _ (omega (arith, p .1 .0 .firsts))
     (omega (arith, p .1 .0 .totals)) (p .0) refl
-    (subst (λ (ss : List Sight). Filled (s .args .other .now) (s .args .rise .now) (s .args .weight .now) (w .last .1 .1 .1 .0)
-    (w .last .1 .1 .1 .1 .0)
-    (w .last .1 .1 .1 .1 .1 .0) (s .args .b) (s .args .c) ss) e (w .ensures .1))
+    (subst (Filled _ _ _ _) e (w .ensures .1))
     (w .ensures .0 ∙ ap (λ (ss : List Sight). s .args .c + length ss) e) refl (c .total-of .ensures)
 
 pub write-row-spec : {M : Type 1} → statement M

@@ -2,7 +2,7 @@ use mathlib.Core.Path.{_≡_, refl, _∙_, subst}
 use Prim.Native.Nat.{ℕ, _-_, _≤_, _<_}
 use native.Mathlib.Omega.{arith}
 use Rattle.sights.specs.Sights.{sightsOf}
-use Rattle.sights.specs.Table.{Rowed}
+use Rattle.sights.specs.Table.{columns, Rowed}
 use Rattle.sights.proofs.Rowing.{rowed-none, broad-kept, table-is, rows-are}
 use borrow.Author.Needs.{needs}
 use lib.ListN.{length, set, length-set}
@@ -14,7 +14,7 @@ abbrev Inv-loop : tie.InvT-loop
 Inv-loop lines head next first₀ other₀ rise₀ weight₀ total₀ b n c₀ v₀ first other rise weight total c v =
     (v ≤ b) × (length first ≡ length first₀) × (length other ≡ length other₀) × (length rise ≡ length rise₀)
     × (length weight ≡ length weight₀) × (length total ≡ length total₀)
-    × Rowed (sightsOf (standing lines)) first other rise weight total b v c
+    × Rowed (sightsOf (standing lines)) first (columns other rise weight) total b v c
 
 abbrev μ-loop : tie.MeasureT-loop
 μ-loop lines head next first₀ other₀ rise₀ weight₀ total₀ b n c₀ v₀ first other rise weight total c v = b - v
@@ -28,8 +28,7 @@ loop-holds c =
       refl,
       refl,
       refl,
-      rowed-none (sightsOf (standing (s .args .lines .now))) (s .args .first .now)
-          (s .args .other .now) (s .args .rise .now) (s .args .weight .now) (s .args .total .now) (s .args .b) (s .pre .1 .1 .0),
+      rowed-none _ _ _ _ _ (s .pre .1 .1 .0),
     )
 
 write-row-requires : tie.Need-write-row-requires Inv-loop μ-loop
@@ -44,10 +43,7 @@ write-row-requires c κs =
         (
           l .inv .6,
           (
-            broad-kept (sightsOf (standing (s .args .lines .now))) (s .args .first .now)
-                (s .args .other .now) (s .args .rise .now) (s .args .weight .now) (s .args .total .now) (l .first) (l .other) (l .rise)
-                (l .weight)
-                (l .total) (s .args .b) (s .pre .1 .1 .1) (l .inv .1) (l .inv .2) (l .inv .3) (l .inv .4) (l .inv .5),
+            broad-kept _ _ _ _ _ _ _ _ (s .pre .1 .1 .1) (l .inv .1) (l .inv .2) (l .inv .3) (l .inv .4) (l .inv .5),
             in-loop .loop-test .taken,
           ),
         ),
@@ -97,17 +93,14 @@ returns c =
     let e : l .v ≡ s .args .b = omega (arith, c .loop-test .left) in
     let f = set (l .first) (s .args .b) (l .c) in
     let h =
-    subst (λ (v : ℕ). Rowed (sightsOf (standing (s .args .lines .now))) (l .first) (l .other) (l .rise) (l .weight) (l .total)
+    subst (λ (v : ℕ). Rowed (sightsOf (standing (s .args .lines .now))) (l .first) (columns (l .other) (l .rise) (l .weight)) (l .total)
     (s .args .b) v (l .c)) e (l .inv .6) in
     let r =
-    broad-kept (sightsOf (standing (s .args .lines .now))) (s .args .first .now) (s .args .other .now) (s .args .rise .now)
-    (s .args .weight .now) (s .args .total .now) f (l .other) (l .rise) (l .weight) (l .total) (s .args .b) (s .pre .1 .1 .1)
+    broad-kept _ _ _ _ f (columns (l .other) (l .rise) (l .weight)) (l .total) _ (s .pre .1 .1 .1)
     (simp length-set (l .inv .1)) (l .inv .2) (l .inv .3) (l .inv .4) (l .inv .5) in
     let k : s .args .b < length (l .first) = omega (arith, s .pre .1 .1 .1 .firsts, l .inv .1) in (
-      table-is (sightsOf (standing (s .args .lines .now))) (l .first) (l .other) (l .rise) (l .weight) (l .total) f (s .args .b) (l .c) r
-          h k refl,
-      rows-are (sightsOf (standing (s .args .lines .now))) (l .first) (l .other) (l .rise) (l .weight) (l .total) f (s .args .b) (l .c) r
-          h k refl,
+      table-is _ _ _ _ _ _ _ r h k refl,
+      rows-are _ _ _ _ _ _ _ r h k refl,
     )
 
 pub write-rows-spec : {M : Type 1} → statement M

@@ -19,16 +19,14 @@ height-read s = read (getD (s .args .h .now) (s .args .v) (pos 0)) mostHeight (s
 
 pull-read : (c : tie.After-pull-of)
     → (let s : tie.Start = search in toZ w64 (ofZ w64 (c .pull-of .result))
-    ≡ pullHere (s .args .first .now) (s .args .other .now) (s .args .rise .now) (s .args .weight .now) (s .args .total .now)
-    (s .args .h .now) (s .args .b) (s .args .v) (s .pre .0) (s .pre .1 .0) (s .pre .1 .1))
+    ≡ pullHere (s .pre .0) (s .pre .1 .0) (s .pre .1 .1))
 pull-read c =
     let entry : tie.Start = search in
     stored (c .pull-of .result) (c .pull-of .ok) (c .pull-of .ensures ∙ rw (height-read entry))
 
 move-read : (c : tie.After-move-by)
     → (let s : tie.Start = search in toZ w64 (ofZ w64 (c .move-by .result))
-    ≡ nearest (pullHere (s .args .first .now) (s .args .other .now) (s .args .rise .now) (s .args .weight .now) (s .args .total .now)
-    (s .args .h .now) (s .args .b) (s .args .v) (s .pre .0) (s .pre .1 .0) (s .pre .1 .1)) (getD (s .args .total .now) (s .args .v) 0))
+    ≡ nearest (pullHere (s .pre .0) (s .pre .1 .0) (s .pre .1 .1)) (getD (s .args .total .now) (s .args .v) 0))
 move-read c = stored (c .move-by .result) (c .move-by .ok) (c .move-by .ensures ∙ rw (pull-read (c .before .before)))
 
 pull-of-requires : tie.Need-pull-of-requires
@@ -45,16 +43,10 @@ move-by-requires : tie.Need-move-by-requires
 move-by-requires c κs =
     let s : tie.Start = search in
     rw (pull-read (c .before)) (
-      total-zero (s .args .first .now) (s .args .other .now) (s .args .rise .now) (s .args .weight .now)
-          (s .args .total .now) (s .args .h .now) (s .args .b) (s .args .v) (s .pre .0) (s .pre .1 .0) (s .pre .1 .1),
+      total-zero (s .pre .0) (s .pre .1 .0) (s .pre .1 .1),
       (
-        total-fits (s .args .first .now) (s .args .other .now) (s .args .rise .now) (s .args .weight .now) (s .args .total .now)
-            (s .args .h .now) (s .args .b) (s .args .v) (s .pre .0) (s .pre .1 .0) (s .pre .1 .1),
-        omega (
-          arith,
-          pull-fits (s .args .first .now) (s .args .other .now) (s .args .rise .now) (s .args .weight .now) (s .args .total .now)
-              (s .args .h .now) (s .args .b) (s .args .v) (s .pre .0) (s .pre .1 .0) (s .pre .1 .1),
-        ),
+        total-fits (s .pre .0) (s .pre .1 .0) (s .pre .1 .1),
+        omega (arith, pull-fits (s .pre .0) (s .pre .1 .0) (s .pre .1 .1)),
       ),
     )
 
@@ -62,11 +54,8 @@ returns : tie.Need-returns
 returns c =
     let s : tie.Start = search in
     let e = move-read c in (
-      e ∙ move-is (s .args .first .now) (s .args .other .now) (s .args .rise .now) (s .args .weight .now) (s .args .total .now)
-          (s .args .h .now) (s .args .b) (s .args .v) (s .pre .0) (s .pre .1 .0) (s .pre .1 .1),
-      rw e
-          (move-fits (s .args .first .now) (s .args .other .now) (s .args .rise .now) (s .args .weight .now) (s .args .total .now)
-          (s .args .h .now) (s .args .b) (s .args .v) (s .pre .0) (s .pre .1 .0) (s .pre .1 .1)),
+      e ∙ move-is (s .pre .0) (s .pre .1 .0) (s .pre .1 .1),
+      rw e (move-fits (s .pre .0) (s .pre .1 .0) (s .pre .1 .1)),
     )
 
 pub move-of-spec : {M : Type 1} → statement M

@@ -2,7 +2,7 @@ use mathlib.Core.Path.{_≡_, refl, _∙_}
 use Prim.Native.Nat.{_-_, _*_, _≤_}
 use native.Mathlib.Omega.{arith}
 use Rattle.sights.specs.Sights.{pull}
-use Rattle.sights.specs.Table.{seen}
+use Rattle.sights.specs.Table.{columns, seen}
 use Rattle.sweeps.specs.MarkTurns.{termAt}
 use Rattle.sweeps.proofs.Sums.{mostTerm, shorter, pull-turn, pull-end, term-size}
 use borrow.Author.Needs.{needs}
@@ -17,8 +17,9 @@ use Rattle.sweeps.proofs.pull_of.Tie as tie
 
 abbrev Inv-loop : tie.InvT-loop
 Inv-loop other rise weight h b z a e g₀ j₀ g j =
+    let cols = columns other rise weight in
     (a ≤ j) × (j ≤ e) × (natAbs (toZ w64 g) ≤ (j - a) * mostTerm)
-    × (toZ w64 g +ℤ pull h (toZ w64 z) (seen other rise weight j (e - j)) ≡ pull h (toZ w64 z) (seen other rise weight a (e - a)))
+    × (toZ w64 g +ℤ pull h (toZ w64 z) (seen cols j (e - j)) ≡ pull h (toZ w64 z) (seen cols a (e - a)))
 
 abbrev μ-loop : tie.MeasureT-loop
 μ-loop other rise weight h b z a e g₀ j₀ g j = e - j
@@ -30,13 +31,13 @@ start-of c = c .before .before .before
 abbrev term-of : tie.After-term Inv-loop μ-loop → ℤ
 term-of c =
     let s = start-of (c .before .before) in
-    termAt (s .args .other .now) (s .args .rise .now) (s .args .weight .now) (s .args .h .now) (toZ w64 (ofZ w64 (s .args .z)))
+    termAt (columns (s .args .other .now) (s .args .rise .now) (s .args .weight .now)) (s .args .h .now) (toZ w64 (ofZ w64 (s .args .z)))
     (c .before .before .loop .j)
 
 size : (c : tie.After-term Inv-loop μ-loop) → natAbs (term-of c) ≤ mostTerm
 size c =
     let s = start-of (c .before .before) in
-    term-size (s .args .other .now) (s .args .rise .now) (s .args .weight .now) (s .args .h .now) (toZ w64 (ofZ w64 (s .args .z)))
+    term-size (columns (s .args .other .now) (s .args .rise .now) (s .args .weight .now)) (s .args .h .now) (toZ w64 (ofZ w64 (s .args .z)))
     (s .args .b) (s .args .e) (s .pre .0) (s .pre .1 .0)
     (rw (toZ-ofZ (s .fits .z)) (s .pre .1 .1 .0)) (c .before .before .loop .j)
 
@@ -54,7 +55,7 @@ loop-holds c =
       omega arith,
       omega arith,
       +ℤ-idl (pull (s .args .h .now) (toZ w64 (ofZ w64 (s .args .z)))
-          (seen (s .args .other .now) (s .args .rise .now) (s .args .weight .now) (s .args .a) (s .args .e - s .args .a))),
+          (seen (columns (s .args .other .now) (s .args .rise .now) (s .args .weight .now)) (s .args .a) (s .args .e - s .args .a))),
     )
 
 term-requires : tie.Need-term-requires Inv-loop μ-loop
@@ -76,7 +77,7 @@ loop-again c =
       search needs,
       search needs,
       rw (sum-read c) (omega arith),
-      rw (sum-read c) (pull-turn (s .args .other .now) (s .args .rise .now) (s .args .weight .now) (s .args .h .now)
+      rw (sum-read c) (pull-turn (columns (s .args .other .now) (s .args .rise .now) (s .args .weight .now)) (s .args .h .now)
           (toZ w64 (ofZ w64 (s .args .z))) (s .args .a) (s .args .e) (l .loop .j) (toZ w64 (l .loop .g)) (term-of (c .before))
           (c .before .before .loop-test .taken) refl (i .3)),
     )
@@ -85,10 +86,10 @@ returns : tie.Need-returns Inv-loop μ-loop
 returns c =
     let l = c .before in
     let s = start-of l in
-    pull-end (s .args .other .now) (s .args .rise .now) (s .args .weight .now) (s .args .h .now) (toZ w64 (ofZ w64 (s .args .z)))
+    pull-end (columns (s .args .other .now) (s .args .rise .now) (s .args .weight .now)) (s .args .h .now) (toZ w64 (ofZ w64 (s .args .z)))
     (s .args .e) (l .loop .j) (toZ w64 (l .loop .g))
     (pull (s .args .h .now) (toZ w64 (ofZ w64 (s .args .z)))
-    (seen (s .args .other .now) (s .args .rise .now) (s .args .weight .now) (s .args .a) (s .args .e - s .args .a)))
+    (seen (columns (s .args .other .now) (s .args .rise .now) (s .args .weight .now)) (s .args .a) (s .args .e - s .args .a)))
     (c .loop-test .left) (l .loop .inv .3)
     ∙ rw (toZ-ofZ (s .fits .z))
 

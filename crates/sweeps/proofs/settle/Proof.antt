@@ -1,7 +1,7 @@
 use mathlib.Core.Path.{sym, _∙_, ap}
 use Prim.Native.Nat.{_-_}
 use Rattle.fields.specs.Heights.{Working}
-use Rattle.sights.specs.Table.{rows}
+use Rattle.sights.specs.Table.{columns, rows}
 use Rattle.sweeps.specs.Sweeps.{maxSweeps, settle}
 use Rattle.sweeps.specs.MarkTurns.{flags, swept}
 use Rattle.sweeps.proofs.States.{Left, left-start, left-still, left-moved, left-outside, left-none}
@@ -12,7 +12,8 @@ use Rattle.sweeps.proofs.settle.Tie as tie
 
 abbrev Inv-loop : tie.InvT-loop
 Inv-loop first other rise weight total held h₀ b n₀ h n =
-    Working h b × Left (rows first other rise weight) (flags held) b n h (settle (rows first other rise weight) (flags held) b h₀)
+    let sights = rows first (columns other rise weight) in
+    Working h b × Left sights (flags held) b n h (settle sights (flags held) b h₀)
 
 abbrev μ-loop : tie.MeasureT-loop
 μ-loop first other rise weight total held h₀ b n₀ h n = maxSweeps - n
@@ -21,8 +22,7 @@ loop-holds : tie.Need-loop-holds Inv-loop μ-loop
 loop-holds c =
     let s : tie.Start Inv-loop μ-loop = search in (
       s .pre .1 .0,
-      left-start (rows (s .args .first .now) (s .args .other .now) (s .args .rise .now) (s .args .weight .now))
-          (flags (s .args .held .now)) (s .args .b) (s .args .h .now),
+      left-start _ _ _ _,
     )
 
 sweep-requires : tie.Need-sweep-requires Inv-loop μ-loop
@@ -43,11 +43,7 @@ returns c =
     let l = at-loop .loop in
     let w = c .before .before .before .sweep in
     let gs = w .last .1 .1 .1 .1 .1 .1 .0 in
-    left-still (rows (s .args .first .now) (s .args .other .now) (s .args .rise .now) (s .args .weight .now))
-    (flags (s .args .held .now)) (s .args .b) (l .n) (l .h)
-    (settle (rows (s .args .first .now) (s .args .other .now) (s .args .rise .now) (s .args .weight .now))
-    (flags (s .args .held .now))
-    (s .args .b) (s .args .h .now)) (in-loop .loop-test .taken) (l .inv .1) gs
+    left-still _ _ _ _ _ _ (in-loop .loop-test .taken) (l .inv .1) gs
     (ap (λ (t : Turn). swept t gs) (sym (c .enum-told .given .1)) ∙ w .ensures .0)
 
 same-length-2 : tie.Need-same-length-2 Inv-loop μ-loop
@@ -65,11 +61,7 @@ returns-2 c =
     let l = at-loop .loop in
     let w = after-sweep .sweep in
     let gs = w .last .1 .1 .1 .1 .1 .1 .0 in
-    left-outside (rows (s .args .first .now) (s .args .other .now) (s .args .rise .now) (s .args .weight .now))
-    (flags (s .args .held .now)) (s .args .b) (l .n) (l .h)
-    (settle (rows (s .args .first .now) (s .args .other .now) (s .args .rise .now) (s .args .weight .now))
-    (flags (s .args .held .now))
-    (s .args .b) (s .args .h .now)) (in-loop .loop-test .taken) (l .inv .1) _
+    left-outside _ _ _ _ _ _ (in-loop .loop-test .taken) (l .inv .1) _
     (ap (λ (t : Turn). swept t gs) (sym (c .before .s .given .1)) ∙ w .ensures .0)
 
 loop-again : tie.Need-loop-again Inv-loop μ-loop
@@ -81,11 +73,7 @@ loop-again c =
     let w = c .before .before .before .sweep in
     let gs = w .last .1 .1 .1 .1 .1 .1 .0 in (
       w .ensures .1,
-      left-moved (rows (s .args .first .now) (s .args .other .now) (s .args .rise .now) (s .args .weight .now))
-          (flags (s .args .held .now)) (s .args .b) (l .n) (l .h)
-          (settle (rows (s .args .first .now) (s .args .other .now) (s .args .rise .now) (s .args .weight .now))
-          (flags (s .args .held .now))
-          (s .args .b) (s .args .h .now)) (in-loop .loop-test .taken) (l .inv .1) gs
+      left-moved _ _ _ _ _ _ (in-loop .loop-test .taken) (l .inv .1) gs
           (ap (λ (t : Turn). swept t gs) (sym (c .enum-told2 .given .1)) ∙ w .ensures .0),
     )
 
@@ -98,9 +86,7 @@ returns-3 : tie.Need-returns-3 Inv-loop μ-loop
 returns-3 c =
     let s : tie.Start Inv-loop μ-loop = search in
     let l = c .before .loop in
-    left-none (rows (s .args .first .now) (s .args .other .now) (s .args .rise .now) (s .args .weight .now)) (flags (s .args .held .now))
-    (s .args .b) (l .n) (l .h) (settle (rows (s .args .first .now) (s .args .other .now) (s .args .rise .now) (s .args .weight .now))
-    (flags (s .args .held .now)) (s .args .b) (s .args .h .now)) (c .loop-test .left) (l .inv .1)
+    left-none _ _ _ _ _ _ (c .loop-test .left) (l .inv .1)
 
 pub settle-spec : {M : Type 1} → statement M
 settle-spec =

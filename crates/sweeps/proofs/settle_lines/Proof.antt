@@ -31,8 +31,7 @@ returns c =
     let s : tie.Start = search in
     let t = after-write-rows .write-rows in
     let e = c .before .settle .ensures in
-    e ∙ settle-same (rows (t .last .1 .1 .1 .0) (t .last .1 .1 .1 .1 .0) (t .last .1 .1 .1 .1 .1 .0) (t .last .1 .1 .1 .1 .1 .1 .0))
-    (sightsOf (standing (s .args .lines .now))) (flags (s .args .held .now)) (s .args .b) (t .ensures .1) (s .args .h .now)
+    e ∙ settle-same _ _ _ _ (t .ensures .1) _
 
 pub settle-lines-spec : {M : Type 1} → statement M
 settle-lines-spec =

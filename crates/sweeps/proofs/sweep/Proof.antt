@@ -1,7 +1,7 @@
 use mathlib.Core.Path.{_≡_, sym, _∙_, ap}
 use Prim.Native.Nat.{_+_, _-_, _≤_}
 use Rattle.fields.specs.Heights.{Working}
-use Rattle.sights.specs.Table.{rows}
+use Rattle.sights.specs.Table.{columns, rows}
 use Rattle.sweeps.specs.Sweeps.{sweep}
 use Rattle.sweeps.specs.MarkTurns.{flags, swept}
 use Rattle.sweeps.proofs.States.{sweep-none, sweep-turn}
@@ -11,7 +11,7 @@ use Rattle.sweeps.proofs.sweep.Tie as tie
 
 abbrev Inv-loop : tie.InvT-loop
 Inv-loop first other rise weight total held h₀ b s₀ left₀ h s left =
-    (left ≤ b) × (swept s h ≡ sweep (rows first other rise weight) (flags held) h₀ (b - left)) × Working h b
+    (left ≤ b) × (swept s h ≡ sweep (rows first (columns other rise weight)) (flags held) h₀ (b - left)) × Working h b
 
 abbrev μ-loop : tie.MeasureT-loop
 μ-loop first other rise weight total held h₀ b s₀ left₀ h s left = left
@@ -19,7 +19,7 @@ abbrev μ-loop : tie.MeasureT-loop
 loop-holds : tie.Need-loop-holds Inv-loop μ-loop
 loop-holds c =
     let s : tie.Start Inv-loop μ-loop = search in
-    let f = rows (s .args .first .now) (s .args .other .now) (s .args .rise .now) (s .args .weight .now) in
+    let f = rows (s .args .first .now) (columns (s .args .other .now) (s .args .rise .now) (s .args .weight .now)) in
     let e : 0 ≡ s .args .b - s .args .b = omega arith in (
       omega arith,
       sweep-none f (flags (s .args .held .now)) (s .args .h .now)
@@ -38,7 +38,7 @@ loop-again c =
     let l : tie.At-loop Inv-loop μ-loop = search in
     let s : tie.Start Inv-loop μ-loop = search in
     let t = c .before .take-turn in
-    let f = rows (s .args .first .now) (s .args .other .now) (s .args .rise .now) (s .args .weight .now) in
+    let f = rows (s .args .first .now) (columns (s .args .other .now) (s .args .rise .now) (s .args .weight .now)) in
     let e : s .args .b - l .loop .left + 1 ≡ s .args .b - (l .loop .left - 1) =
     omega (arith, l .loop .inv .0, c .before .before .before .loop-test .taken) in (
       omega (arith, l .loop .inv .0),

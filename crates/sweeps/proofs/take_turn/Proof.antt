@@ -1,6 +1,5 @@
 use mathlib.Core.Path.{sym, _∙_}
 use Prim.Native.Nat.{suc}
-use Rattle.sights.specs.Table.{rows}
 use Rattle.sweeps.proofs.States.{turn-held, turn-outside, turn-free}
 use borrow.Author.Needs.{needs}
 use Rattle.sweeps.proofs.take_turn.Statement.{statement}
@@ -9,16 +8,15 @@ use Rattle.sweeps.proofs.take_turn.Tie as tie
 returns : tie.Need-returns
 returns c =
     let s : tie.Start = search in (
-      turn-held (s .args .held .now) (rows (s .args .first .now) (s .args .other .now) (s .args .rise .now) (s .args .weight .now)
-          (suc (s .args .v))) (s .args .h .now) (s .args .v) (s .args .s) (c .if1 .taken),
+      turn-held (s .args .held .now) _ (s .args .h .now) (s .args .v) (s .args .s) (c .if1 .taken),
       s .pre .1 .0,
     )
 
 returns-2 : tie.Need-returns-2
 returns-2 c =
     let s : tie.Start = search in (
-      turn-outside (s .args .held .now) (rows (s .args .first .now) (s .args .other .now) (s .args .rise .now) (s .args .weight .now)
-          (suc (s .args .v))) (s .args .h .now) (s .args .v) (s .args .s) (sym (c .before .is-outside .ensures) ∙ c .if2 .taken),
+      turn-outside (s .args .held .now) _ (s .args .h .now) (s .args .v) (s .args .s)
+          (sym (c .before .is-outside .ensures) ∙ c .if2 .taken),
       s .pre .1 .0,
     )
 
@@ -29,8 +27,7 @@ returns-3 c =
     let else1 : tie.Else1 = search in
     let s : tie.Start = search in
     let d = c .before .before in (
-      turn-free (s .args .held .now) (rows (s .args .first .now) (s .args .other .now) (s .args .rise .now) (s .args .weight .now)
-          (suc (s .args .v))) (s .args .h .now) (s .args .v) (s .args .s) (else1 .if1 .left)
+      turn-free (s .args .held .now) _ (s .args .h .now) (s .args .v) (s .args .s) (else1 .if1 .left)
           (sym (after-is-outside .is-outside .ensures) ∙ else2 .if2 .left) (d .visit .result) (c .joined .result)
           (d .visit .last .1 .1 .1 .1 .1 .0) (c .joined .ensures) (d .visit .ensures .0),
       d .visit .ensures .1,

@@ -34,7 +34,7 @@ height-size : (s : tie.Start) → natAbs (height-of s) ≤ mostHeight
 height-size s = s .pre .1 .0 .inside (getD (s .args .other .now) (s .args .j) 0)
 
 rise-size : (s : tie.Start) → natAbs (rise-of s) ≤ mostDifference
-rise-size s = s .pre .0 .riseIn (s .args .j)
+rise-size s = s .pre .0 .range .riseIn (s .args .j)
 
 given-size : (s : tie.Start) → natAbs (height-of s +ℤ rise-of s) ≤ 50100000000
 given-size s =
@@ -75,10 +75,10 @@ over-read c =
     (given-read (c .before .before .before), present-read (start-of (c .before .before .before))))
 
 mul-add-2 : tie.Need-mul-add-2
-mul-add-2 c = let s = c .before .before .before in omega (arith, s .pre .0 .otherIn (s .args .j))
+mul-add-2 c = let s = c .before .before .before in omega (arith, s .pre .0 .range .otherIn (s .args .j))
 
 shared-slice-copy-out-add : tie.Need-shared-slice-copy-out-add
-shared-slice-copy-out-add c = let s = c .before .before .before in omega (arith, s .pre .0 .otherIn (s .args .j))
+shared-slice-copy-out-add c = let s = c .before .before .before in omega (arith, s .pre .0 .range .otherIn (s .args .j))
 
 add-requires : tie.Need-add-requires
 add-requires c κs =
@@ -88,7 +88,7 @@ add-requires c κs =
 signed-count-requires : tie.Need-signed-count-requires
 signed-count-requires c κs =
     let s : tie.Start = search in
-    omega (arith, s .pre .0 .weightIn (s .args .j))
+    omega (arith, s .pre .0 .range .weightIn (s .args .j))
 
 sub-requires : tie.Need-sub-requires
 sub-requires c κs =
@@ -99,7 +99,7 @@ mul-requires : tie.Need-mul-requires
 mul-requires c κs =
     let s = start-of (c .before .before .before) in
     let h = rise-over-size s in
-    let w = s .pre .0 .weightIn (s .args .j) in
+    let w = s .pre .0 .range .weightIn (s .args .j) in
     let k : weight-of s * natAbs (rise-over s) ≤ mostWeight * mostApart = mul-le-mul w h in
     rw (count-read (c .before), over-read c) (omega arith)
 

@@ -12,7 +12,6 @@ use Rattle.book.specs.Limits.{mostHeight}
 use Rattle.book.specs.Height.{workHeightOut, workHeightOf}
 use Rattle.book.specs.declared.height.Height.{Height}
 use Rattle.book.proofs.Made.{work-height-made, no-work-height}
-use Rattle.sights.specs.Table.{rows}
 use Rattle.fields.proofs.Readback.{read}
 use Rattle.sweeps.proofs.MarkTurns.{working-set, visit-outside, visit-still, visit-moved}
 use borrow.Author.Needs.{needs}
@@ -71,8 +70,7 @@ returns c =
     let a : tie.After-add = search in
     let s = start-of a in
     let out = no-work-height _ _ (made (c .before .before)) _ (c .enum-told .given .1) in (
-      visit-outside (rows (s .args .first .now) (s .args .other .now) (s .args .rise .now) (s .args .weight .now) (suc (s .args .v)))
-          (s .args .h .now) (s .args .v) (a .before .before .move-of .result) (toZ w64 (ofZ w64 (a .add .result)))
+      visit-outside _ (s .args .h .now) (s .args .v) (a .before .before .move-of .result) (toZ w64 (ofZ w64 (a .add .result)))
           (a .before .before .move-of .ensures .0) (sum-read a) out,
       s .pre .1 .0,
     )
@@ -82,10 +80,9 @@ returns-2 c =
     let told : tie.After-struct-told = search in
     let a : tie.After-add = search in
     let s = start-of a in (
-      visit-still (rows (s .args .first .now) (s .args .other .now) (s .args .rise .now) (s .args .weight .now) (suc (s .args .v)))
-          (s .args .h .now) (s .args .v) (a .before .before .move-of .result) (height-of told) (a .before .before .move-of .ensures .0)
-          (height-is told ∙ sum-read a)
-          (height-inside told) (still-read (c .before) ∙ c .if1 .taken),
+      visit-still _ (s .args .h .now) (s .args .v) (a .before .before .move-of .result) (height-of told)
+          (a .before .before .move-of .ensures .0) (height-is told ∙ sum-read a) (height-inside told)
+          (still-read (c .before) ∙ c .if1 .taken),
       working-set (s .args .h .now) (s .args .b) (s .args .v) (height-of told) (s .pre .1 .0) (height-inside told),
     )
 
@@ -94,10 +91,9 @@ returns-3 c =
     let told : tie.After-struct-told = search in
     let a : tie.After-add = search in
     let s = start-of a in (
-      visit-moved (rows (s .args .first .now) (s .args .other .now) (s .args .rise .now) (s .args .weight .now) (suc (s .args .v)))
-          (s .args .h .now) (s .args .v) (a .before .before .move-of .result) (height-of told) (a .before .before .move-of .ensures .0)
-          (height-is told ∙ sum-read a)
-          (height-inside told) (still-read (c .before) ∙ c .if1 .left),
+      visit-moved _ (s .args .h .now) (s .args .v) (a .before .before .move-of .result) (height-of told)
+          (a .before .before .move-of .ensures .0) (height-is told ∙ sum-read a) (height-inside told)
+          (still-read (c .before) ∙ c .if1 .left),
       working-set (s .args .h .now) (s .args .b) (s .args .v) (height-of told) (s .pre .1 .0) (height-inside told),
     )
 
