@@ -19,7 +19,7 @@ use Rattle.nearest.specs.Heap as hp
 use Rattle.nearest.proofs.Tournament.{root-least, root-leaf}
 use Rattle.chains.specs.Chains.{Half, fore, aft, markOf, Has, Given, AllSound, halves}
 use Rattle.chains.proofs.Halves.{half-ends, ends-half, half-low, half-no, half-ok, met-on, has-on}
-use Rattle.search.specs.Front.{Moved, still, moved, Relaxed, came, By, Key, Keyed, Offer, Front, Nothing, Rest, limit}
+use Rattle.search.specs.Front.{keys, Moved, still, moved, Relaxed, came, By, Key, Keyed, Offer, Front, Nothing, Rest, limit}
 use Rattle.search.specs.Front as f
 
 -- ---- the lowest candidate, by what it is
@@ -253,7 +253,7 @@ module _ (sub : List Line) (n : ℕ) (head next ends : List ℕ) (gv : Given sub
     (best seg best′ seg′ : List ℕ) (ok : m < n) (isIn : distance es m ≡ some dm)
     (sound : AllSound n sub) (newest : (l : Line) (x h dx : ℕ) → List·Memᴰ l sub → Half l m x h → distance es x ≡ some dx
     → dx < dm + l .length)
-    (rx : Relaxed n next ends best seg best′ seg′ (getD head m 0) (dm * halves)) where
+    (rx : Relaxed n next ends (keys best seg) (keys best′ seg′) (getD head m 0) (dm * halves)) where
   pub front-relaxed : Front sub n es best seg ends (Rest next ends m (getD head m 0)) → Front sub n es best′ seg′ ends Nothing
   front-relaxed fr = record {
     inside = fr .inside;
@@ -265,7 +265,7 @@ module _ (sub : List Line) (n : ℕ) (head next ends : List ℕ) (gv : Given sub
     under = λ l u v h d i j a b. under l u v h d i j a b (fr .under l u v h d i j a b);
   }
     where
-      settled : (x d : ℕ) → distance es x ≡ some d → Moved n next ends best seg best′ seg′ (getD head m 0) (dm * halves) x
+      settled : (x d : ℕ) → distance es x ≡ some d → Moved n next ends (keys best seg) (keys best′ seg′) (getD head m 0) (dm * halves) x
           → (getD best′ x 0 ≡ getD best x 0) × (getD seg′ (n + x) 0 ≡ getD seg (n + x) 0)
       settled x d h (still a b) = (a, b)
       settled x d h (moved j on leads val lt s) =
@@ -274,12 +274,12 @@ module _ (sub : List Line) (n : ℕ) (head next ends : List ℕ) (gv : Given sub
           let k = fr .keyed x d h in
           absurd (omega (arith, newest (nd .l) x j d (nd .isLine) hf h, val, lt, nd .sum, k .key, k .low))
 
-      opened : (x : ℕ) → x < n → distance es x ≡ none → Moved n next ends best seg best′ seg′ (getD head m 0) (dm * halves) x
+      opened : (x : ℕ) → x < n → distance es x ≡ none → Moved n next ends (keys best seg) (keys best′ seg′) (getD head m 0) (dm * halves) x
           → getD seg′ (n + x) 0 ≡ getD best′ x 0
       opened x a h (still p q) = q ∙ fr .opened x a h ∙ sym p
       opened x a h (moved j on leads val lt s) = s
 
-      offered : (x : ℕ) → x < n → distance es x ≡ none → Moved n next ends best seg best′ seg′ (getD head m 0) (dm * halves) x
+      offered : (x : ℕ) → x < n → distance es x ≡ none → Moved n next ends (keys best seg) (keys best′ seg′) (getD head m 0) (dm * halves) x
           → (getD best x 0 ≡ hp.far) ⊎ Offer sub es best x → (getD best′ x 0 ≡ hp.far) ⊎ Offer sub es best′ x
       offered x a h (still p q) (inl z) = inl (p ∙ z)
       offered x a h (still p q) (inr o) = inr (record {
@@ -305,7 +305,7 @@ module _ (sub : List Line) (n : ℕ) (head next ends : List ℕ) (gv : Given sub
             key = omega (arith, val, nd .sum);
           })
 
-      less : (v : ℕ) → Moved n next ends best seg best′ seg′ (getD head m 0) (dm * halves) v → getD best′ v 0 ≤ getD best v 0
+      less : (v : ℕ) → Moved n next ends (keys best seg) (keys best′ seg′) (getD head m 0) (dm * halves) v → getD best′ v 0 ≤ getD best v 0
       less v (still p q) = omega (arith, p)
       less v (moved j on leads val lt s) = omega arith
 

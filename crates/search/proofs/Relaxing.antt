@@ -11,12 +11,12 @@ use Rattle.nearest.specs.Heap.{far, Changed, leafLimit}
 use Rattle.nearest.proofs.Tournament.{cleared}
 use Rattle.chains.specs.Chains.{markOf, sumOf, On, here, later}
 use Rattle.chains.proofs.Halves.{on-zero, on-split}
-use Rattle.search.specs.Front.{Stage, Offered, kept, fell, Moved, still, moved, Relaxed}
+use Rattle.search.specs.Front.{Keys, keys, Stage, Offered, kept, fell, Moved, still, moved, Relaxed}
 
 -- ---- offer
 
 module _ (n : ℕ) (best seg best′ seg′ : List ℕ) (o k : ℕ) (st : Stage n best seg) (lt : o < n) where
-  pub offered-stage : Offered n best seg best′ seg′ o k → Stage n best′ seg′
+  pub offered-stage : Offered n (keys best seg) (keys best′ seg′) o k → Stage n best′ seg′
   offered-stage (kept a p q) = subst (λ (x : List ℕ). Stage n x seg′) (sym p) (subst (λ (y : List ℕ). Stage n best y) (sym q) st)
   offered-stage (fell a p ch) = record {
     heap = ch .heap;
@@ -34,11 +34,11 @@ module _ (n : ℕ) (best seg best′ seg′ : List ℕ) (o k : ℕ) (st : Stage 
       go m h (no e) = rw (p, getD-set-other best o m k 0 e, ch .others m h e) (st .over m h)
 
   -- what the mark is known by is no more than k then, and no more than it was
-  pub offered-at : Offered n best seg best′ seg′ o k → getD best′ o 0 ≤ k
+  pub offered-at : Offered n (keys best seg) (keys best′ seg′) o k → getD best′ o 0 ≤ k
   offered-at (kept a p q) = rw p a
   offered-at (fell a p ch) = rw (p, getD-set-same best o k 0 (omega (arith, st .places))) (omega arith)
 
-  pub offered-le : Offered n best seg best′ seg′ o k → (m : ℕ) → getD best′ m 0 ≤ getD best m 0
+  pub offered-le : Offered n (keys best seg) (keys best′ seg′) o k → (m : ℕ) → getD best′ m 0 ≤ getD best m 0
   offered-le (kept a p q) m = rw p (omega arith)
   offered-le (fell a p ch) m = go (ℕ-discrete m o)
     where
@@ -48,14 +48,14 @@ module _ (n : ℕ) (best seg best′ seg′ : List ℕ) (o k : ℕ) (st : Stage 
 
 -- ---- relax: what is done, and what is on the chain from i
 
-pub record Relaxing (n : ℕ) (next ends best seg best′ seg′ : List ℕ) (first base i : ℕ) : Type 0 where
-  pub stage : Stage n best′ seg′
-  pub each : (m : ℕ) → m < n → Moved n next ends best seg best′ seg′ first base m
-  pub under : (j : ℕ) → On next first j → (On next i j) ⊎ (getD best′ (markOf ends j) 0 ≤ base + sumOf ends j)
+pub record Relaxing (n : ℕ) (next ends : List ℕ) (a z : Keys) (first base i : ℕ) : Type 0 where
+  pub stage : Stage n (z .best) (z .seg)
+  pub each : (m : ℕ) → m < n → Moved n next ends a z first base m
+  pub under : (j : ℕ) → On next first j → (On next i j) ⊎ (getD (z .best) (markOf ends j) 0 ≤ base + sumOf ends j)
   pub part : (j : ℕ) → On next i j → On next first j
 
 pub relax-start : (n : ℕ) (next ends best seg : List ℕ) (first base : ℕ) → Stage n best seg
-    → Relaxing n next ends best seg best seg first base first
+    → Relaxing n next ends (keys best seg) (keys best seg) first base first
 relax-start n next ends best seg first base st = record {
   stage = st;
   each = λ m h. still refl refl;
@@ -64,8 +64,8 @@ relax-start n next ends best seg first base st = record {
 }
 
 pub relax-end : (n : ℕ) (next ends best seg best′ seg′ : List ℕ) (first base i : ℕ)
-    → Relaxing n next ends best seg best′ seg′ first base i → i ≤ 0
-    → Relaxed n next ends best seg best′ seg′ first base
+    → Relaxing n next ends (keys best seg) (keys best′ seg′) first base i → i ≤ 0
+    → Relaxed n next ends (keys best seg) (keys best′ seg′) first base
 relax-end n next ends best seg best′ seg′ first base i x z = record {
   stage = x .stage;
   each = x .each;
@@ -78,16 +78,17 @@ relax-end n next ends best seg best′ seg′ first base i x z = record {
     go j (inl o) = on-zero (omega arith) o
     go j (inr h) = h
 
-module _ (n : ℕ) (next ends best seg b₁ s₁ b₂ s₂ : List ℕ) (first base i : ℕ) (x : Relaxing n next ends best seg b₁ s₁ first base i)
-    (pos : 0 < i)
-    (lt : markOf ends i < n) (y : Offered n b₁ s₁ b₂ s₂ (markOf ends i) (base + sumOf ends i)) where
-  each-next : (m : ℕ) → m < n → Moved n next ends best seg b₁ s₁ first base m → Offered n b₁ s₁ b₂ s₂ (markOf ends i) (base + sumOf ends i)
-      → Moved n next ends best seg b₂ s₂ first base m
-  each-next m h w (kept a p q) = subst (λ (z : List ℕ). Moved n next ends best seg z s₂ first base m) (sym p)
-      (subst (λ (z : List ℕ). Moved n next ends best seg b₁ z first base m) (sym q) w)
+module _ (n : ℕ) (next ends best seg b₁ s₁ b₂ s₂ : List ℕ) (first base i : ℕ)
+    (x : Relaxing n next ends (keys best seg) (keys b₁ s₁) first base i) (pos : 0 < i)
+    (lt : markOf ends i < n) (y : Offered n (keys b₁ s₁) (keys b₂ s₂) (markOf ends i) (base + sumOf ends i)) where
+  each-next : (m : ℕ) → m < n → Moved n next ends (keys best seg) (keys b₁ s₁) first base m
+      → Offered n (keys b₁ s₁) (keys b₂ s₂) (markOf ends i) (base + sumOf ends i) → Moved n next ends (keys best seg) (keys b₂ s₂) first base m
+  each-next m h w (kept a p q) = subst (λ (z : List ℕ). Moved n next ends (keys best seg) (keys z s₂) first base m) (sym p)
+      (subst (λ (z : List ℕ). Moved n next ends (keys best seg) (keys b₁ z) first base m) (sym q) w)
   each-next m h w (fell a p ch) = go (ℕ-discrete m (markOf ends i)) w
     where
-      go : Dec (m ≡ markOf ends i) → Moved n next ends best seg b₁ s₁ first base m → Moved n next ends best seg b₂ s₂ first base m
+      go : Dec (m ≡ markOf ends i) → Moved n next ends (keys best seg) (keys b₁ s₁) first base m
+          → Moved n next ends (keys best seg) (keys b₂ s₂) first base m
       go (no e) (still u v) = still (rw (p, getD-set-other b₁ (markOf ends i) m (base + sumOf ends i) 0 e) u) (ch .others m h e ∙ v)
       go (no e) (moved j on u v lt s) =
           let q : getD b₂ m 0 ≡ getD b₁ m 0 = rw p (getD-set-other b₁ (markOf ends i) m (base + sumOf ends i) 0 e) in
@@ -100,11 +101,11 @@ module _ (n : ℕ) (next ends best seg b₁ s₁ b₂ s₂ : List ℕ) (first ba
           a′ : base + sumOf ends i < getD b₁ m 0
           a′ = rw e a
 
-          below : Moved n next ends best seg b₁ s₁ first base m → getD b₂ m 0 < getD best m 0
+          below : Moved n next ends (keys best seg) (keys b₁ s₁) first base m → getD b₂ m 0 < getD best m 0
           below (still u v) = omega (arith, val, u, a′)
           below (moved j on u v l s) = omega (arith, val, l, a′)
 
-  pub relax-turn : Relaxing n next ends best seg b₂ s₂ first base (getD next i 0)
+  pub relax-turn : Relaxing n next ends (keys best seg) (keys b₂ s₂) first base (getD next i 0)
   relax-turn = record {
     stage = offered-stage n b₁ s₁ b₂ s₂ (markOf ends i) (base + sumOf ends i) (x .stage) lt y;
     each = λ m h. each-next m h (x .each m h) y;

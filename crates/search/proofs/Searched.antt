@@ -19,7 +19,7 @@ use Rattle.nearest.specs.Heap.{Changed, leafLimit}
 use Rattle.nearest.specs.Heap as hp
 use Rattle.nearest.proofs.Tournament.{cleared}
 use Rattle.chains.specs.Chains.{Half, flip, markOf, AllSound, Given, halves}
-use Rattle.search.specs.Front.{Stage, Relaxed, Key, Keyed, Front, Nothing, Rest, Begun, Two, top, lead, Turned, more, found}
+use Rattle.search.specs.Front.{keys, Stage, Relaxed, Key, Keyed, Front, Nothing, Rest, Begun, Two, top, lead, Turned, more, found}
 use Rattle.search.specs.Front.{nothing, limit, Outcome, reached, cut-off}
 use Rattle.search.specs.Front as f
 use Rattle.chains.proofs.Halves.{half-ends, half-flip, half-low-end, mark-of}
@@ -82,7 +82,7 @@ module _ (sub : List Line) (n : ℕ) (head next ends : List ℕ) (gv : Given sub
 
   pub search-start : (best seg best′ seg′ : List ℕ) → n ≤ leafLimit → r < n → n ≤ length best → 2 * n ≤ length seg
       → ((i : ℕ) → i < n → getD best i 0 ≡ hp.far) → ((i : ℕ) → i < 2 * n → getD seg i 0 ≡ hp.far) → (r ≡ to → ⊥)
-      → Relaxed n next ends (set best r 0) seg best′ seg′ (getD head r 0) 0 → Searching 1 best′ seg′
+      → Relaxed n next ends (keys (set best r 0) seg) (keys best′ seg′) (getD head r 0) 0 → Searching 1 best′ seg′
   unfolding distance
   search-start best seg best′ seg′ few ok lb ls fb fs ne rx =
       made (subst (λ (t : Tree). Front sub n t best′ seg′ ends Nothing × (distance t r ≡ some 0) × (distance t to ≡ none)) (sym at-one)
@@ -223,7 +223,7 @@ module _ (sub : List Line) (n : ℕ) (head next ends : List ℕ) (gv : Given sub
             (pop .isOut) (pop .small) (sr .front) key (λ m d. refl) ch
 
         pub search-next : (best′ seg′ : List ℕ) → (mk ≡ to → ⊥)
-            → Relaxed n next ends best seg₁ best′ seg′ (getD head mk 0) (getD seg 1 0 - getD seg 1 0 % halves)
+            → Relaxed n next ends (keys best seg₁) (keys best′ seg′) (getD head mk 0) (getD seg 1 0 - getD seg 1 0 % halves)
             → Searching (k + 1) best′ seg′
         search-next best′ seg′ ne rx = made
             (subst (λ (z : Tree). Front sub n z best′ seg′ ends Nothing × (distance z r ≡ some 0) × (distance z to ≡ none))
@@ -253,7 +253,7 @@ module _ (sub : List Line) (n : ℕ) (head next ends : List ℕ) (gv : Given sub
                 (pop .d + pop .l .length)
                 best seg₁ best′ seg′ (pop .small) there (gv .sound)
                 (newest-line n sub (gv .sound) (r ∷ []) k (entry mk (pop .d + pop .l .length) (some (pop .l))) by)
-                (subst (λ (z : ℕ). Relaxed n next ends best seg₁ best′ seg′ (getD head mk 0) z) base rx) fr₁
+                (subst (λ (z : ℕ). Relaxed n next ends (keys best seg₁) (keys best′ seg′) (getD head mk 0) z) base rx) fr₁
 
   pub search-end : (k : ℕ) (best seg : List ℕ) {b : Bool} → Searching k best seg → k ≡ n - 1 → b ≡ false → Outcome sub n best ends r to b
   search-end k best seg sr e q = cut-off q (ap (λ (z : ℕ). distance (at z) to) (sym e) ∙ sr .out)
@@ -269,18 +269,20 @@ module _ (sub : List Line) (n : ℕ) (head next ends : List ℕ) (gv : Given sub
     lead-low : top seg < limit → 0 < lead ends seg
     lead-low l = let p = pop k best seg st sr lt l in half-low-end (gv .sound (p .l) (p .isLine)) (p .half)
 
-    pub turned-more : Turned n head next ends best seg best′ seg′ to a → (a ≡ 0 → ⊥) → (a ≡ to → ⊥) → Searching (k + 1) best′ seg′
+    pub turned-more : Turned n head next ends (keys best seg) (keys best′ seg′) to a → (a ≡ 0 → ⊥) → (a ≡ to → ⊥)
+        → Searching (k + 1) best′ seg′
     turned-more (more z l seg₁ ch ne rx) e t = search-next k best seg st sr lt l seg₁ ch best′ seg′ ne rx
     turned-more (found z l q p p′) e t = absurd (t (z ∙ q))
     turned-more (nothing z l q q′) e t = absurd (e z)
 
-    pub turned-none : Turned n head next ends best seg best′ seg′ to a → a ≡ 0 → k + 1 < n → Outcome sub n best′ ends r to false
+    pub turned-none : Turned n head next ends (keys best seg) (keys best′ seg′) to a → a ≡ 0 → k + 1 < n
+        → Outcome sub n best′ ends r to false
     turned-none (more z l seg₁ ch ne rx) e w = absurd (omega (arith, lead-low l))
     turned-none (found z l q p p′) e w = absurd (omega (arith, lead-low l))
     turned-none (nothing z l q q′) e w =
         subst (λ (x : List ℕ). Outcome sub n x ends r to false) (sym q) (search-none k best seg st sr lt l (omega arith) refl)
 
-    pub turned-found : Turned n head next ends best seg best′ seg′ to a → (a ≡ 0 → ⊥) → a ≡ to → k + 1 < n
+    pub turned-found : Turned n head next ends (keys best seg) (keys best′ seg′) to a → (a ≡ 0 → ⊥) → a ≡ to → k + 1 < n
         → Outcome sub n best′ ends r to true
     turned-found (more z l seg₁ ch ne rx) e t w = absurd (ne (sym z ∙ t))
     turned-found (found z l q p p′) e t w =
@@ -289,7 +291,7 @@ module _ (sub : List Line) (n : ℕ) (head next ends : List ℕ) (gv : Given sub
 
 -- the stage stands after any turn
 pub turned-any : (n : ℕ) (head next ends best seg best′ seg′ : List ℕ) (to a : ℕ) → Stage n best seg
-    → Turned n head next ends best seg best′ seg′ to a → Stage n best′ seg′
+    → Turned n head next ends (keys best seg) (keys best′ seg′) to a → Stage n best′ seg′
 turned-any n head next ends best seg best′ seg′ to a st (more z l seg₁ ch ne rx) = rx .stage
 turned-any n head next ends best seg best′ seg′ to a st (found z l t q q′) =
     subst (λ (x : List ℕ). Stage n x seg′) (sym q) (subst (λ (y : List ℕ). Stage n best y) (sym q′) st)

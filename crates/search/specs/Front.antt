@@ -29,19 +29,29 @@ pub record Stage (n : ℕ) (best seg : List ℕ) : Type 0 where
   pub over : Over n best seg
   pub tops : (m : ℕ) → m < n → getD best m 0 ≤ far
 
-pub data Offered (n : ℕ) (best seg best′ seg′ : List ℕ) (o k : ℕ) : Type 0 where
-  kept : getD best o 0 ≤ k → best′ ≡ best → seg′ ≡ seg → Offered n best seg best′ seg′ o k
-  fell : k < getD best o 0 → best′ ≡ set best o k → Changed seg seg′ n o k → Offered n best seg best′ seg′ o k
+-- what the marks are known by, and the tournament of the open ones
+pub record Keys : Type 0 where
+  pub best : List ℕ
+  pub seg : List ℕ
 
-pub data Moved (n : ℕ) (next ends best seg best′ seg′ : List ℕ) (i base m : ℕ) : Type 0 where
-  still : getD best′ m 0 ≡ getD best m 0 → getD seg′ (n + m) 0 ≡ getD seg (n + m) 0 → Moved n next ends best seg best′ seg′ i base m
-  moved : (j : ℕ) → On next i j → markOf ends j ≡ m → getD best′ m 0 ≡ base + sumOf ends j → getD best′ m 0 < getD best m 0
-      → getD seg′ (n + m) 0 ≡ getD best′ m 0 → Moved n next ends best seg best′ seg′ i base m
+abbrev pub keys : List ℕ → List ℕ → Keys
+keys best seg = record { best = best; seg = seg }
 
-pub record Relaxed (n : ℕ) (next ends best seg best′ seg′ : List ℕ) (i base : ℕ) : Type 0 where
-  pub stage : Stage n best′ seg′
-  pub each : (m : ℕ) → m < n → Moved n next ends best seg best′ seg′ i base m
-  pub under : (j : ℕ) → On next i j → getD best′ (markOf ends j) 0 ≤ base + sumOf ends j
+-- the keys before and after: mark o was offered the key k
+pub data Offered (n : ℕ) (a z : Keys) (o k : ℕ) : Type 0 where
+  kept : getD (a .best) o 0 ≤ k → z .best ≡ a .best → z .seg ≡ a .seg → Offered n a z o k
+  fell : k < getD (a .best) o 0 → z .best ≡ set (a .best) o k → Changed (a .seg) (z .seg) n o k → Offered n a z o k
+
+-- mark m, when the halves of the chain from i on have offered base and their own sum
+pub data Moved (n : ℕ) (next ends : List ℕ) (a z : Keys) (i base m : ℕ) : Type 0 where
+  still : getD (z .best) m 0 ≡ getD (a .best) m 0 → getD (z .seg) (n + m) 0 ≡ getD (a .seg) (n + m) 0 → Moved n next ends a z i base m
+  moved : (j : ℕ) → On next i j → markOf ends j ≡ m → getD (z .best) m 0 ≡ base + sumOf ends j
+      → getD (z .best) m 0 < getD (a .best) m 0 → getD (z .seg) (n + m) 0 ≡ getD (z .best) m 0 → Moved n next ends a z i base m
+
+pub record Relaxed (n : ℕ) (next ends : List ℕ) (a z : Keys) (i base : ℕ) : Type 0 where
+  pub stage : Stage n (z .best) (z .seg)
+  pub each : (m : ℕ) → m < n → Moved n next ends a z i base m
+  pub under : (j : ℕ) → On next i j → getD (z .best) (markOf ends j) 0 ≤ base + sumOf ends j
 
 -- ---- what `begin` and `turn` do
 
@@ -66,7 +76,7 @@ pub record Begun (n : ℕ) (head next ends best′ seg′ : List ℕ) (r : ℕ) 
   pub room : RoomSearch n best seg
   pub bests : (i : ℕ) → i < n → getD best i 0 ≡ far
   pub segs : (i : ℕ) → i < 2 * n → getD seg i 0 ≡ far
-  pub offered : Relaxed n next ends (set best r 0) seg best′ seg′ (getD head r 0) 0
+  pub offered : Relaxed n next ends (keys (set best r 0) seg) (keys best′ seg′) (getD head r 0) 0
 
 -- more than any key is
 abbrev pub limit : ℕ
@@ -79,14 +89,15 @@ top seg = getD seg 1 0
 abbrev pub lead : List ℕ → List ℕ → ℕ
 lead ends seg = markOf ends (top seg % halves)
 
--- the mark that entered, or 0
-pub data Turned (n : ℕ) (head next ends best seg best′ seg′ : List ℕ) (to a : ℕ) : Type 0 where
-  more : a ≡ lead ends seg → top seg < limit → (seg₁ : List ℕ) → Changed seg seg₁ n (lead ends seg) far → (lead ends seg ≡ to → ⊥)
-      → Relaxed n next ends best seg₁ best′ seg′ (getD head (lead ends seg) 0) (top seg - top seg % halves)
-      → Turned n head next ends best seg best′ seg′ to a
-  found : a ≡ lead ends seg → top seg < limit → lead ends seg ≡ to → best′ ≡ best → seg′ ≡ seg
-      → Turned n head next ends best seg best′ seg′ to a
-  nothing : a ≡ 0 → limit ≤ top seg → best′ ≡ best → seg′ ≡ seg → Turned n head next ends best seg best′ seg′ to a
+-- the keys before and after a turn, and the mark that entered, or 0
+pub data Turned (n : ℕ) (head next ends : List ℕ) (a z : Keys) (to m : ℕ) : Type 0 where
+  more : m ≡ lead ends (a .seg) → top (a .seg) < limit → (seg₁ : List ℕ) → Changed (a .seg) seg₁ n (lead ends (a .seg)) far
+      → (lead ends (a .seg) ≡ to → ⊥)
+      → Relaxed n next ends (keys (a .best) seg₁) z (getD head (lead ends (a .seg)) 0) (top (a .seg) - top (a .seg) % halves)
+      → Turned n head next ends a z to m
+  found : m ≡ lead ends (a .seg) → top (a .seg) < limit → lead ends (a .seg) ≡ to → z .best ≡ a .best → z .seg ≡ a .seg
+      → Turned n head next ends a z to m
+  nothing : m ≡ 0 → limit ≤ top (a .seg) → z .best ≡ a .best → z .seg ≡ a .seg → Turned n head next ends a z to m
 
 -- ---- the line by which a mark came in, and the way back by such lines
 

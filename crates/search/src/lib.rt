@@ -3,7 +3,7 @@
 ghost use Prim.Native.Nat.{_+_, _*_, _<_, _≤_};
 ghost use Rattle.chains.specs.Chains.{Bounded, Chained, Heads};
 ghost use Rattle.search.specs.Direct.{LeastSum, Direct};
-ghost use Rattle.search.specs.Front.{limit, Stage, Offered, Relaxed, RoomSearch, Two, Begun, Turned, Searched};
+ghost use Rattle.search.specs.Front.{limit, keys, Stage, Offered, Relaxed, RoomSearch, Two, Begun, Turned, Searched};
 ghost use Rattle.search.specs.Front.{RoomPath, Leads, Walked, Held, Pathed};
 
 // More than any key.
@@ -13,7 +13,7 @@ const LIMIT: u64 = 1152921504606846976;
 fn offer(best: &mut [u64], seg: &mut [u64], n: usize, o: usize, k: u64)
     requires { ⌜ Stage n (now best) (now seg) ⌝
         ∗ ⌜ o < n ⌝ }
-    ensures { λ _. ⌜ Offered n (now (best .entry)) (now (seg .entry)) (now (best .exit)) (now (seg .exit)) o k ⌝ }
+    ensures { λ _. ⌜ Offered n (keys (now (best .entry)) (now (seg .entry))) (keys (now (best .exit)) (now (seg .exit))) o k ⌝ }
 {
     if k < best[o] {
         best[o] = k;
@@ -35,8 +35,8 @@ pub fn relax(
         ∗ ⌜ Chained (now next) first ⌝
         ∗ ⌜ Stage n (now best) (now seg) ⌝
         ∗ ⌜ base ≤ limit ⌝ }
-    ensures { λ _. ⌜ Relaxed n (now (next .entry)) (now (ends .entry)) (now (best .entry)) (now (seg .entry)) (now (best .exit))
-        (now (seg .exit)) first base ⌝ }
+    ensures { λ _. ⌜ Relaxed n (now (next .entry)) (now (ends .entry)) (keys (now (best .entry)) (now (seg .entry)))
+        (keys (now (best .exit)) (now (seg .exit))) first base ⌝ }
 {
     let mut h = first;
     while 0 < h {
@@ -84,8 +84,8 @@ pub fn turn(
     requires { ⌜ Bounded n (now ends) ⌝
         ∗ ⌜ Heads n (now head) (now next) ⌝
         ∗ ⌜ Stage n (now best) (now seg) ⌝ }
-    ensures { λ a. ⌜ Turned n (now (head .entry)) (now (next .entry)) (now (ends .entry)) (now (best .entry)) (now (seg .entry))
-        (now (best .exit)) (now (seg .exit)) to a ⌝ }
+    ensures { λ a. ⌜ Turned n (now (head .entry)) (now (next .entry)) (now (ends .entry))
+        (keys (now (best .entry)) (now (seg .entry))) (keys (now (best .exit)) (now (seg .exit))) to a ⌝ }
 {
     let key = seg[1];
     if LIMIT <= key {

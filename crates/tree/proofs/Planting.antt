@@ -23,7 +23,7 @@ use Rattle.nearest.specs.Heap.{Changed, leafLimit}
 use Rattle.nearest.specs.Heap as hp
 use Rattle.nearest.proofs.Tournament.{cleared}
 use Rattle.chains.specs.Chains.{Half, flip, Bounded, Given, halves}
-use Rattle.search.specs.Front.{Stage, Relaxed, Key, Offer, Front, Nothing, limit, top, lead, Turned, more, found, nothing}
+use Rattle.search.specs.Front.{keys, Stage, Relaxed, Key, Offer, Front, Nothing, limit, top, lead, Turned, more, found, nothing}
 use Rattle.search.specs.Front as f
 use Rattle.chains.proofs.Halves.{half-ends, half-flip, half-low-end, mark-of}
 use Rattle.search.proofs.Enter.{far-half, step-some, Pop, pop-none, pop-some, came-new, front-enter, front-relaxed}
@@ -182,7 +182,7 @@ module _ (lines : List Line) (n : ℕ) (head next ends : List ℕ) (gv : Given l
           hit (old p q) = absurd (p refl)
 
       line-next : (seg₁ best′ seg′ : List ℕ) (v : ℕ) → v ≡ lead ends seg → Changed seg seg₁ n (lead ends seg) hp.far
-          → Relaxed n next ends best seg₁ best′ seg′ (getD head (lead ends seg) 0) (top seg - top seg % halves)
+          → Relaxed n next ends (keys best seg₁) (keys best′ seg′) (getD head (lead ends seg) 0) (top seg - top seg % halves)
           → Planting (k + 1) best′ seg′ (set order k v) root
       line-next seg₁ best′ seg′ v q ch rx = record {
         front = subst (λ (z : Tree). Front lines n z best′ seg′ ends Nothing) (sym (ap at (add-one k) ∙ at-next)) fr;
@@ -201,7 +201,7 @@ module _ (lines : List Line) (n : ℕ) (head next ends : List ℕ) (gv : Given l
               front-relaxed lines n head next ends gv (en ∷ at k) (lead ends seg) (pop .d + pop .l .length) best seg₁ best′ seg′
               (pop .small) there (gv .sound)
               (newest-line n lines (gv .sound) rts k en by)
-              (subst (λ (z : ℕ). Relaxed n next ends best seg₁ best′ seg′ (getD head (lead ends seg) 0) z) base rx)
+              (subst (λ (z : ℕ). Relaxed n next ends (keys best seg₁) (keys best′ seg′) (getD head (lead ends seg) 0) z) base rx)
               (front-enter lines n head next ends gv (at k) en best seg best seg₁ (pop .isOut) (pop .small) (pl .front) key
               (λ m d. refl) ch)
 
@@ -235,7 +235,7 @@ module _ (lines : List Line) (n : ℕ) (head next ends : List ℕ) (gv : Given l
           go (no e) = pl .passed m a (omega arith) h
 
       root-next : (r : ℕ) (best′ seg′ : List ℕ) → FirstFar best n root r → r < n
-          → Relaxed n next ends (set best r 0) seg best′ seg′ (getD head r 0) 0
+          → Relaxed n next ends (keys (set best r 0) seg) (keys best′ seg′) (getD head r 0) 0
           → Planting (k + 1) best′ seg′ (set order k r) r
       unfolding grow step marks
       root-next r best′ seg′ ff lt rx = record {
@@ -314,8 +314,8 @@ module _ (lines : List Line) (n : ℕ) (head next ends : List ℕ) (gv : Given l
     sprouted-next best′ seg′ order′ r (by-root a best₁ seg₁ (nothing z lt q q′) e ff l x o) =
         subst (λ (y : List ℕ). Planting (k + 1) best′ seg′ y r) (sym o)
         (root-next lt r best′ seg′ (subst (λ (y : List ℕ). FirstFar y n root r) q ff) l
-        (subst (λ (y : List ℕ). Relaxed n next ends (set y r 0) seg best′ seg′ (getD head r 0) 0) q
-        (subst (λ (y : List ℕ). Relaxed n next ends (set best₁ r 0) y best′ seg′ (getD head r 0) 0) q′ x)))
+        (subst (λ (y : List ℕ). Relaxed n next ends (keys (set y r 0) seg) (keys best′ seg′) (getD head r 0) 0) q
+        (subst (λ (y : List ℕ). Relaxed n next ends (keys (set best₁ r 0) y) (keys best′ seg′) (getD head r 0) 0) q′ x)))
     sprouted-next best′ seg′ order′ r (ended a (more z lt s ch ne rx) e ff l o) = absurd (ne (sym z ∙ e))
     sprouted-next best′ seg′ order′ r (ended a (found z lt t q q₂) e ff l o) = absurd (omega (arith, lead-low lt, t))
     sprouted-next best′ seg′ order′ r (ended a (nothing z lt q q′) e ff l o) =
@@ -363,7 +363,7 @@ module _ (n : ℕ) (head next ends best seg order best′ seg′ order′ : List
       → Sprouted n head next ends (growing best seg order) (growing best′ seg′ order′) k rt r → Below n order′
   sprouted-below st tp o (by-line a t e q z) m h = rw z (below-set n order k a (turned-low t) o m h)
     where
-      turned-low : Turned n head next ends best seg best′ seg′ 0 a → a < n
+      turned-low : Turned n head next ends (keys best seg) (keys best′ seg′) 0 a → a < n
       turned-low (more x l s ch ne rx) = rw x (tp .mark-ok (top seg % halves) (omega arith))
       turned-low (found x l y p p₂) = rw x (tp .mark-ok (top seg % halves) (omega arith))
       turned-low (nothing x l p p′) = absurd (e x)

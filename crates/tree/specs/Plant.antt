@@ -7,7 +7,7 @@ use Rattle.network.specs.Standing.{Line}
 use Rattle.network.specs.Tree.{Entry, Tree, tree}
 use Rattle.nearest.specs.Heap as hp
 use Rattle.chains.specs.Chains.{Given}
-use Rattle.search.specs.Front.{RoomSearch, Relaxed, Turned, Keyed}
+use Rattle.search.specs.Front.{Keys, keys, RoomSearch, Relaxed, Turned, Keyed}
 
 -- r is the first place from i on that holds `far`, or n
 pub record FirstFar (best : List ℕ) (n i r : ℕ) : Type 0 where
@@ -18,22 +18,21 @@ pub record FirstFar (best : List ℕ) (n i r : ℕ) : Type 0 where
 
 -- the tables of a tree as it grows
 pub record Growing : Type 0 where
-  pub best : List ℕ
-  pub seg : List ℕ
+  pub known : Keys
   pub order : List ℕ
 
 abbrev pub growing : List ℕ → List ℕ → List ℕ → Growing
-growing best seg order = record { best = best; seg = seg; order = order }
+growing best seg order = record { known = keys best seg; order = order }
 
--- the mark that enters k-th stands at place k of order
-pub data Sprouted (n : ℕ) (head next ends : List ℕ) (g g′ : Growing) (k root r : ℕ) : Type 0 where
-  by-line : (a : ℕ) → Turned n head next ends (g .best) (g .seg) (g′ .best) (g′ .seg) 0 a → (a ≡ 0 → ⊥) → r ≡ root
-      → g′ .order ≡ set (g .order) k a → Sprouted n head next ends g g′ k root r
-  by-root : (a : ℕ) (best₁ seg₁ : List ℕ) → Turned n head next ends (g .best) (g .seg) best₁ seg₁ 0 a → a ≡ 0 → FirstFar best₁ n root r
-      → r < n → Relaxed n next ends (set best₁ r 0) seg₁ (g′ .best) (g′ .seg) (getD head r 0) 0 → g′ .order ≡ set (g .order) k r
-      → Sprouted n head next ends g g′ k root r
-  ended : (a : ℕ) → Turned n head next ends (g .best) (g .seg) (g′ .best) (g′ .seg) 0 a → a ≡ 0 → FirstFar (g′ .best) n root r → r ≡ n
-      → g′ .order ≡ g .order → Sprouted n head next ends g g′ k root r
+-- the tables before and after: the mark that enters k-th stands at place k of order
+pub data Sprouted (n : ℕ) (head next ends : List ℕ) (a z : Growing) (k root r : ℕ) : Type 0 where
+  by-line : (m : ℕ) → Turned n head next ends (a .known) (z .known) 0 m → (m ≡ 0 → ⊥) → r ≡ root → z .order ≡ set (a .order) k m
+      → Sprouted n head next ends a z k root r
+  by-root : (m : ℕ) (best₁ seg₁ : List ℕ) → Turned n head next ends (a .known) (keys best₁ seg₁) 0 m → m ≡ 0 → FirstFar best₁ n root r
+      → r < n → Relaxed n next ends (keys (set best₁ r 0) seg₁) (z .known) (getD head r 0) 0 → z .order ≡ set (a .order) k r
+      → Sprouted n head next ends a z k root r
+  ended : (m : ℕ) → Turned n head next ends (a .known) (z .known) 0 m → m ≡ 0 → FirstFar (z .known .best) n root r → r ≡ n
+      → z .order ≡ a .order → Sprouted n head next ends a z k root r
 
 -- order has the marks of the tree as they entered
 pub data Entered (order : List ℕ) : Tree → Type 0 where

@@ -4,6 +4,7 @@ use mathlib.Core.List.{List}
 use lib.ListN.{length}
 use Rattle.chains.specs.Chains.{Chain}
 use Rattle.chains.proofs.Halves.{stepsLeft, steps-fall, chain-low, chain-rest}
+use Rattle.search.specs.Front.{keys}
 use Rattle.search.proofs.Relaxing.{Relaxing, relax-start, relax-turn, relax-end}
 use borrow.Author.Needs.{needs}
 use native.Mathlib.Omega.{arith}
@@ -12,8 +13,8 @@ use Rattle.search.proofs.relax.Tie as tie
 
 abbrev Inv-loop : tie.InvT-loop
 Inv-loop next ends best₀ seg₀ n first base h₀ best seg h =
-    ((hs : List ℕ) × Chain next h hs) × Relaxing n next ends best₀ seg₀ best seg first base h × (length best ≡ length best₀) ×
-    (length seg ≡ length seg₀)
+    ((hs : List ℕ) × Chain next h hs) × Relaxing n next ends (keys best₀ seg₀) (keys best seg) first base h
+    × (length best ≡ length best₀) × (length seg ≡ length seg₀)
 
 abbrev μ-loop : tie.MeasureT-loop
 μ-loop next ends best₀ seg₀ n first base h₀ best seg h = stepsLeft next h
