@@ -25,7 +25,7 @@ use Rattle.chains.specs.Link.{RoomChains, Fits, Joined, Wider}
 use Rattle.chains.proofs.Halves.{half-no, told-mark}
 use Rattle.chains.proofs.Joining.{join-draws, draws-none}
 use Rattle.chains.proofs.Order.{join-order, order-none}
-use Rattle.prepare.specs.Drawn.{Entry, endOf, Drew, withdrawn, drawn, Sheet, BookDrawn}
+use Rattle.prepare.specs.Drawn.{Entry, endOf, drawing, Drew, withdrawn, drawn, Sheet, BookDrawn}
 
 -- ---- a line of the book
 
@@ -245,7 +245,7 @@ module _ (n : ℕ) (ls : List ℤ) where
               d .lineOf i l (omega (arith, h, ends-other (i * 2) (λ z. omega arith) (λ z. omega arith))) in
               (w .0, List·Memᴰ·tail (w .1), w .2)
 
-    pub draw-next : Drew (suc j) (entryAt ls j) ends head next ends′ head′ next′ → DrawingAt j ends′ head′ next′
+    pub draw-next : Drew (suc j) (entryAt ls j) (drawing ends head next) (drawing ends′ head′ next′) → DrawingAt j ends′ head′ next′
     draw-next (withdrawn w ei eh ex) = rw (ei, eh, ex) (skipped w)
     draw-next (drawn w ei jn) = stands w ei jn
 
@@ -311,12 +311,13 @@ module _ (n : ℕ) (ls : List ℤ) (j : ℕ) (ends head next ends₀ head₀ nex
     chains = room;
   }
 
-  pub draw-turn : (ends′ head′ next′ : List ℕ) → Drew j (partAt ls (j - 1)) ends head next ends′ head′ next′
+  pub draw-turn : (ends′ head′ next′ : List ℕ) → Drew j (partAt ls (j - 1)) (drawing ends head next) (drawing ends′ head′ next′)
       → DrawingAt n ls (j - 1) ends′ head′ next′
   draw-turn ends′ head′ next′ dr =
       draw-next n ls (j - 1) ends head next ends′ head′ next′ (omega arith) (sh .few) (sh .few-marks) (sh .some-mark) room good-at
       (subst (λ (k : ℕ). DrawingAt n ls k ends head next) back-one d)
-      (subst (λ (k : ℕ). Drew k (entryAt ls (j - 1)) ends head next ends′ head′ next′) back-one (rw (part-is ls (j - 1)) at dr))
+      (subst (λ (k : ℕ). Drew k (entryAt ls (j - 1)) (drawing ends head next) (drawing ends′ head′ next′)) back-one
+      (rw (part-is ls (j - 1)) at dr))
 
 -- ---- one line, by the numbers that were read
 
@@ -348,5 +349,6 @@ module _ {n number : ℕ} {e : List ℤ} {ends head next : List ℕ} (en : Entry
 
   pub drew-is : {head′ next′ : List ℕ} → eqZ (standingAt e 0) (pos 0) ≡ false
       → Joined (set (set ends (number * 2) (l * halves + t)) (number * 2 + 1) (l * halves + f)) head next head′ next′ number
-      → Drew number e ends head next (set (set ends (number * 2) (l * halves + t)) (number * 2 + 1) (l * halves + f)) head′ next′
+      → Drew number e (drawing ends head next)
+      (drawing (set (set ends (number * 2) (l * halves + t)) (number * 2 + 1) (l * halves + f)) head′ next′)
   drew-is st jn = drawn st (rw (p, q, r)) jn

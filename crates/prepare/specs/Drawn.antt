@@ -27,11 +27,21 @@ pub record Entry (n number : ℕ) (e : List ℤ) (ends head next : List ℕ) : T
 abbrev pub endOf : List ℤ → ℕ → ℕ
 endOf e k = natAbs (lengthAt e 0) * halves + natAbs (field k e 0)
 
-pub data Drew (number : ℕ) (e : List ℤ) (ends head next ends′ head′ next′ : List ℕ) : Type 0 where
-  withdrawn : eqZ (standingAt e 0) (pos 0) ≡ true → ends′ ≡ ends → head′ ≡ head → next′ ≡ next
-      → Drew number e ends head next ends′ head′ next′
-  drawn : eqZ (standingAt e 0) (pos 0) ≡ false → ends′ ≡ set (set ends (number * 2) (endOf e toField)) (number * 2 + 1) (endOf e fromField)
-      → Joined ends′ head next head′ next′ number → Drew number e ends head next ends′ head′ next′
+-- what drawing a line changes
+pub record Drawing : Type 0 where
+  pub ends : List ℕ
+  pub head : List ℕ
+  pub next : List ℕ
+
+abbrev pub drawing : List ℕ → List ℕ → List ℕ → Drawing
+drawing ends head next = record { ends = ends; head = head; next = next }
+
+-- before and after: a withdrawn line changes nothing, a standing one is drawn by its two halves
+pub data Drew (number : ℕ) (e : List ℤ) (a z : Drawing) : Type 0 where
+  withdrawn : eqZ (standingAt e 0) (pos 0) ≡ true → z .ends ≡ a .ends → z .head ≡ a .head → z .next ≡ a .next → Drew number e a z
+  drawn : eqZ (standingAt e 0) (pos 0) ≡ false
+      → z .ends ≡ set (set (a .ends) (number * 2) (endOf e toField)) (number * 2 + 1) (endOf e fromField)
+      → Joined (z .ends) (a .head) (a .next) (z .head) (z .next) number → Drew number e a z
 
 -- lines of a book of n - 1 marks, each good, and room to draw them
 pub record Sheet (n : ℕ) (ls : List ℤ) (ends head next : List ℕ) : Type 0 where

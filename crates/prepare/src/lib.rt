@@ -1,7 +1,7 @@
 // The lent book as the network works on it: drawn, and its tree planted.
 ghost use Prim.Native.Nat.{_+_};
 ghost use Rattle.book.specs.Good.{GoodLines};
-ghost use Rattle.prepare.specs.Drawn.{Entry, Drew, Sheet, BookDrawn};
+ghost use Rattle.prepare.specs.Drawn.{Entry, drawing, Drew, Sheet, BookDrawn};
 ghost use Rattle.prepare.specs.Prepared.{RoomBook, BookPlanted};
 use book::Book;
 use book::line::Line;
@@ -16,8 +16,8 @@ fn draw_line(
     number: usize,
 )
     requires { ⌜ Entry n number (now e) (now ends) (now head) (now next) ⌝ }
-    ensures { λ _. ⌜ Drew number (now (e .entry)) (now (ends .entry)) (now (head .entry)) (now (next .entry)) (now (ends .exit))
-        (now (head .exit)) (now (next .exit)) ⌝ }
+    ensures { λ _. ⌜ Drew number (now (e .entry)) (drawing (now (ends .entry)) (now (head .entry)) (now (next .entry)))
+        (drawing (now (ends .exit)) (now (head .exit)) (now (next .exit))) ⌝ }
 {
     if signed::same(e[Line::STANDING], 0) {
         return;

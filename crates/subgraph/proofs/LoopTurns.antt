@@ -27,7 +27,7 @@ use Rattle.chains.proofs.Halves.{line-from, line-to}
 use Rattle.chains.proofs.Joining.{bounded-fits}
 use Rattle.search.specs.Front.{RoomPath, Two, Held, Pathed, Written}
 use Rattle.subgraph.specs.Drawn.{TreeDrawn}
-use Rattle.subgraph.specs.LoopTurn.{Taking, Takes, Took, Reached, Queue, empty, next-is, Going}
+use Rattle.subgraph.specs.LoopTurn.{Taking, Takes, Turning, turning, Took, Reached, Queue, empty, next-is, Going}
 use Rattle.subgraph.proofs.Only.{in-first, in-more, in-cases}
 use Rattle.subgraph.proofs.Laying.{line-joins}
 
@@ -110,7 +110,7 @@ module _ {n q number : ℕ} {ends head next : List ℕ} (lines : List Line) (sub
         (pt (only sub lines) given))
 
     -- a path of one line
-    pub took-same : count ≡ 1 → Took lines sub c n out head next out′ count
+    pub took-same : count ≡ 1 → Took lines sub c n (turning head next out) (turning head next out′) count
     took-same e = record {
       written = written;
       drawn =
@@ -119,7 +119,7 @@ module _ {n q number : ℕ} {ends head next : List ℕ} (lines : List Line) (sub
     }
 
     pub took-more : {head′ next′ : List ℕ} → (count ≡ 1 → ⊥) → Joined ends head next head′ next′ number
-        → Took lines sub c n out head′ next′ out′ count
+        → Took lines sub c n (turning head next out) (turning head′ next′ out′) count
     took-more {head′ = head′} {next′ = next′} e jn = record {
       written = written;
       drawn =
@@ -285,8 +285,8 @@ module _ (n : ℕ) (lines : List Line) (close : List ℕ) where
       taking = next-taking li x;
     }
 
-    pub going-next : {head′ next′ out out′ : List ℕ} {count : ℕ} (x : Next) → Took lines (g .sub) (x .c) n out head′ next′ out′ count
-        → Going n (i + 1) lines close head′ next′
+    pub going-next : {a z : Turning} {count : ℕ} (x : Next) → Took lines (g .sub) (x .c) n a z count
+        → Going n (i + 1) lines close (z .head) (z .next)
     going-next x t = record {
       done = g .done ++ ((pass (x .c) true ∷ shortest (n - 1) (only (g .sub) lines) (x .c .to) (x .c .from)) ∷ []);
       rest = x .rest;
@@ -301,7 +301,7 @@ module _ (n : ℕ) (lines : List Line) (close : List ℕ) where
       drawn = t .drawn;
     }
 
-    pub going-more : {head′ next′ out out′ : List ℕ} {count : ℕ} (x : Next) (t : Took lines (g .sub) (x .c) n out head′ next′ out′ count)
+    pub going-more : {a z : Turning} {count : ℕ} (x : Next) (t : Took lines (g .sub) (x .c) n a z count)
         → going-next x t .done ≡ g .done ++ ((pass (x .c) true ∷ shortest (n - 1) (only (g .sub) lines) (x .c .to) (x .c .from)) ∷ [])
     unfolding going-next
     going-more x t = refl

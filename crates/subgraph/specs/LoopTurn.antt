@@ -33,15 +33,24 @@ pub record Takes (n number : ℕ) (ends head next best seg out : List ℕ) : Typ
   pub c : Line
   pub taking : Taking lines sub c n q number ends head next
 
--- the path of c is in out′, in so many lines, and the subgraph has c with it unless the path has one line
-pub record Took (lines : List Line) (sub : List ℕ) (c : Line) (n : ℕ) (out head′ next′ out′ : List ℕ) (count : ℕ) : Type 0 where
-  pub written : Written n (shortest (n - 1) (only sub lines) (c .to) (c .from)) out out′ count
-  pub drawn : Drawn (only (added (c .number) (shortest (n - 1) (only sub lines) (c .to) (c .from)) sub) lines) n head′ next′
+-- what a turn changes: the chains of the subgraph, and the places for the path
+pub record Turning : Type 0 where
+  pub head : List ℕ
+  pub next : List ℕ
+  pub out : List ℕ
 
-abbrev pub Taken : ℕ → ℕ → List ℕ → List ℕ → List ℕ → List ℕ → List ℕ → List ℕ → List ℕ → ℕ → Type 0
-Taken n number ends head next out head′ next′ out′ count =
-    (q : ℕ) (lines : List Line) (sub : List ℕ) (c : Line) → Taking lines sub c n q number ends head next
-    → Took lines sub c n out head′ next′ out′ count
+abbrev pub turning : List ℕ → List ℕ → List ℕ → Turning
+turning head next out = record { head = head; next = next; out = out }
+
+-- before and after: the path of c is written, in so many lines, and the subgraph has c with it unless the path has one line
+pub record Took (lines : List Line) (sub : List ℕ) (c : Line) (n : ℕ) (a z : Turning) (count : ℕ) : Type 0 where
+  pub written : Written n (shortest (n - 1) (only sub lines) (c .to) (c .from)) (a .out) (z .out) count
+  pub drawn : Drawn (only (added (c .number) (shortest (n - 1) (only sub lines) (c .to) (c .from)) sub) lines) n (z .head) (z .next)
+
+abbrev pub Taken : ℕ → ℕ → List ℕ → Turning → Turning → ℕ → Type 0
+Taken n number ends a z count =
+    (q : ℕ) (lines : List Line) (sub : List ℕ) (c : Line) → Taking lines sub c n q number ends (a .head) (a .next)
+    → Took lines sub c n a z count
 
 -- ---- how far the turns have come: these loops are done, these closing lines are left, and the subgraph has the lines sub
 

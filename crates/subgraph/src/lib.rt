@@ -2,7 +2,7 @@
 ghost use Rattle.chains.specs.Chains.{Bounded};
 ghost use Rattle.chains.specs.Link.{RoomChains};
 ghost use Rattle.subgraph.specs.Drawn.{Laid, RoomLay, TreeLaid};
-ghost use Rattle.subgraph.specs.LoopTurn.{Takes, Taken};
+ghost use Rattle.subgraph.specs.LoopTurn.{turning, Takes, Taken};
 
 // The line by which a mark of this key came in joins, unless the mark is a root. The answer is the count of lines that joined.
 fn lay_mark(ends: &[u64], head: &mut [u64], next: &mut [u64], n: usize, key: u64) -> usize
@@ -53,8 +53,8 @@ pub fn take_loop(
     number: usize,
 ) -> usize
     requires { ⌜ Takes n number (now ends) (now head) (now next) (now best) (now seg) (now out) ⌝ }
-    ensures { λ r. ⌜ Taken n number (now (ends .entry)) (now (head .entry)) (now (next .entry)) (now (out .entry))
-        (now (head .exit)) (now (next .exit)) (now (out .exit)) r ⌝ }
+    ensures { λ r. ⌜ Taken n number (now (ends .entry)) (turning (now (head .entry)) (now (next .entry)) (now (out .entry)))
+        (turning (now (head .exit)) (now (next .exit)) (now (out .exit))) r ⌝ }
 {
     let h = number * 2;
     let from = (ends[h + 1] % chains::HALVES) as usize;

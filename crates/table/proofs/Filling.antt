@@ -17,7 +17,7 @@ use Rattle.loops.specs.Table.{runsOf, Table}
 use Rattle.loops.proofs.Table.{codes-length, runs-append, runs-more}
 use Rattle.chains.specs.Chains.{numberLimit}
 use Rattle.search.specs.Front.{RoomPath}
-use Rattle.subgraph.specs.LoopTurn.{Taking, Takes, Took, Taken}
+use Rattle.subgraph.specs.LoopTurn.{Taking, Takes, turning, Turning, Took, Taken}
 use Rattle.subgraph.proofs.LoopTurns.{Next, going-turn, going-next, going-more, going-none, going-all}
 use Rattle.table.specs.Filled.{Ready, Fills, FilledTo}
 use Rattle.table.proofs.Runs.{run-on}
@@ -74,7 +74,7 @@ module _ {lines : List Line} {n i at : ℕ} {close head next starts runs : List 
     run-is = let two : number * 2 ≡ 2 * turn .c .number = omega (arith, number-is, turn .number) in ap (λ (x : ℕ). x ∷ codes path) two
 
     module _ {count : ℕ} {head′ next′ : List ℕ} (out′ : List ℕ)
-        (t : Took lines (f .going .sub) (turn .c) n lent head′ next′ out′ count) where
+        (t : Took lines (f .going .sub) (turn .c) n (turning head next lent) (turning head′ next′ out′) count) where
       abbrev done : List Loop
       done = f .going .done
 
@@ -173,8 +173,9 @@ module _ {n count : ℕ} {ends close head₀ next₀ : List ℕ} where
 
     pub all-next : (number : ℕ) (number-is : number ≡ getD close i 0) → i < length starts → at + 1 + n ≤ length runs
         → {c : ℕ} {head′ next′ : List ℕ} (out′ : List ℕ)
-        → Taken n number ends head next (midOf (at + 1) (length (set runs at (number * 2)) - (at + 1)) (set runs at (number * 2))) head′
-        next′ out′ c
+        → Taken n number ends
+        (turning head next (midOf (at + 1) (length (set runs at (number * 2)) - (at + 1)) (set runs at (number * 2))))
+        (turning head′ next′ out′) c
         → AllFilledTo n count (i + 1) (at + 1 + c) ends close head₀ next₀ head′ next′ (set starts i at)
         (putMid (at + 1) (length (set runs at (number * 2)) - (at + 1)) (set runs at (number * 2)) out′)
     all-next number number-is sf fits out′ t = record {
@@ -199,8 +200,8 @@ module _ {n count : ℕ} {ends close head₀ next₀ best₀ seg₀ starts₀ ru
   run-room e = omega (arith, f .runs-fit, runs-so-far now left)
 
   -- the path is shorter than there are marks
-  pub path-few : (number : ℕ) → number ≡ getD close i 0 → {out head′ next′ out′ : List ℕ} {c : ℕ}
-      → Taken n number ends head next out head′ next′ out′ c → c < n
+  pub path-few : (number : ℕ) → number ≡ getD close i 0 → {out : List ℕ} {z : Turning} {c : ℕ}
+      → Taken n number ends (turning head next out) z c → c < n
   path-few number e t = t (f .ready .q) (f .lines) (now .going .sub) (turn now left .c) (taking w lt (f .ready) number e) .written .few
 
   pub small-number : (number : ℕ) → number ≡ getD close i 0 → number < numberLimit
