@@ -2,6 +2,8 @@
 // A case on standard input (cases::case) has three numbers: how many heights are lent, the place of the height that is spoilt, and its
 // file's length. tests/adjust_cases.py makes the cases and, on its own, what is printed of them.
 use book::Book;
+use book::held::Held;
+use book::line::Line;
 use cases::case;
 use rates::Rate;
 
@@ -122,8 +124,8 @@ fn read_and_run(
     let b = signed::signed_count(book.b % 65536);
     let t = signed::signed_count(book.t % 65536);
     let n = book.n % 600;
-    let held_words = cases::at_most(book.h % 600 * 2, held.len());
-    let line_words = cases::at_most(n * 5, lines.len());
+    let held_words = cases::at_most(book.h % 600 * Held::WORDS, held.len());
+    let line_words = cases::at_most(n * Line::WORDS, lines.len());
     run(
         b,
         t,

@@ -8,15 +8,17 @@ ghost use lib.ListN.{length};
 
 mod words;
 
+use book::held::Held;
+use book::line::Line;
 use cases::case;
 use words::Sheet;
 
 // The worked network's numbers: one held entry, seven lines; its report of three rows is kept in space for four.
-const HELD_WORDS: usize = 2;
+const HELD_WORDS: usize = Held::WORDS;
 
-pub(crate) const LINES_WORDS: usize = 35;
+pub(crate) const LINES_WORDS: usize = 7 * Line::WORDS;
 
-pub(crate) const REPORT_WORDS: usize = 20;
+pub(crate) const REPORT_WORDS: usize = words::REPORT_ROWS * rows::ROW_WORDS;
 
 // The kinds of step: the three calls, the pen in held entries, lines or report, and the file read anew.
 pub(crate) const SURVEY: usize = 0;

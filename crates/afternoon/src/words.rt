@@ -1,9 +1,12 @@
 // What is printed, in a surveyor's words.
 ghost use Prim.Native.Nat.{_≤_, _+_};
 ghost use lib.ListN.{length};
+ghost use Rattle.loops.specs.Row.{rowWords};
 use crate::LINES_WORDS;
 use crate::REPORT_WORDS;
 use crate::Step;
+use book::held::Held;
+use book::line::Line;
 
 // The three sheets in which a number can change.
 pub(crate) enum Sheet {
@@ -12,14 +15,8 @@ pub(crate) enum Sheet {
     Report,
 }
 
-// Numbers of a held entry, of a line and of a row, and the rows that are printed.
-const HELD_WORDS: usize = 2;
-
-const LINE_WORDS: usize = 5;
-
-const ROW_WORDS: usize = 5;
-
-const REPORT_ROWS: usize = 4;
+// The rows that are printed.
+pub(crate) const REPORT_ROWS: usize = 4;
 
 fn put(text: &[u8]) {
     io::write_all(cases::STDOUT, text);
@@ -92,16 +89,16 @@ pub(crate) fn put_change(sheet: Sheet, at: usize, was: i64, is: i64) {
 }
 
 fn put_held_place(at: usize) {
-    count(b"    HELD", at / HELD_WORDS + 1);
-    match at % HELD_WORDS {
+    count(b"    HELD", at / Held::WORDS + 1);
+    match at % Held::WORDS {
         0 => put(b": MARK"),
         _ => put(b": HEIGHT"),
     }
 }
 
 fn put_line_place(at: usize) {
-    count(b"    LINE", at / LINE_WORDS + 1);
-    match at % LINE_WORDS {
+    count(b"    LINE", at / Line::WORDS + 1);
+    match at % Line::WORDS {
         0 => put(b": FROM"),
         1 => put(b": TO"),
         2 => put(b": DIFFERENCE"),
@@ -111,8 +108,8 @@ fn put_line_place(at: usize) {
 }
 
 fn put_row_place(at: usize) {
-    count(b"    ROW", at / ROW_WORDS + 1);
-    match at % ROW_WORDS {
+    count(b"    ROW", at / rows::ROW_WORDS + 1);
+    match at % rows::ROW_WORDS {
         0 => put(b": CLOSING LINE"),
         1 => put(b": LINES"),
         2 => put(b": LENGTH"),
@@ -157,18 +154,21 @@ pub(crate) fn put_report(number: usize, was: &[i64; REPORT_WORDS], is: &[i64; RE
     }
     let mut row = 0;
     while row < REPORT_ROWS {
-        put_row_at(was, is, row * ROW_WORDS);
+        put_row_at(was, is, row * rows::ROW_WORDS);
         row += 1;
     }
 }
 
 fn put_row_at(was: &[i64], is: &[i64], at: usize)
-    requires { ⌜ at + 5 ≤ length (now was) ⌝
-        ∗ ⌜ at + 5 ≤ length (now is) ⌝ }
+    requires { ⌜ at + rowWords ≤ length (now was) ⌝
+        ∗ ⌜ at + rowWords ≤ length (now is) ⌝ }
 {
-    count(b"    ROW", at / ROW_WORDS + 1);
-    put_row(&is[at..at + ROW_WORDS]);
-    if same(&was[at..at + ROW_WORDS], &is[at..at + ROW_WORDS]) {
+    count(b"    ROW", at / rows::ROW_WORDS + 1);
+    put_row(&is[at..at + rows::ROW_WORDS]);
+    if same(
+        &was[at..at + rows::ROW_WORDS],
+        &is[at..at + rows::ROW_WORDS],
+    ) {
         put(b", AS IT WAS");
     }
     put(b"\n");
@@ -176,18 +176,18 @@ fn put_row_at(was: &[i64], is: &[i64], at: usize)
 
 // A row in words; what names no closing line, number by number.
 fn put_row(row: &[i64])
-    requires { ⌜ 5 ≤ length (now row) ⌝ }
+    requires { ⌜ rowWords ≤ length (now row) ⌝ }
 {
-    if row[0] < 1 {
+    if row[rows::ROW_CLOSING] < 1 {
         put(b": EMPTY");
         put_numbers(row);
         return;
     }
-    amount(b": CLOSING LINE", row[0]);
-    amount(b", LINES", row[1]);
-    amount(b", LENGTH", row[2]);
-    amount(b", MISCLOSURE", row[3]);
-    put_verdict(row[4]);
+    amount(b": CLOSING LINE", row[rows::ROW_CLOSING]);
+    amount(b", LINES", row[rows::ROW_COUNT]);
+    amount(b", LENGTH", row[rows::ROW_LENGTH]);
+    amount(b", MISCLOSURE", row[rows::ROW_MISCLOSURE]);
+    put_verdict(row[rows::ROW_VERDICT]);
 }
 
 fn put_verdict(verdict: i64) {

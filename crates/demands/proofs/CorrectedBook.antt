@@ -17,6 +17,7 @@ use Rattle.network.specs.Redone.{redonePass, redone}
 use Rattle.network.specs.Standing.{standing}
 use Rattle.network.specs.Without.{without}
 use Rattle.loops.proofs.Rerun.{rerun-keeps-loops}
+use Rattle.loops.specs.Row.{rowWords}
 use Rattle.loops.proofs.Row.{rows-length}
 use Rattle.loops.proofs.Withdrawal.{loops-never-grow}
 use Rattle.loops.specs.Loops.{loops}
@@ -88,8 +89,8 @@ module _ (book : Lent) (number : ℤ) (i : ℕ) (stands : Stands (book .lines) n
 
 -- ---- the loops of the corrected book
 
--- a report is five numbers to a loop
-pub report-length : (b t : ℕ) (lines : List ℤ) → length (reportOf b t lines) ≡ 5 * length (loopsOf b lines)
+-- a report is a row to a loop
+pub report-length : (b t : ℕ) (lines : List ℤ) → length (reportOf b t lines) ≡ rowWords * length (loopsOf b lines)
 unfolding reportOf
 report-length b t lines = rows-length t (loopsOf b lines)
 

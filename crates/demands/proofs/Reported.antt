@@ -68,7 +68,7 @@ pub report-row : (b t : ℕ) (lines rest : List ℤ) (i : ℕ) → i < length (l
 unfolding reportOf
 report-row b t lines rest i h =
     row-of t (reportOf b t lines ++ rest) i (loopAt (loopsOf b lines) i) (λ j l.
-    List·getD-append (reportOf b t lines) rest (pos 0) (5 * i + j) (omega (arith, rows-length t (loopsOf b lines)))
+    List·getD-append (reportOf b t lines) rest (pos 0) (rowWords * i + j) (omega (arith, rows-length t (loopsOf b lines)))
     ∙ row-at t (loopsOf b lines) i h j l)
 
 -- a list that is done

@@ -1,6 +1,8 @@
 // Adjusts the book file on standard input and prints a sheet to pin to the wall: the height of every mark in metres, and of every line its
 // correction in mm and its rate in mm per km. A refused book is one line, as in the report.
 use book::Book;
+use book::held::Held;
+use book::line::Line;
 use rates::RateRow;
 
 fn put(text: &[u8]) {
@@ -92,7 +94,7 @@ fn put_refusal(number: usize, place: usize) {
 }
 
 fn is_held(held: &[i64], mark: i64) -> bool {
-    let h = held.len() / 2;
+    let h = held.len() / Held::WORDS;
     let mut i = 0;
     while i < h {
         if signed::same(held[i * 2], mark) {
@@ -158,7 +160,7 @@ fn sheet(t: i64, held: &[i64], lines: &[i64], heights: &mut [i64], n: usize) {
         return;
     }
     put(b"ADJUSTED HEIGHTS\n");
-    put_counts(heights.len(), n, held.len() / 2, a.sweeps);
+    put_counts(heights.len(), n, held.len() / Held::WORDS, a.sweeps);
     put_heights(held, heights);
     put_rates(b, t, held, lines, heights, n);
 }
@@ -172,8 +174,8 @@ fn run(file: &[u8], held: &mut [i64], lines: &mut [i64], heights: &mut [i64]) {
     }
     let t = signed::signed_count(book.t % 65536);
     let n = book.n % 600;
-    let held_words = cases::at_most(book.h % 600 * 2, held.len());
-    let line_words = cases::at_most(n * 5, lines.len());
+    let held_words = cases::at_most(book.h % 600 * Held::WORDS, held.len());
+    let line_words = cases::at_most(n * Line::WORDS, lines.len());
     let marks = cases::at_most(book.b, heights.len());
     sheet(
         t,

@@ -2,6 +2,8 @@
 // A case on standard input (cases::case) has one number, its file's length.
 // tests/survey_cases.py makes the cases and, on its own, what is printed of them.
 use book::Book;
+use book::held::Held;
+use book::line::Line;
 use cases::case;
 
 const NUMBERS: usize = 1;
@@ -88,8 +90,8 @@ fn run(file: &[u8], held: &mut [i64], lines: &mut [i64], report: &mut [i64]) {
     let b = signed::signed_count(book.b % 65536);
     let t = signed::signed_count(book.t % 65536);
     let n = book.n % 600;
-    let held_words = cases::at_most(book.h % 600 * 2, held.len());
-    let line_words = cases::at_most(n * 5, lines.len());
+    let held_words = cases::at_most(book.h % 600 * Held::WORDS, held.len());
+    let line_words = cases::at_most(n * Line::WORDS, lines.len());
     survey_and_correct(
         b,
         t,
