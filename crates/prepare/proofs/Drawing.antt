@@ -25,7 +25,7 @@ use Rattle.chains.specs.Link.{RoomChains, Fits, Joined, Wider}
 use Rattle.chains.proofs.Halves.{half-no, told-mark}
 use Rattle.chains.proofs.Joining.{join-draws, draws-none}
 use Rattle.chains.proofs.Order.{join-order, order-none}
-use Rattle.prepare.specs.Drawn.{Entry, endOf, drawing, Drew, withdrawn, drawn, Sheet, BookDrawn}
+use Rattle.prepare.specs.Drawn.{Entry, endOf, drawing, Drew, withdrawn, drawn, RoomDraw, BookDrawn}
 
 -- ---- a line of the book
 
@@ -293,20 +293,20 @@ part-is ls i =
     ap (λ (k : ℕ). take k (drop (i * lineWords) ls)) z
 
 module _ (n : ℕ) (ls : List ℤ) (j : ℕ) (ends head next ends₀ head₀ next₀ : List ℕ) (low : 0 < j) (high : j ≤ lineCount ls)
-    (sh : Sheet n ls ends₀ head₀ next₀) (room : RoomChains n head next) (d : DrawingAt n ls j ends head next) where
+    (room₀ : RoomDraw n ls ends₀ head₀ next₀) (room : RoomChains n head next) (d : DrawingAt n ls j ends head next) where
   back-one : j ≡ suc (j - 1)
   back-one = omega arith
 
   good-at : GoodLine (n - 1) ls (j - 1)
-  good-at = sh .good (j - 1) (omega arith)
+  good-at = room₀ .good (j - 1) (omega arith)
 
   pub entry-asked : Entry n j (partAt ls (j - 1)) ends head next
   entry-asked = record {
     whole = rw (part-is ls (j - 1)) (entry-whole ls (j - 1) (omega arith));
-    some-mark = sh .some-mark;
-    few-marks = sh .few-marks;
+    some-mark = room₀ .some-mark;
+    few-marks = room₀ .few-marks;
     good = rw (part-is ls (j - 1)) (good-entry (n - 1) ls (j - 1) good-at);
-    number-ok = omega (arith, sh .few);
+    number-ok = omega (arith, room₀ .few);
     ends-at = d .bounded .ends-at;
     chains = room;
   }
@@ -314,7 +314,7 @@ module _ (n : ℕ) (ls : List ℤ) (j : ℕ) (ends head next ends₀ head₀ nex
   pub draw-turn : (ends′ head′ next′ : List ℕ) → Drew j (partAt ls (j - 1)) (drawing ends head next) (drawing ends′ head′ next′)
       → DrawingAt n ls (j - 1) ends′ head′ next′
   draw-turn ends′ head′ next′ dr =
-      draw-next n ls (j - 1) ends head next ends′ head′ next′ (omega arith) (sh .few) (sh .few-marks) (sh .some-mark) room good-at
+      draw-next n ls (j - 1) ends head next ends′ head′ next′ (omega arith) (room₀ .few) (room₀ .few-marks) (room₀ .some-mark) room good-at
       (subst (λ (k : ℕ). DrawingAt n ls k ends head next) back-one d)
       (subst (λ (k : ℕ). Drew k (entryAt ls (j - 1)) (drawing ends head next) (drawing ends′ head′ next′)) back-one
       (rw (part-is ls (j - 1)) at dr))

@@ -9,13 +9,13 @@ use Rattle.book.specs.Good.{GoodLine, GoodLines}
 use Rattle.book.specs.declared.Book.{Book}
 use Rattle.book.proofs.Places.{count-of}
 use Rattle.tree.specs.Plant.{RoomTree}
-use Rattle.prepare.specs.Drawn.{Sheet}
+use Rattle.prepare.specs.Drawn.{RoomDraw}
 use Rattle.prepare.specs.Prepared.{RoomBook}
 
 module _ (k : Book) (ls : List ℤ) (g : GoodLines k ls) {ends head next best seg order : List ℕ}
     (room : RoomBook ends head next best seg order) where
-  pub sheet-of : Sheet (k .marks + 1) ls ends head next
-  sheet-of =
+  pub draw-room : RoomDraw (k .marks + 1) ls ends head next
+  draw-room =
       let lines-are : lineCount ls ≡ k .lines = count-of ls (k .lines) (g .good .whole) in
       let marks-are : k .marks + 1 - 1 ≡ k .marks = omega arith in
       record {

@@ -44,7 +44,7 @@ pub data Drew (number : ℕ) (e : List ℤ) (a z : Drawing) : Type 0 where
       → Joined (z .ends) (a .head) (a .next) (z .head) (z .next) number → Drew number e a z
 
 -- lines of a book of n - 1 marks, each good, and room to draw them
-pub record Sheet (n : ℕ) (ls : List ℤ) (ends head next : List ℕ) : Type 0 where
+pub record RoomDraw (n : ℕ) (ls : List ℤ) (ends head next : List ℕ) : Type 0 where
   pub some-mark : 0 < n
   pub few-marks : n ≤ halves
   pub few : lineCount ls + 1 < numberLimit

@@ -1,7 +1,7 @@
 // The lent book as the network works on it: drawn, and its tree planted.
 ghost use Prim.Native.Nat.{_+_};
 ghost use Rattle.book.specs.Good.{GoodLines};
-ghost use Rattle.prepare.specs.Drawn.{Entry, drawing, Drew, Sheet, BookDrawn};
+ghost use Rattle.prepare.specs.Drawn.{Entry, drawing, Drew, RoomDraw, BookDrawn};
 ghost use Rattle.prepare.specs.Prepared.{RoomBook, BookPlanted};
 use book::Book;
 use book::line::Line;
@@ -32,7 +32,7 @@ fn draw_line(
 
 // The book is drawn, from its last line to its first.
 fn draw_book(lines: &[i64], ends: &mut [u64], head: &mut [u64], next: &mut [u64], n: usize)
-    requires { ⌜ Sheet n (now lines) (now ends) (now head) (now next) ⌝ }
+    requires { ⌜ RoomDraw n (now lines) (now ends) (now head) (now next) ⌝ }
     ensures { λ _. ⌜ BookDrawn n (now (lines .entry)) (now (ends .exit)) (now (head .exit)) (now (next .exit)) ⌝ }
 {
     chains::zero(ends, chains::HALVES as usize);

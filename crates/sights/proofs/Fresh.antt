@@ -35,9 +35,9 @@ range-zeros w b l = record {
   weightIn = λ j. rw (all-zero w j) zero-le;
 }
 
-pub broad-zeros : (lines : List ℤ) (b n f w t : ℕ) → Lines lines b n → b < f → b ≤ t → 2 * n ≤ w
+pub room-zeros : (lines : List ℤ) (b n f w t : ℕ) → Lines lines b n → b < f → b ≤ t → 2 * n ≤ w
     → RoomRows (sightsOf (standing lines)) (zeros f) (columns (zeros w) (nulls w) (zeros w)) (zeros t) b
-broad-zeros lines b n f w t good lf lt lw =
+room-zeros lines b n f w t good lf lt lw =
     let fairs = fair-lines lines b n good in
     let most = taken-most fairs b in
     record {

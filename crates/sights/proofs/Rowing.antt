@@ -114,7 +114,7 @@ module _ (sights : ℕ → List Sight) where
 
   -- the last row ends at place c, which is written too: the table
   module _ (first : List ℕ) (cols : Columns) (total first′ : List ℕ) (b c : ℕ)
-      (broad : RoomRows sights first′ cols total b)
+      (room : RoomRows sights first′ cols total b)
       (h : Rowed sights first cols total b b c) (l : b < length first) (ef : first′ ≡ set first b c) where
     first-at : (u : ℕ) → u ≤ b → getD first′ u 0 ≡ taken sights u
     first-at u s =
@@ -130,39 +130,39 @@ module _ (sights : ℕ → List Sight) where
 
     pub table-is : Table first′ cols total b
     table-is = record {
-      firsts = broad .firsts;
-      totals = broad .totals;
+      firsts = room .firsts;
+      totals = room .totals;
       span = λ v s. rw (add-one v, first-at v (omega arith), first-at (suc v) s)
-          (record { order = omega (arith, taken-more v); few = omega (arith, taken-more v, broad .few (suc v)) });
+          (record { order = omega (arith, taken-more v); few = omega (arith, taken-more v, room .few (suc v)) });
       ends = λ v s. rw (add-one v, first-at (suc v) s)
-          (record { room = room-less (broad .upto) (taken-up (suc v) b s); range = h .range });
+          (record { room = room-less (room .upto) (taken-up (suc v) b s); range = h .range });
       sum = λ v s. h .totals v s ∙ ap weights (sym (rows-are v s));
     }
 
   -- there is room for the next row, and its weights can be summed
   module _ (first : List ℕ) (cols : Columns) (total : List ℕ) (b v c : ℕ)
-      (broad : RoomRows sights first cols total b) (h : Rowed sights first cols total b v c) (l : v < b)
+      (room : RoomRows sights first cols total b) (h : Rowed sights first cols total b v c) (l : v < b)
       (ss : List Sight) (es : ss ≡ sights (suc v)) where
     end-here : c + length ss ≤ taken sights b
     end-here = let e = ap length es in omega (arith, h .next, taken-more v, taken-up (suc v) b l)
 
     pub row-room : RoomUpto cols (c + length ss)
-    row-room = room-less (broad .upto) end-here
+    row-room = room-less (room .upto) end-here
 
     pub row-weights : (weight′ : List ℕ) (e : ℕ) → e ≡ c + length ss → length weight′ ≡ length (cols .weight)
         → ((j : ℕ) → getD weight′ j 0 ≤ mostWeight) → Weighable weight′ c e
     row-weights weight′ e ee k s =
-        let f = broad .few (suc v) in
+        let f = room .few (suc v) in
         let n = ap length es in
-        record { long = omega (arith, end-here, broad .upto .weighed); span = record { order = omega arith; few = omega arith }; small = s }
+        record { long = omega (arith, end-here, room .upto .weighed); span = record { order = omega arith; few = omega arith }; small = s }
 
   -- room is kept where lengths are
-  pub broad-kept : (first : List ℕ) (cols : Columns) (total first′ : List ℕ) (cols′ : Columns) (total′ : List ℕ) (b : ℕ)
+  pub room-kept : (first : List ℕ) (cols : Columns) (total first′ : List ℕ) (cols′ : Columns) (total′ : List ℕ) (b : ℕ)
       → RoomRows sights first cols total b → length first′ ≡ length first → length (cols′ .other) ≡ length (cols .other)
       → length (cols′ .rise) ≡ length (cols .rise) → length (cols′ .weight) ≡ length (cols .weight)
       → length total′ ≡ length total
       → RoomRows sights first′ cols′ total′ b
-  broad-kept first cols total first′ cols′ total′ b h ef eo er ew et = record {
+  room-kept first cols total first′ cols′ total′ b h ef eo er ew et = record {
     firsts = omega (arith, h .firsts);
     totals = omega (arith, h .totals);
     upto = record {

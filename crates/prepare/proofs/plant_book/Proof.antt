@@ -1,12 +1,12 @@
 use borrow.Author.Needs.{needs}
-use Rattle.prepare.proofs.Preparing.{sheet-of, tree-of}
+use Rattle.prepare.proofs.Preparing.{draw-room, tree-of}
 use Rattle.prepare.proofs.plant_book.Statement.{statement}
 use Rattle.prepare.proofs.plant_book.Tie as tie
 
 draw-book-requires : tie.Need-draw-book-requires
 draw-book-requires c κs =
     let entry : tie.Start = search in
-    sheet-of _ _ (entry .pre .0) (entry .pre .1)
+    draw-room _ _ (entry .pre .0) (entry .pre .1)
 
 plant-requires : tie.Need-plant-requires
 plant-requires c κs =

@@ -3,7 +3,7 @@ use Prim.Native.Nat.{ℕ, _-_, _≤_, _<_}
 use native.Mathlib.Omega.{arith}
 use Rattle.sights.specs.Sights.{sightsOf}
 use Rattle.sights.specs.Table.{columns, Rowed}
-use Rattle.sights.proofs.Rowing.{rowed-none, broad-kept, table-is, rows-are}
+use Rattle.sights.proofs.Rowing.{rowed-none, room-kept, table-is, rows-are}
 use borrow.Author.Needs.{needs}
 use lib.ListN.{length, set, length-set}
 use Rattle.network.specs.Standing.{standing}
@@ -43,7 +43,7 @@ write-row-requires c κs =
         (
           l .inv .6,
           (
-            broad-kept _ _ _ _ _ _ _ _ (s .pre .1 .1 .1) (l .inv .1) (l .inv .2) (l .inv .3) (l .inv .4) (l .inv .5),
+            room-kept _ _ _ _ _ _ _ _ (s .pre .1 .1 .1) (l .inv .1) (l .inv .2) (l .inv .3) (l .inv .4) (l .inv .5),
             in-loop .loop-test .taken,
           ),
         ),
@@ -96,7 +96,7 @@ returns c =
     subst (λ (v : ℕ). Rowed (sightsOf (standing (s .args .lines .now))) (l .first) (columns (l .other) (l .rise) (l .weight)) (l .total)
     (s .args .b) v (l .c)) e (l .inv .6) in
     let r =
-    broad-kept _ _ _ _ f (columns (l .other) (l .rise) (l .weight)) (l .total) _ (s .pre .1 .1 .1)
+    room-kept _ _ _ _ f (columns (l .other) (l .rise) (l .weight)) (l .total) _ (s .pre .1 .1 .1)
     (simp length-set (l .inv .1)) (l .inv .2) (l .inv .3) (l .inv .4) (l .inv .5) in
     let k : s .args .b < length (l .first) = omega (arith, s .pre .1 .1 .1 .firsts, l .inv .1) in (
       table-is _ _ _ _ _ _ _ r h k refl,

@@ -4,7 +4,7 @@ use Rattle.network.specs.Standing.{standing}
 use Rattle.sights.specs.Sights.{sightsOf}
 use Rattle.sights.specs.Table.{rows}
 use Rattle.sweeps.specs.MarkTurns.{flags}
-use Rattle.sights.proofs.Fresh.{range-zeros, broad-zeros}
+use Rattle.sights.proofs.Fresh.{range-zeros, room-zeros}
 use Rattle.sweeps.proofs.States.{settle-same}
 use borrow.Author.Needs.{needs}
 use Rattle.sweeps.proofs.settle_lines.Statement.{statement}
@@ -19,7 +19,7 @@ write-rows-requires c κs =
         s .pre .1 .0,
         (
           range-zeros 1024 _ (q .0),
-          broad-zeros _ _ _ 257 1024 256 (s .pre .0) (omega (arith, q .1)) (q .1)
+          room-zeros _ _ _ 257 1024 256 (s .pre .0) (omega (arith, q .1)) (q .1)
               (omega (arith, s .pre .0 .few)),
         ),
       ),
