@@ -1,6 +1,6 @@
 -- A tested book with one number of a standing line set: it stays good, and has no more rows.
 -- Assumes nothing.
-use mathlib.Core.Path.{_≡_, refl, _∙_, ap}
+use mathlib.Core.Path.{_≡_, refl, sym, _∙_, ap}
 use mathlib.Core.Bool.{false}
 use mathlib.Core.List.{List, List·Memᴰ}
 use Prim.Native.Nat.{ℕ, suc, _-_, _≤_, _<_}
@@ -13,9 +13,9 @@ use Rattle.laws.specs.Tests.{outZ, eqZ}
 use Rattle.laws.proofs.Tests.{or-left, or-right, eqZ-apart}
 use Rattle.laws.specs.Range.{Between}
 use Rattle.laws.proofs.Size.{between}
-use Rattle.book.specs.Limits.{mostDifference}
+use Rattle.book.specs.Limits.{mostDifference, mostLines}
 use Rattle.book.specs.Line.{fromField, toField, differenceField, lengthField, standingField, place, field, differenceAt, standingAt}
-use Rattle.book.specs.Line.{lineCount}
+use Rattle.book.specs.Line.{lineWords, lineCount}
 use Rattle.book.specs.Good.{GoodLine, GoodLines}
 use Rattle.book.specs.declared.Book.{Book}
 use Rattle.network.specs.Standing.{standing}
@@ -40,6 +40,16 @@ stands-of lines number e =
       there = omega (arith, b .low, b .high);
       not-withdrawn = eqZ-apart (standingAt lines (natAbs number - 1)) (pos 0) (or-right out gone e);
     }
+
+-- its number is one of a book's
+pub number-is : {k : Book} {lines : List ℤ} {number : ℤ} {i : ℕ} → GoodLines k lines → Stands lines number i → Between 1 mostLines number
+number-is g w =
+    let n = ap natAbs (w .its-number) in
+    record { is = w .its-number ∙ ap pos (sym n); low = omega (arith, n); high = omega (arith, n, w .there, g .good .few, g .good .whole) }
+
+-- and its numbers are in the slice
+pub place-inside : {lines : List ℤ} {number : ℤ} {i : ℕ} → Stands lines number i → {j : ℕ} → j < lineWords → placeOf number j < length lines
+place-inside w l = let n = ap natAbs (w .its-number) in omega (arith, n, w .there)
 
 -- where the number of a standing line's field is
 pub place-is : {lines : List ℤ} {number : ℤ} {i : ℕ} → Stands lines number i → (j : ℕ) → placeOf number j ≡ place i j

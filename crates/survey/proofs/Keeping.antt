@@ -2,7 +2,7 @@
 -- Assumes nothing.
 use Prim.Native.Nat.{ℕ, zero, suc, _+_, _*_, _-_, _≤_, _<_}
 use native.Mathlib.Omega.{arith}
-use mathlib.Core.Path.{_≡_, refl, sym, _∙_, ap}
+use mathlib.Core.Path.{_≡_, refl, sym, _∙_, ap, subst}
 use mathlib.Core.Bool.{Bool, true, false, cond}
 use mathlib.Core.List.{List, [], _++_, append-nil}
 use lib.IntN.{ℤ, pos}
@@ -13,7 +13,9 @@ use Rattle.book.specs.Limits.{mostLines}
 use Rattle.book.specs.Good.{GoodLines}
 use Rattle.book.specs.declared.Book.{Book}
 use Rattle.loops.specs.Row.{rowWords}
+use Rattle.loops.specs.Loops.{Loop}
 use Rattle.loops.specs.Report.{loopsOf, reportOf}
+use Rattle.loops.specs.Table.{Table}
 use Rattle.loops.proofs.Sounding.{few-loops, report-length}
 use Rattle.table.specs.Filled.{foundIn}
 use Rattle.table.specs.declared.Found.{Found}
@@ -22,19 +24,31 @@ use Rattle.book.specs.Test.{refusal}
 use Rattle.survey.specs.Report.{refusedWith, countOf, counted}
 use Rattle.survey.specs.Survey.{Surveyed, surveyed, surveyGood}
 use Rattle.survey.specs.Correction.{noLine, otherReport, updated, corrected, correctGood}
-use Rattle.survey.specs.Kept.{keptOf, Refresh, Refreshed}
+use Rattle.survey.specs.Kept.{keptOf, OwnTable, Refresh, Refreshed}
 use Rattle.survey.specs.declared.Answer.{Answer}
 use Rattle.survey.specs.declared.correct.Kept.{Kept}
-use Rattle.survey.specs.declared.correct.Kept.the-variants.{Own, Other}
+use Rattle.survey.specs.declared.correct.Kept.the-variants.{Own, Refused}
 
--- what was made of the comparison tells its test
-told-other : (t : Bool) (f : Found) → cond t Other (Own f) ≡ Other → t ≡ true
-told-other true f e = refl
-told-other false f e = let z : _≡_ {A = ℕ} 0 1 = cc in absurd (omega arith)
+-- what was made of the two tests tells of them
+told-own : (s t : Bool) (f h : Found) → cond s (Refused 8) (cond t (Refused 9) (Own f)) ≡ Own h → (s ≡ false) × (t ≡ false) × (h ≡ f)
+told-own true t f h e = let z : _≡_ {A = ℕ} 0 1 = cc in absurd (omega arith)
+told-own false true f h e = let z : _≡_ {A = ℕ} 0 1 = cc in absurd (omega arith)
+told-own false false f h e = (refl, refl, cc)
 
-told-own : (t : Bool) (f h : Found) → cond t Other (Own f) ≡ Own h → (t ≡ false) × (h ≡ f)
-told-own true f h e = let z : _≡_ {A = ℕ} 0 1 = cc in absurd (omega arith)
-told-own false f h e = (refl, cc)
+-- and of what is refused
+told-refused : {A : Type 0} (s t : Bool) (f : Found) (n : ℕ) (give : ℕ → A) (go : A)
+    → cond s (Refused 8) (cond t (Refused 9) (Own f)) ≡ Refused n → give n ≡ cond s (give 8) (cond t (give 9) go)
+told-refused true t f n give go e = ap give (cc)
+told-refused false true f n give go e = ap give (cc)
+told-refused false false f n give go e = let z : _≡_ {A = ℕ} 0 1 = cc in absurd (omega arith)
+
+pub no-table : (n : ℕ) {ls : List Loop} {starts runs : List ℕ} → OwnTable (Refused n) ls starts runs
+no-table n found e = let z : _≡_ {A = ℕ} 0 1 = cc in absurd (omega arith)
+
+pub own-table : {ls : List Loop} {starts runs : List ℕ} {f : Found} → Table ls starts runs (f .count) → OwnTable (Own f) ls starts runs
+own-table {ls = ls} {starts = starts} {runs = runs} {f = f} t found e =
+    let same : f ≡ found = cc in
+    subst (λ (x : Found). Table ls starts runs (x .count)) same t
 
 module _ (k : Book) (ls : List ℤ) (g : GoodLines k ls) where
   abbrev pub fresh : List ℤ
@@ -87,23 +101,31 @@ module _ (k : Book) (ls : List ℤ) (g : GoodLines k ls) where
 
   -- ---- the comparison
 
-  module _ (report : List ℤ) (r : Bool) (flag : r ≡ otherReport report fresh) where
-    pub kept-other : r ≡ true → Other ≡ keptOf k ls report
+  module _ (report : List ℤ) (number : ℤ) where
+    pub kept-none : noLine ls number ≡ true → Refused 8 ≡ keptOf k ls report number
     unfolding keptOf
-    kept-other t = rw (← flag, t)
+    kept-none s = rw s
 
-    pub kept-own : {f : Found} → f ≡ foundIn (k .marks) ls → r ≡ false → Own f ≡ keptOf k ls report
+    pub kept-other : noLine ls number ≡ false → otherReport report fresh ≡ true → Refused 9 ≡ keptOf k ls report number
     unfolding keptOf
-    kept-own e t = rw (← flag, t, e)
+    kept-other s t = rw (s, t)
 
-  module _ (report : List ℤ) (m : Kept) (e : m ≡ keptOf k ls report) where
-    pub is-other : m ≡ Other → otherReport report fresh ≡ true
+    pub kept-own : {f : Found} → noLine ls number ≡ false → otherReport report fresh ≡ false → f ≡ foundIn (k .marks) ls
+        → Own f ≡ keptOf k ls report number
     unfolding keptOf
-    is-other h = told-other (otherReport report fresh) (foundIn (k .marks) ls) (sym e ∙ h)
+    kept-own s t e = rw (s, t, e)
 
-    pub is-own : (f : Found) → m ≡ Own f → (otherReport report fresh ≡ false) × (f ≡ foundIn (k .marks) ls)
+  module _ (report : List ℤ) (number : ℤ) {m : Kept} (e : m ≡ keptOf k ls report number) where
+    pub is-own : {f : Found} → m ≡ Own f → (noLine ls number ≡ false) × (otherReport report fresh ≡ false) × (f ≡ foundIn (k .marks) ls)
     unfolding keptOf
-    is-own f h = told-own (otherReport report fresh) (foundIn (k .marks) ls) f (sym e ∙ h)
+    is-own {f = f} h = told-own (noLine ls number) (otherReport report fresh) (foundIn (k .marks) ls) f (sym e ∙ h)
+
+    pub is-refused : {n : ℕ} (new : List ℤ) → m ≡ Refused n
+        → corrected (refusedWith (refusal n 0)) ls report ≡ correctGood k ls report number new
+    unfolding keptOf correctGood
+    is-refused {n = n} new h =
+        told-refused (noLine ls number) (otherReport report fresh) (foundIn (k .marks) ls) n
+        (λ (n : ℕ). corrected (refusedWith (refusal n 0)) ls report) _ (sym e ∙ h)
 
   -- the book's own report is as long as its rows
   pub own-places : (report : List ℤ) → otherReport report fresh ≡ false → length fresh ≤ length report

@@ -1,25 +1,25 @@
 // Re-run and withdrawal of a line of a tested book.
 ghost use mathlib.Core.Path.{_≡_};
-ghost use Prim.Native.Nat.{_*_, _≤_};
+ghost use Prim.Native.Nat.{_≤_, _<_};
 ghost use lib.IntN.{natAbs};
-ghost use lib.ListN.{length};
-ghost use Rattle.book.specs.Limits.{mostDifference};
+ghost use Rattle.laws.specs.Range.{Between};
+ghost use Rattle.book.specs.Limits.{mostDifference, mostLines};
+ghost use Rattle.book.specs.Line.{lineWords};
 ghost use Rattle.book.specs.Good.{GoodLines};
 ghost use Rattle.loops.specs.Report.{loopsOf};
-ghost use Rattle.loops.specs.Table.{Table};
 ghost use Rattle.table.specs.Filled.{RoomTable};
-ghost use Rattle.survey.specs.Kept.{keptOf, Refresh, Refreshed};
-ghost use Rattle.survey.specs.Correction.{noLine, rerunLines, withdrawLines, corrected, correctGood};
+ghost use Rattle.survey.specs.Kept.{keptOf, OwnTable, Refresh, Refreshed};
+ghost use Rattle.survey.specs.Correction.{noLine, placeOf, rerunLines, withdrawLines, corrected, correctGood};
 use crate::Answer;
 use crate::report;
 use book::Book;
 use book::line::Line;
 use table::Found;
 
-// The lent report is the book's own, with these counts; or it is another's.
+// The line stands and the lent report is the book's own, with these counts; or the number of the refusal.
 pub enum Kept {
     Own(Found),
-    Other,
+    Refused(usize),
 }
 
 // Whether no line of this number stands.
@@ -34,29 +34,41 @@ fn no_line(lines: &[i64], number: i64) -> bool
     signed::same(lines[at + Line::STANDING], 0)
 }
 
-// The loops are found, and the lent report is compared with their rows.
+// Refusal 8; or the loops are found, and the lent report is compared with their rows: refusal 9.
 fn kept_report(
     book: Book,
     lines: &[i64],
     report: &[i64],
+    number: i64,
     starts: &mut [u64],
     runs: &mut [u16],
 ) -> Kept
     requires { ⌜ GoodLines book (now lines) ⌝
         ∗ ⌜ RoomTable (now starts) (now runs) ⌝ }
-    ensures { λ r. ⌜ r ≡ keptOf book (now (lines .entry)) (now (report .entry)) ⌝
-        ∗ ⌜ Table (loopsOf (book .marks) (now (lines .entry))) (now (starts .exit)) (now (runs .exit))
-        (length (loopsOf (book .marks) (now (lines .entry)))) ⌝ }
+    ensures { λ r. ⌜ r ≡ keptOf book (now (lines .entry)) (now (report .entry)) number ⌝
+        ∗ ⌜ OwnTable r (loopsOf (book .marks) (now (lines .entry))) (now (starts .exit)) (now (runs .exit)) ⌝ }
 {
+    if no_line(lines, number) {
+        return Kept::Refused(8);
+    }
     let found = table::find_loops(book, lines, starts, runs);
     let count = found.count;
     let mut rows = [0i64; rows::ROWS_WORDS];
     rows::write_rows(book, lines, starts, runs, count, &mut rows[..]);
     let words = count * rows::ROW_WORDS;
     if kept::differs(report, &rows[..words]) {
-        return Kept::Other;
+        return Kept::Refused(9);
     }
     Kept::Own(found)
+}
+
+// Where number k of the line of this number stands in the book.
+fn place_of(number: i64, k: usize) -> usize
+    requires { ⌜ Between 1 mostLines number ⌝
+        ∗ ⌜ k < lineWords ⌝ }
+    ensures { λ r. ⌜ r ≡ placeOf number k ⌝ }
+{
+    (signed::magnitude(number) - 1) * Line::WORDS + k
 }
 
 // Refusals 8 and 9, or the line's difference is set and the report brought up to date. A re-run keeps every loop's lines, so that the
@@ -73,20 +85,18 @@ pub(crate) fn rerun_good(
     ensures { λ r. ⌜ corrected r (now (lines .exit)) (now (report .exit))
         ≡ correctGood book (now (lines .entry)) (now (report .entry)) number (rerunLines (now (lines .entry)) number difference) ⌝ }
 {
-    if no_line(lines, number) {
-        return crate::refuse(8, 0);
-    }
     let mut starts = [0u64; table::STARTS];
     let mut runs = [0u16; table::RUNS];
-    let kept = kept_report(book, lines, report, &mut starts[..], &mut runs[..]);
-    let Kept::Own(found) = kept else {
-        return crate::refuse(9, 0);
-    };
-    let at = (signed::magnitude(number) - 1) * Line::WORDS + Line::DIFFERENCE;
-    lines[at] = difference;
-    let count = found.count;
-    rows::write_rows(book, lines, &starts[..], &runs[..], count, report);
-    crate::count_of(found)
+    match kept_report(book, lines, report, number, &mut starts[..], &mut runs[..]) {
+        Kept::Refused(n) => crate::refuse(n, 0),
+        Kept::Own(found) => {
+            let at = place_of(number, Line::DIFFERENCE);
+            lines[at] = difference;
+            let count = found.count;
+            rows::write_rows(book, lines, &starts[..], &runs[..], count, report);
+            crate::count_of(found)
+        }
+    }
 }
 
 // The report becomes that of the book as it now stands; it kept so many rows before.
@@ -112,16 +122,14 @@ pub(crate) fn withdraw_good(
     ensures { λ r. ⌜ corrected r (now (lines .exit)) (now (report .exit))
         ≡ correctGood book (now (lines .entry)) (now (report .entry)) number (withdrawLines (now (lines .entry)) number) ⌝ }
 {
-    if no_line(lines, number) {
-        return crate::refuse(8, 0);
-    }
     let mut starts = [0u64; table::STARTS];
     let mut runs = [0u16; table::RUNS];
-    let kept = kept_report(book, lines, report, &mut starts[..], &mut runs[..]);
-    let Kept::Own(found) = kept else {
-        return crate::refuse(9, 0);
-    };
-    let at = (signed::magnitude(number) - 1) * Line::WORDS + Line::STANDING;
-    lines[at] = 0;
-    refresh(book, lines, report, found.count)
+    match kept_report(book, lines, report, number, &mut starts[..], &mut runs[..]) {
+        Kept::Refused(n) => crate::refuse(n, 0),
+        Kept::Own(found) => {
+            let at = place_of(number, Line::STANDING);
+            lines[at] = 0;
+            refresh(book, lines, report, found.count)
+        }
+    }
 }
