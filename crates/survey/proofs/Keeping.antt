@@ -21,6 +21,7 @@ use Rattle.table.specs.Filled.{foundIn}
 use Rattle.table.specs.declared.Found.{Found}
 use Rattle.kept.proofs.SameNumbers.{long-enough}
 use Rattle.book.specs.Test.{refusal}
+use Rattle.book.specs.declared.Refusal.{Refusal}
 use Rattle.survey.specs.Report.{refusedWith, countOf, counted}
 use Rattle.survey.specs.Survey.{Surveyed, surveyed, surveyGood}
 use Rattle.survey.specs.Correction.{noLine, otherReport, updated, corrected, correctGood}
@@ -30,20 +31,21 @@ use Rattle.survey.specs.declared.correct.Kept.{Kept}
 use Rattle.survey.specs.declared.correct.Kept.the-variants.{Own, Refused}
 
 -- what was made of the two tests tells of them
-told-own : (s t : Bool) (f h : Found) → cond s (Refused 8) (cond t (Refused 9) (Own f)) ≡ Own h → (s ≡ false) × (t ≡ false) × (h ≡ f)
-told-own true t f h e = let z : _≡_ {A = ℕ} 0 1 = cc in absurd (omega arith)
-told-own false true f h e = let z : _≡_ {A = ℕ} 0 1 = cc in absurd (omega arith)
-told-own false false f h e = (refl, refl, cc)
+told-own : (s t : Bool) (p q : Refusal) (f h : Found) → cond s (Refused p) (cond t (Refused q) (Own f)) ≡ Own h
+    → (s ≡ false) × (t ≡ false) × (h ≡ f)
+told-own true t p q f h e = let z : _≡_ {A = ℕ} 0 1 = cc in absurd (omega arith)
+told-own false true p q f h e = let z : _≡_ {A = ℕ} 0 1 = cc in absurd (omega arith)
+told-own false false p q f h e = (refl, refl, cc)
 
 -- and of what is refused
-told-refused : {A : Type 0} (s t : Bool) (f : Found) (n : ℕ) (give : ℕ → A) (go : A)
-    → cond s (Refused 8) (cond t (Refused 9) (Own f)) ≡ Refused n → give n ≡ cond s (give 8) (cond t (give 9) go)
-told-refused true t f n give go e = ap give (cc)
-told-refused false true f n give go e = ap give (cc)
-told-refused false false f n give go e = let z : _≡_ {A = ℕ} 0 1 = cc in absurd (omega arith)
+told-refused : {A : Type 0} (s t : Bool) (p q : Refusal) (f : Found) (r : Refusal) (give : Refusal → A) (go : A)
+    → cond s (Refused p) (cond t (Refused q) (Own f)) ≡ Refused r → give r ≡ cond s (give p) (cond t (give q) go)
+told-refused true t p q f r give go e = ap give (cc)
+told-refused false true p q f r give go e = ap give (cc)
+told-refused false false p q f r give go e = let z : _≡_ {A = ℕ} 0 1 = cc in absurd (omega arith)
 
-pub no-table : (n : ℕ) {ls : List Loop} {starts runs : List ℕ} → OwnTable (Refused n) ls starts runs
-no-table n found e = let z : _≡_ {A = ℕ} 0 1 = cc in absurd (omega arith)
+pub no-table : {r : Refusal} {ls : List Loop} {starts runs : List ℕ} → OwnTable (Refused r) ls starts runs
+no-table found e = let z : _≡_ {A = ℕ} 0 1 = cc in absurd (omega arith)
 
 pub own-table : {ls : List Loop} {starts runs : List ℕ} {f : Found} → Table ls starts runs (f .count) → OwnTable (Own f) ls starts runs
 own-table {ls = ls} {starts = starts} {runs = runs} {f = f} t found e =
@@ -102,11 +104,11 @@ module _ (k : Book) (ls : List ℤ) (g : GoodLines k ls) where
   -- ---- the comparison
 
   module _ (report : List ℤ) (number : ℤ) where
-    pub kept-none : noLine ls number ≡ true → Refused 8 ≡ keptOf k ls report number
+    pub kept-none : noLine ls number ≡ true → Refused (refusal 8 0) ≡ keptOf k ls report number
     unfolding keptOf
     kept-none s = rw s
 
-    pub kept-other : noLine ls number ≡ false → otherReport report fresh ≡ true → Refused 9 ≡ keptOf k ls report number
+    pub kept-other : noLine ls number ≡ false → otherReport report fresh ≡ true → Refused (refusal 9 0) ≡ keptOf k ls report number
     unfolding keptOf
     kept-other s t = rw (s, t)
 
@@ -118,14 +120,13 @@ module _ (k : Book) (ls : List ℤ) (g : GoodLines k ls) where
   module _ (report : List ℤ) (number : ℤ) {m : Kept} (e : m ≡ keptOf k ls report number) where
     pub is-own : {f : Found} → m ≡ Own f → (noLine ls number ≡ false) × (otherReport report fresh ≡ false) × (f ≡ foundIn (k .marks) ls)
     unfolding keptOf
-    is-own {f = f} h = told-own (noLine ls number) (otherReport report fresh) (foundIn (k .marks) ls) f (sym e ∙ h)
+    is-own {f = f} h = told-own (noLine ls number) (otherReport report fresh) _ _ (foundIn (k .marks) ls) f (sym e ∙ h)
 
-    pub is-refused : {n : ℕ} (new : List ℤ) → m ≡ Refused n
-        → corrected (refusedWith (refusal n 0)) ls report ≡ correctGood k ls report number new
+    pub is-refused : {r : Refusal} (new : List ℤ) → m ≡ Refused r → corrected (refusedWith r) ls report ≡ correctGood k ls report number new
     unfolding keptOf correctGood
-    is-refused {n = n} new h =
-        told-refused (noLine ls number) (otherReport report fresh) (foundIn (k .marks) ls) n
-        (λ (n : ℕ). corrected (refusedWith (refusal n 0)) ls report) _ (sym e ∙ h)
+    is-refused {r = r} new h =
+        told-refused (noLine ls number) (otherReport report fresh) _ _ (foundIn (k .marks) ls) r
+        (λ (r : Refusal). corrected (refusedWith r) ls report) _ (sym e ∙ h)
 
   -- the book's own report is as long as its rows
   pub own-places : (report : List ℤ) → otherReport report fresh ≡ false → length fresh ≤ length report

@@ -6,6 +6,7 @@ use mathlib.Core.Bool.{cond}
 use mathlib.Core.List.{List, _++_}
 use lib.IntN.{ℤ, pos}
 use lib.ListN.{length, drop, replicate}
+use Rattle.book.specs.Test.{refusal}
 use Rattle.book.specs.declared.Book.{Book}
 use Rattle.loops.specs.Row.{rowWords}
 use Rattle.loops.specs.Loops.{Loop}
@@ -23,8 +24,8 @@ use Rattle.survey.specs.declared.correct.Kept.the-variants.{Own, Refused
 unfoldable pub keptOf : Book → List ℤ → List ℤ → ℤ → Kept
 unfolding noLine otherReport reportOf
 keptOf k lines report number =
-    cond (noLine lines number) (Refused 8)
-    (cond (otherReport report (reportOf (k .marks) (k .tolerance) lines)) (Refused 9)
+    cond (noLine lines number) (Refused (refusal 8 0))
+    (cond (otherReport report (reportOf (k .marks) (k .tolerance) lines)) (Refused (refusal 9 0))
     (Own (foundIn (k .marks) lines)))
 
 -- where nothing is refused, the table holds the loops

@@ -13,13 +13,14 @@ ghost use Rattle.survey.specs.Correction.{noLine, placeOf, rerunLines, w
 use crate::Answer;
 use crate::report;
 use book::Book;
+use book::Refusal;
 use book::line::Line;
 use table::Found;
 
-// The line stands and the lent report is the book's own, with these counts; or the number of the refusal.
+// The line stands and the lent report is the book's own, with these counts; or refusal 8 or 9.
 pub enum Kept {
     Own(Found),
-    Refused(usize),
+    Refused(Refusal),
 }
 
 // Whether no line of this number stands.
@@ -49,7 +50,7 @@ fn kept_report(
         ∗ ⌜ OwnTable r (loopsOf (book .marks) (now (lines .entry))) (now (starts .exit)) (now (runs .exit)) ⌝ }
 {
     if no_line(lines, number) {
-        return Kept::Refused(8);
+        return Kept::Refused(Refusal::new(8, 0));
     }
     let found = table::find_loops(book, lines, starts, runs);
     let count = found.count;
@@ -57,7 +58,7 @@ fn kept_report(
     rows::write_rows(book, lines, starts, runs, count, &mut rows[..]);
     let words = count * rows::ROW_WORDS;
     if kept::differs(report, &rows[..words]) {
-        return Kept::Refused(9);
+        return Kept::Refused(Refusal::new(9, 0));
     }
     Kept::Own(found)
 }
@@ -88,7 +89,7 @@ pub(crate) fn rerun_good(
     let mut starts = [0u64; table::STARTS];
     let mut runs = [0u16; table::RUNS];
     match kept_report(book, lines, report, number, &mut starts[..], &mut runs[..]) {
-        Kept::Refused(n) => crate::refuse(n, 0),
+        Kept::Refused(r) => crate::refused(r),
         Kept::Own(found) => {
             let at = place_of(number, Line::DIFFERENCE);
             lines[at] = difference;
@@ -125,7 +126,7 @@ pub(crate) fn withdraw_good(
     let mut starts = [0u64; table::STARTS];
     let mut runs = [0u16; table::RUNS];
     match kept_report(book, lines, report, number, &mut starts[..], &mut runs[..]) {
-        Kept::Refused(n) => crate::refuse(n, 0),
+        Kept::Refused(r) => crate::refused(r),
         Kept::Own(found) => {
             let at = place_of(number, Line::STANDING);
             lines[at] = 0;

@@ -27,7 +27,7 @@ pub(crate) fn refuse(number: usize, place: usize) -> Answer
     refused(Refusal::new(number, place))
 }
 
-fn refused(refusal: Refusal) -> Answer
+pub(crate) fn refused(refusal: Refusal) -> Answer
     ensures { λ r. ⌜ r ≡ refusedWith refusal ⌝ }
 {
     Answer {

@@ -24,7 +24,8 @@ flag c =
 returns : tie.Need-returns
 returns c =
     let s : tie.Start = search in
-    (kept-none _ _ (s .pre .0) _ _ (sym (gone (c .before)) ∙ c .if1 .taken), no-table 8)
+    let then1 : tie.Then1 = search in
+    (rw (c .new .ensures) (kept-none _ _ (s .pre .0) _ _ (sym (gone (then1 .before)) ∙ then1 .if1 .taken)), no-table)
 
 write-rows-requires : tie.Need-write-rows-requires
 write-rows-requires c κs =
@@ -54,7 +55,9 @@ returns-2 : tie.Need-returns-2
 returns-2 c =
     let else1 : tie.Else1 = search in
     let s : tie.Start = search in
-    (kept-other _ _ (s .pre .0) _ _ (sym (gone (else1 .before)) ∙ else1 .if1 .left) (sym (flag (c .before)) ∙ c .if2 .taken), no-table 9)
+    let then2 : tie.Then2 = search in
+    (rw (c .new2 .ensures) (kept-other _ _ (s .pre .0) _ _ (sym (gone (else1 .before)) ∙ else1 .if1 .left)
+    (sym (flag (then2 .before)) ∙ then2 .if2 .taken)), no-table)
 
 returns-3 : tie.Need-returns-3
 returns-3 c =
@@ -71,6 +74,7 @@ kept-report-spec =
     tie.close
     (tie.spec
     (λ c κs. search needs)  -- no-line-requires
+    (λ c κs. search needs)  -- new-requires
     returns
     (λ c κs. search needs)  -- find-loops-requires
     (λ c. search needs)  -- slice-aggregate-write-rows
@@ -79,6 +83,7 @@ kept-report-spec =
     array-share-prefix-rows
     slice-aggregate-differs
     (λ c κs. search needs)  -- differs-requires
+    (λ c κs. search needs)  -- new-requires-2
     (λ c. search needs)  -- same-length
     (λ c. search needs)  -- same-length-2
     returns-2
