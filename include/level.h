@@ -1,7 +1,7 @@
 /*
  * level.h: level-network reduction, the calls of liblevel.a.
  *
- * The archive has the eight calls that are declared here. docs/PROMISES.md says what is proved of each.
+ * The archive has the calls that are declared here. docs/PROMISES.md says what is proved of each.
  *
  * THE BOOK
  *

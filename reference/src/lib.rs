@@ -1,6 +1,6 @@
 //! Document 01 in plain Rust: a reference to test `liblevel.a` against and to time it beside.
 //!
-//! [`Reference`] answers the eight calls of [`Level`]. It is lent the whole book with every call, tests
+//! [`Reference`] answers the calls of [`Level`]. It is lent the whole book with every call, tests
 //! all of it and works everything out anew; only its scratch room is kept from one call to the next.
 //! It never panics, whatever it is lent.
 
