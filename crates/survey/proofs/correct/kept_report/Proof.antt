@@ -55,9 +55,11 @@ returns-2 : tie.Need-returns-2
 returns-2 c =
     let else1 : tie.Else1 = search in
     let s : tie.Start = search in
-    let then2 : tie.Then2 = search in
-    (rw (c .new2 .ensures) (kept-other _ _ (s .pre .0) _ _ (sym (gone (else1 .before)) ∙ else1 .if1 .left)
-    (sym (flag (then2 .before)) ∙ then2 .if2 .taken)), no-table)
+    let then2 : tie.Then2 = search in (
+      rw (c .new2 .ensures) (kept-other _ _ (s .pre .0) _ _ (sym (gone (else1 .before)) ∙ else1 .if1 .left)
+          (sym (flag (then2 .before)) ∙ then2 .if2 .taken)),
+      no-table,
+    )
 
 returns-3 : tie.Need-returns-3
 returns-3 c =
