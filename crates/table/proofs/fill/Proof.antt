@@ -1,7 +1,8 @@
-use Prim.Native.Nat.{_≤_, _-_}
+use Prim.Native.Nat.{_≤_, _<_, _+_, _*_, _-_, _^_}
 use native.Mathlib.Omega.{arith}
 use mathlib.Core.Path.{_≡_, refl, _∙_}
-use lib.ListN.{length, length-set, length-take, length-drop}
+use lib.ListN.{length, getD, length-set, length-take, length-drop}
+use Rattle.chains.specs.Chains.{numberLimit}
 use Rattle.table.proofs.Filling.{AllFilledTo, all-start, all-next, fill-end, run-room, path-few, small-number, takes-of}
 use Rattle.table.proofs.fill.Statement.{statement}
 use Rattle.table.proofs.fill.Tie as tie
@@ -16,166 +17,49 @@ Inv-loop ends close head₀ next₀ best₀ seg₀ starts₀ runs₀ n count at�
 abbrev μ-loop : tie.MeasureT-loop
 μ-loop ends close head₀ next₀ best₀ seg₀ starts₀ runs₀ n count at₀ i₀ head next best seg starts runs at i = count - i
 
-mul-number : tie.Need-mul-number Inv-loop μ-loop
-mul-number c =
-    let entry : tie.Start Inv-loop μ-loop = search in
-    omega (arith, entry .pre .closes, entry .good)
+abbrev entry-of : tie.At-loop Inv-loop μ-loop → tie.Start Inv-loop μ-loop
+entry-of c = search
 
-shared-slice-read-number : tie.Need-shared-slice-read-number Inv-loop μ-loop
-shared-slice-read-number c =
-    let entry : tie.Start Inv-loop μ-loop = search in
-    omega (arith, entry .pre .closes)
+-- the loop that is next: its closing line has a small number, and there is room for its run
+small : (c : tie.In-loop Inv-loop μ-loop) → getD (entry-of (c .before) .args .close .now) (c .before .loop .i) 0 < numberLimit
+small c = small-number (entry-of (c .before) .pre) (c .before .loop .inv .2) (c .loop-test .taken) _ refl
 
-mul-starts : tie.Need-mul-starts Inv-loop μ-loop
-mul-starts c =
-    let entry : tie.Start Inv-loop μ-loop = search in
-    omega (arith, entry .pre .starts-fit, entry .good)
+room : (c : tie.In-loop Inv-loop μ-loop) → c .before .loop .at + 1 + entry-of (c .before) .args .n ≤ length (c .before .loop .runs)
+room c = run-room (entry-of (c .before) .pre) (c .before .loop .inv .2) (c .loop-test .taken) (c .before .loop .inv .1 .5)
 
-slice-write-starts : tie.Need-slice-write-starts Inv-loop μ-loop
-slice-write-starts c =
-    let in-loop : tie.In-loop Inv-loop μ-loop = search in
-    let at-loop : tie.At-loop Inv-loop μ-loop = search in
-    let entry : tie.Start Inv-loop μ-loop = search in
-    let f = entry .pre in
-    let v = at-loop .loop .inv in
-    let lt = in-loop .loop-test .taken in
-    omega (arith, f .starts-fit, v .1)
+fits : (c : tie.In-loop Inv-loop μ-loop) → (c .before .loop .at + 1 + entry-of (c .before) .args .n) * 2 < 2 ^ 64
+fits c = omega (arith, room c, c .before .loop .inv .1, entry-of (c .before) .good)
 
-mul-runs : tie.Need-mul-runs Inv-loop μ-loop
-mul-runs c =
-    let in-loop : tie.In-loop Inv-loop μ-loop = search in
-    let at-loop : tie.At-loop Inv-loop μ-loop = search in
-    let entry : tie.Start Inv-loop μ-loop = search in
-    let f = entry .pre in
-    let v = at-loop .loop .inv in
-    let lt = in-loop .loop-test .taken in
-    omega (arith, small-number f (v .2) lt _ refl)
-
-cast-runs : tie.Need-cast-runs Inv-loop μ-loop
-cast-runs c =
-    let in-loop : tie.In-loop Inv-loop μ-loop = search in
-    let at-loop : tie.At-loop Inv-loop μ-loop = search in
-    let entry : tie.Start Inv-loop μ-loop = search in
-    let f = entry .pre in
-    let v = at-loop .loop .inv in
-    let lt = in-loop .loop-test .taken in
-    omega (arith, small-number f (v .2) lt _ refl)
-
-mul-runs-2 : tie.Need-mul-runs-2 Inv-loop μ-loop
-mul-runs-2 c =
-    let in-loop : tie.In-loop Inv-loop μ-loop = search in
-    let at-loop : tie.At-loop Inv-loop μ-loop = search in
-    let entry : tie.Start Inv-loop μ-loop = search in
-    let f = entry .pre in
-    let v = at-loop .loop .inv in
-    let lt = in-loop .loop-test .taken in
-    omega (arith, run-room f (v .2) lt (v .1 .5), v .1, entry .good)
-
-slice-write-runs : tie.Need-slice-write-runs Inv-loop μ-loop
-slice-write-runs c =
-    let in-loop : tie.In-loop Inv-loop μ-loop = search in
-    let at-loop : tie.At-loop Inv-loop μ-loop = search in
-    let entry : tie.Start Inv-loop μ-loop = search in
-    let f = entry .pre in
-    let v = at-loop .loop .inv in
-    let lt = in-loop .loop-test .taken in
-    omega (arith, run-room f (v .2) lt (v .1 .5))
-
-add-at : tie.Need-add-at Inv-loop μ-loop
-add-at c =
-    let in-loop : tie.In-loop Inv-loop μ-loop = search in
-    let at-loop : tie.At-loop Inv-loop μ-loop = search in
-    let entry : tie.Start Inv-loop μ-loop = search in
-    let f = entry .pre in
-    let v = at-loop .loop .inv in
-    let lt = in-loop .loop-test .taken in
-    omega (arith, run-room f (v .2) lt (v .1 .5), v .1, entry .good)
-
-add-take-loop : tie.Need-add-take-loop Inv-loop μ-loop
-add-take-loop c =
-    let in-loop : tie.In-loop Inv-loop μ-loop = search in
-    let at-loop : tie.At-loop Inv-loop μ-loop = search in
-    let entry : tie.Start Inv-loop μ-loop = search in
-    let f = entry .pre in
-    let v = at-loop .loop .inv in
-    let lt = in-loop .loop-test .taken in
-    omega (arith, run-room f (v .2) lt (v .1 .5), v .1, entry .good)
-
-mul-take-loop : tie.Need-mul-take-loop Inv-loop μ-loop
-mul-take-loop c =
-    let in-loop : tie.In-loop Inv-loop μ-loop = search in
-    let at-loop : tie.At-loop Inv-loop μ-loop = search in
-    let entry : tie.Start Inv-loop μ-loop = search in
-    let f = entry .pre in
-    let v = at-loop .loop .inv in
-    let lt = in-loop .loop-test .taken in
-    omega (arith, run-room f (v .2) lt (v .1 .5), v .1, entry .good)
-
-sub-take-loop : tie.Need-sub-take-loop Inv-loop μ-loop
-sub-take-loop c =
-    let in-loop : tie.In-loop Inv-loop μ-loop = search in
-    let at-loop : tie.At-loop Inv-loop μ-loop = search in
-    let entry : tie.Start Inv-loop μ-loop = search in
-    let f = entry .pre in
-    let v = at-loop .loop .inv in
-    let lt = in-loop .loop-test .taken in
-    simp length-set (omega (arith, run-room f (v .2) lt (v .1 .5)))
-
-part-take-loop-start : tie.Need-part-take-loop-start Inv-loop μ-loop
-part-take-loop-start c =
-    let in-loop : tie.In-loop Inv-loop μ-loop = search in
-    let at-loop : tie.At-loop Inv-loop μ-loop = search in
-    let entry : tie.Start Inv-loop μ-loop = search in
-    let f = entry .pre in
-    let v = at-loop .loop .inv in
-    let lt = in-loop .loop-test .taken in
-    simp length-set (omega (arith, run-room f (v .2) lt (v .1 .5)))
+-- and there is a place for where it begins, and for where the last one ends
+begins : (c : tie.At-loop Inv-loop μ-loop) → entry-of c .args .count < length (c .loop .starts)
+begins c = omega (arith, entry-of c .pre .starts-fit, c .loop .inv .1)
 
 take-loop-requires : tie.Need-take-loop-requires Inv-loop μ-loop
 take-loop-requires c κs =
-    let in-loop : tie.In-loop Inv-loop μ-loop = search in
-    let at-loop : tie.At-loop Inv-loop μ-loop = search in
-    let entry : tie.Start Inv-loop μ-loop = search in
-    let f = entry .pre in
-    let v = at-loop .loop .inv in
-    let lt = in-loop .loop-test .taken in
-    takes-of f (v .2) lt _ refl
+    let i : tie.In-loop Inv-loop μ-loop = search in
+    let f = entry-of (i .before) .pre in
+    let v = i .before .loop .inv in
+    takes-of f (v .2) (i .loop-test .taken) _ refl
     (record {
       room = record { few = f .room .few; bests = omega (arith, v .1, f .room .bests); segs = omega (arith, v .1, f .room .segs) };
-      outs = simp (length-take, length-drop, length-set) (omega (arith, run-room f (v .2) lt (v .1 .5)));
+      outs = simp (length-take, length-drop, length-set) (omega (arith, room i));
     })
 
 add-at-2 : tie.Need-add-at-2 Inv-loop μ-loop
 add-at-2 c =
     let after-take-loop : tie.After-take-loop Inv-loop μ-loop = search in
-    let in-loop : tie.In-loop Inv-loop μ-loop = search in
-    let at-loop : tie.At-loop Inv-loop μ-loop = search in
-    let entry : tie.Start Inv-loop μ-loop = search in
-    let f = entry .pre in
-    let v = at-loop .loop .inv in
-    let lt = in-loop .loop-test .taken in
-    omega (arith, run-room f (v .2) lt (v .1 .5), path-few f (v .2) lt _ refl (after-take-loop .take-loop .ensures), v .1, entry .good)
-
-add-i : tie.Need-add-i Inv-loop μ-loop
-add-i c =
-    let in-loop : tie.In-loop Inv-loop μ-loop = search in
-    let at-loop : tie.At-loop Inv-loop μ-loop = search in
-    let entry : tie.Start Inv-loop μ-loop = search in
-    let f = entry .pre in
-    let v = at-loop .loop .inv in
-    let lt = in-loop .loop-test .taken in
-    omega (arith, lt, entry .fits .count)
+    let i : tie.In-loop Inv-loop μ-loop = search in
+    let s = entry-of (i .before) in
+    let few = path-few (s .pre) (i .before .loop .inv .2) (i .loop-test .taken) _ refl (after-take-loop .take-loop .ensures) in
+    omega (arith, room i, few, i .before .loop .inv .1, s .good)
 
 loop-again : tie.Need-loop-again Inv-loop μ-loop
 loop-again c =
     let after-runs : tie.After-runs Inv-loop μ-loop = search in
     let after-take-loop : tie.After-take-loop Inv-loop μ-loop = search in
-    let in-loop : tie.In-loop Inv-loop μ-loop = search in
-    let at-loop : tie.At-loop Inv-loop μ-loop = search in
-    let entry : tie.Start Inv-loop μ-loop = search in
-    let f = entry .pre in
-    let v = at-loop .loop .inv in
-    let lt = in-loop .loop-test .taken in
+    let i : tie.In-loop Inv-loop μ-loop = search in
+    let v = i .before .loop .inv in
+    let lt = i .loop-test .taken in
     let k = after-take-loop .take-loop .kept in (
       omega (arith, lt),
       (
@@ -186,38 +70,13 @@ loop-again c =
         simp length-set (v .1 .4),
         after-runs .runs .given .1 ∙ simp length-set (v .1 .5),
       ),
-      all-next (v .2) lt _ refl (omega (arith, f .starts-fit, v .1)) (run-room f (v .2) lt (v .1 .5)) _
-          (after-take-loop .take-loop .ensures),
+      all-next (v .2) lt _ refl (omega (arith, begins (i .before), lt)) (room i) _ (after-take-loop .take-loop .ensures),
     )
-
-mul-starts-2 : tie.Need-mul-starts-2 Inv-loop μ-loop
-mul-starts-2 c =
-    let entry : tie.Start Inv-loop μ-loop = search in
-    omega (arith, entry .pre .starts-fit, entry .good)
-
-slice-write-starts-2 : tie.Need-slice-write-starts-2 Inv-loop μ-loop
-slice-write-starts-2 c =
-    let at-loop : tie.At-loop Inv-loop μ-loop = search in
-    let entry : tie.Start Inv-loop μ-loop = search in
-    let f = entry .pre in
-    let v = at-loop .loop .inv in
-    omega (arith, f .starts-fit, v .1)
-
-same-length-5 : tie.Need-same-length-5 Inv-loop μ-loop
-same-length-5 c =
-    let at-loop : tie.At-loop Inv-loop μ-loop = search in
-    let entry : tie.Start Inv-loop μ-loop = search in
-    let f = entry .pre in
-    let v = at-loop .loop .inv in
-    simp length-set (v .1 .4)
 
 returns : tie.Need-returns Inv-loop μ-loop
 returns c =
-    let at-loop : tie.At-loop Inv-loop μ-loop = search in
-    let entry : tie.Start Inv-loop μ-loop = search in
-    let f = entry .pre in
-    let v = at-loop .loop .inv in
-    λ lines r. fill-end (v .2 .of lines r) _ (r .count-is) (omega (arith, v .0)) (omega (arith, f .starts-fit, v .1))
+    let l : tie.At-loop Inv-loop μ-loop = search in
+    λ lines r. fill-end (l .loop .inv .2 .of lines r) _ (r .count-is) (omega (arith, l .loop .inv .0)) (begins l)
 
 pub fill-spec : {M : Type 1} → statement M
 fill-spec =
@@ -226,31 +85,31 @@ fill-spec =
     Inv-loop
     μ-loop
     (λ c. (omega arith, (refl, refl, refl, refl, refl, refl), all-start))  -- loop-holds
-    mul-number
-    shared-slice-read-number
-    mul-starts
-    slice-write-starts
-    mul-runs
-    cast-runs
-    mul-runs-2
-    slice-write-runs
-    add-at
-    add-take-loop
-    mul-take-loop
-    sub-take-loop
-    part-take-loop-start
+    (λ c. let s : tie.Start Inv-loop μ-loop = search in omega (arith, s .pre .closes, s .good))  -- mul-number
+    (λ c. let s : tie.Start Inv-loop μ-loop = search in omega (arith, s .pre .closes))  -- shared-slice-read-number
+    (λ c. let s : tie.Start Inv-loop μ-loop = search in omega (arith, s .pre .starts-fit, s .good))  -- mul-starts
+    (λ c. let l : tie.At-loop Inv-loop μ-loop = search in omega (arith, begins l))  -- slice-write-starts
+    (λ c. let i : tie.In-loop Inv-loop μ-loop = search in omega (arith, small i))  -- mul-runs
+    (λ c. let i : tie.In-loop Inv-loop μ-loop = search in omega (arith, small i))  -- cast-runs
+    (λ c. let i : tie.In-loop Inv-loop μ-loop = search in omega (arith, fits i))  -- mul-runs-2
+    (λ c. let i : tie.In-loop Inv-loop μ-loop = search in omega (arith, room i))  -- slice-write-runs
+    (λ c. let i : tie.In-loop Inv-loop μ-loop = search in omega (arith, fits i))  -- add-at
+    (λ c. let i : tie.In-loop Inv-loop μ-loop = search in omega (arith, fits i))  -- add-take-loop
+    (λ c. let i : tie.In-loop Inv-loop μ-loop = search in omega (arith, fits i))  -- mul-take-loop
+    (λ c. let i : tie.In-loop Inv-loop μ-loop = search in simp length-set (omega (arith, room i)))  -- sub-take-loop
+    (λ c. let i : tie.In-loop Inv-loop μ-loop = search in simp length-set (omega (arith, room i)))  -- part-take-loop-start
     (λ c. omega arith)  -- part-take-loop-end
     take-loop-requires
     add-at-2
-    add-i
+    (λ c. let s : tie.Start Inv-loop μ-loop = search in omega (arith, c, s .fits .count))  -- add-i
     (λ c. omega arith)  -- loop-less
     loop-again
-    mul-starts-2
-    slice-write-starts-2
+    (λ c. let s : tie.Start Inv-loop μ-loop = search in omega (arith, s .pre .starts-fit, s .good))  -- mul-starts-2
+    (λ c. let l : tie.At-loop Inv-loop μ-loop = search in begins l)  -- slice-write-starts-2
     (λ c. omega arith)  -- same-length
     (λ c. omega arith)  -- same-length-2
     (λ c. omega arith)  -- same-length-3
     (λ c. omega arith)  -- same-length-4
-    same-length-5
+    (λ c. let l : tie.At-loop Inv-loop μ-loop = search in simp length-set (l .loop .inv .1 .4))  -- same-length-5
     (λ c. omega arith)  -- same-length-6
     returns)

@@ -11,6 +11,12 @@ planted-before c = search
 abbrev entry-before : tie.After-plant-book → tie.Start
 entry-before c = search
 
+abbrev ordered : tie.After-fill → tie.After-order-loops
+ordered c = search
+
+abbrev planted : tie.After-fill → tie.After-plant-book
+planted c = planted-before (ordered c)
+
 plant-book-requires : tie.Need-plant-book-requires
 plant-book-requires c κs =
     let entry : tie.Start = search in
@@ -43,48 +49,6 @@ fill-requires c κs =
     fills-of _ _ (p .0) (p .1 .1) planted (after-order-loops .order-loops .ensures _ (listed-of _ _ (p .0) planted) (planted .holding))
     (p .1 .0) (omega (arith, o)) (omega (arith, k)) (omega (arith, k))
 
-same-length : tie.Need-same-length
-same-length c =
-    let after-fill : tie.After-fill = search in
-    let after-order-loops : tie.After-order-loops = search in
-    let after-plant-book = planted-before after-order-loops in
-    omega (arith, after-plant-book .plant-book .kept, after-order-loops .order-loops .kept, after-fill .fill .kept)
-
-same-length-2 : tie.Need-same-length-2
-same-length-2 c =
-    let after-fill : tie.After-fill = search in
-    let after-order-loops : tie.After-order-loops = search in
-    let after-plant-book = planted-before after-order-loops in
-    omega (arith, after-plant-book .plant-book .kept, after-order-loops .order-loops .kept, after-fill .fill .kept)
-
-same-length-3 : tie.Need-same-length-3
-same-length-3 c =
-    let after-fill : tie.After-fill = search in
-    let after-order-loops : tie.After-order-loops = search in
-    let after-plant-book = planted-before after-order-loops in
-    omega (arith, after-plant-book .plant-book .kept, after-order-loops .order-loops .kept, after-fill .fill .kept)
-
-same-length-4 : tie.Need-same-length-4
-same-length-4 c =
-    let after-fill : tie.After-fill = search in
-    let after-order-loops : tie.After-order-loops = search in
-    let after-plant-book = planted-before after-order-loops in
-    omega (arith, after-plant-book .plant-book .kept, after-order-loops .order-loops .kept, after-fill .fill .kept)
-
-same-length-5 : tie.Need-same-length-5
-same-length-5 c =
-    let after-fill : tie.After-fill = search in
-    let after-order-loops : tie.After-order-loops = search in
-    let after-plant-book = planted-before after-order-loops in
-    omega (arith, after-plant-book .plant-book .kept, after-order-loops .order-loops .kept, after-fill .fill .kept)
-
-same-length-6 : tie.Need-same-length-6
-same-length-6 c =
-    let after-fill : tie.After-fill = search in
-    let after-order-loops : tie.After-order-loops = search in
-    let after-plant-book = planted-before after-order-loops in
-    omega (arith, after-plant-book .plant-book .kept, after-order-loops .order-loops .kept, after-fill .fill .kept)
-
 returns : tie.Need-returns
 returns c =
     let after-fill : tie.After-fill = search in
@@ -106,12 +70,12 @@ find-in-spec =
     plant-book-requires
     order-loops-requires
     fill-requires
-    same-length
-    same-length-2
-    same-length-3
-    same-length-4
-    same-length-5
-    same-length-6
+    (λ c. let f : tie.After-fill = search in omega (arith, f .fill, ordered f .order-loops, planted f .plant-book))  -- same-length
+    (λ c. let f : tie.After-fill = search in omega (arith, f .fill, ordered f .order-loops, planted f .plant-book))  -- same-length-2
+    (λ c. let f : tie.After-fill = search in omega (arith, f .fill, ordered f .order-loops, planted f .plant-book))  -- same-length-3
+    (λ c. let f : tie.After-fill = search in omega (arith, f .fill, ordered f .order-loops, planted f .plant-book))  -- same-length-4
+    (λ c. let f : tie.After-fill = search in omega (arith, f .fill, ordered f .order-loops, planted f .plant-book))  -- same-length-5
+    (λ c. let f : tie.After-fill = search in omega (arith, f .fill, ordered f .order-loops, planted f .plant-book))  -- same-length-6
     (λ c. search needs)  -- same-length-7
     (λ c. search needs)  -- same-length-8
     (λ c. search needs)  -- same-length-9
