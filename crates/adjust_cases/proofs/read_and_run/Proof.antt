@@ -4,12 +4,6 @@ use borrow.Author.Needs.{needs}
 use Rattle.adjust_cases.proofs.read_and_run.Statement.{statement}
 use Rattle.adjust_cases.proofs.read_and_run.Tie as tie
 
-same-length-3 : tie.Need-same-length-3
-same-length-3 c =
-    let after-clear : tie.After-clear = search in
-    let s : tie.Start = search in
-    search needs
-
 pub read-and-run-spec : {M : Type 1} → statement M
 read-and-run-spec =
     tie.close
@@ -30,5 +24,5 @@ read-and-run-spec =
     (λ c κs. search needs)  -- run-requires
     (λ c. search needs)  -- same-length
     (λ c. search needs)  -- same-length-2
-    same-length-3
+    (λ c. let after-clear : tie.After-clear = search in let s : tie.Start = search in search needs)  -- same-length-3
     (λ c. search needs))  -- returns

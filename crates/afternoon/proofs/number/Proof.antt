@@ -4,9 +4,6 @@ use borrow.Author.Needs.{needs}
 use Rattle.afternoon.proofs.number.Statement.{statement}
 use Rattle.afternoon.proofs.number.Tie as tie
 
-sub-requires : tie.Need-sub-requires
-sub-requires c κs = let n = c .before .before .signed-count in rw (back _ (n .ok), n .ensures) (omega arith)
-
 pub number-spec : {M : Type 1} → statement M
 number-spec =
     tie.close
@@ -20,5 +17,5 @@ number-spec =
     (λ c κs. search needs)  -- signed-count-requires
     (λ c κs. search needs)  -- two-requires-3
     (λ c. search needs)  -- returns
-    sub-requires
+    (λ c κs. let n = c .before .before .signed-count in rw (back _ (n .ok), n .ensures) (omega arith))  -- sub-requires
     (λ c. search needs))  -- returns-2

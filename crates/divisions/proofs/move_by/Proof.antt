@@ -35,9 +35,6 @@ nearest-size-requires c κs = (
   c .before .before .pre .1 .0,
 )
 
-sub-requires : tie.Need-sub-requires
-sub-requires c κs = let h = small (c .before .before) in rw (count (c .before)) (omega arith)
-
 returns-2 : tie.Need-returns-2
 returns-2 c =
     let after-magnitude : tie.After-magnitude = search in
@@ -68,6 +65,6 @@ move-by-spec =
     returns
     nearest-size-requires
     (λ c κs. small c)  -- signed-count-requires
-    sub-requires
+    (λ c κs. let h = small (c .before .before) in rw (count (c .before)) (omega arith))  -- sub-requires
     returns-2
     returns-3)

@@ -8,9 +8,6 @@ use borrow.Author.Needs.{needs}
 use Rattle.divisions.proofs.nearest_size.Statement.{statement}
 use Rattle.divisions.proofs.nearest_size.Tie as tie
 
-add-result : tie.Need-add-result
-add-result c = let s = c .before in omega (arith, up-fits (s .args .a) (s .args .d) (s .pre .0) (c .if1 .taken))
-
 returns : tie.Need-returns
 unfolding nearestSize
 returns c = rw (add-one, lt-ltb _ _ (c .if1 .taken))
@@ -26,6 +23,6 @@ nearest-size-spec =
     (λ c. search needs)
     (λ c. search needs)
     (λ c. omega (arith, mod-lt (c .args .a) (c .pre .0)))
-    add-result
+    (λ c. let s = c .before in omega (arith, up-fits (s .args .a) (s .args .d) (s .pre .0) (c .if1 .taken)))  -- add-result
     returns
     returns-2)

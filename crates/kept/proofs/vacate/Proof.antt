@@ -13,12 +13,6 @@ Inv-loop out₀ a e i₀ out i = (a ≤ i) × Laid (take a out₀ ++ replicate (
 abbrev μ-loop : tie.MeasureT-loop
 μ-loop out₀ a e i₀ out i = e - i
 
-loop-holds : tie.Need-loop-holds Inv-loop μ-loop
-loop-holds c = (omega arith, zeroed-start (pos 0) (c .args .out .now) (c .args .a) (c .args .e) (c .pre .0) (c .pre .1))
-
-slice-set-of-out : tie.Need-slice-set-of-out Inv-loop μ-loop
-slice-set-of-out c = let s = c .before .loop .inv .1 in omega arith
-
 loop-again : tie.Need-loop-again Inv-loop μ-loop
 loop-again c =
     let l = c .before in
@@ -45,9 +39,9 @@ vacate-spec =
     (tie.spec
     Inv-loop
     μ-loop
-    loop-holds
+    (λ c. (omega arith, zeroed-start (pos 0) (c .args .out .now) (c .args .a) (c .args .e) (c .pre .0) (c .pre .1)))  -- loop-holds
     (λ c. omega arith)  -- mul-out
-    slice-set-of-out
+    (λ c. let s = c .before .loop .inv .1 in omega arith)  -- slice-set-of-out
     (λ c. omega arith)  -- add-i
     (λ c. omega arith)  -- loop-less
     loop-again

@@ -15,16 +15,6 @@ Inv-loop lines ends₀ head₀ next₀ n j₀ ends head next j =
 abbrev μ-loop : tie.MeasureT-loop
 μ-loop lines ends₀ head₀ next₀ n j₀ ends head next j = j
 
-zero-requires : tie.Need-zero-requires Inv-loop μ-loop
-zero-requires c κs =
-    let entry : tie.Start Inv-loop μ-loop = search in
-    entry .pre .ends-at
-
-zero-requires-2 : tie.Need-zero-requires-2 Inv-loop μ-loop
-zero-requires-2 c κs =
-    let entry : tie.Start Inv-loop μ-loop = search in
-    entry .pre .chains .heads
-
 loop-holds : tie.Need-loop-holds Inv-loop μ-loop
 loop-holds c =
     let after-zero : tie.After-zero Inv-loop μ-loop = search in
@@ -74,8 +64,8 @@ draw-book-spec =
     (tie.spec
     Inv-loop
     μ-loop
-    zero-requires
-    zero-requires-2
+    (λ c κs. let entry : tie.Start Inv-loop μ-loop = search in entry .pre .ends-at)  -- zero-requires
+    (λ c κs. let entry : tie.Start Inv-loop μ-loop = search in entry .pre .chains .heads)  -- zero-requires-2
     loop-holds
     (λ c. omega arith)  -- sub-at
     (λ c. omega arith)  -- mul-at

@@ -12,11 +12,6 @@ use Rattle.prepare.proofs.draw_line.Tie as tie
 returns : tie.Need-returns
 returns c = withdrawn (sym (c .before .same .ensures ∙ search needs) ∙ c .if1 .taken) refl refl refl
 
-index-requires : tie.Need-index-requires
-index-requires c κs =
-    let entry : tie.Start = search in
-    rw (back _ (c .index-arg .given)) (not-negative (entry .pre .good .from))
-
 index-requires-2 : tie.Need-index-requires-2
 index-requires-2 c κs =
     let entry : tie.Start = search in
@@ -122,7 +117,7 @@ draw-line-spec =
     (λ c κs. search needs)  -- same-requires
     returns
     (λ c. search needs)  -- shared-slice-copy-out-index
-    index-requires
+    (λ c κs. let entry : tie.Start = search in rw (back _ (c .index-arg .given)) (not-negative (entry .pre .good .from)))  -- index-requires
     (λ c. search needs)  -- shared-slice-copy-out-index-2
     index-requires-2
     (λ c. search needs)  -- shared-slice-copy-out-index-3

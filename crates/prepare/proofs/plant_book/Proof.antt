@@ -3,11 +3,6 @@ use Rattle.prepare.proofs.Preparing.{draw-room, tree-of}
 use Rattle.prepare.proofs.plant_book.Statement.{statement}
 use Rattle.prepare.proofs.plant_book.Tie as tie
 
-draw-book-requires : tie.Need-draw-book-requires
-draw-book-requires c κs =
-    let entry : tie.Start = search in
-    draw-room _ _ (entry .pre .0) (entry .pre .1)
-
 plant-requires : tie.Need-plant-requires
 plant-requires c κs =
     let after-draw-book : tie.After-draw-book = search in
@@ -28,7 +23,7 @@ plant-book-spec =
     tie.close
     (tie.spec
     (λ c. search needs)  -- add-n
-    draw-book-requires
+    (λ c κs. let entry : tie.Start = search in draw-room _ _ (entry .pre .0) (entry .pre .1))  -- draw-book-requires
     plant-requires
     (λ c. search needs)  -- same-length
     (λ c. search needs)  -- same-length-2

@@ -64,25 +64,10 @@ adjusted-size c =
       s .pre .1 .inside f,
     )
 
-index-requires-2 : tie.Need-index-requires-2
-index-requires-2 c κs = let s : tie.Start = search in rw (from-read c) (not-negative (s .pre .0 .from))
-
-sub-sub : tie.Need-sub-sub
-sub-sub c = let s : tie.Start = search in omega (arith, to-mark (c .before .before), s .pre .0 .to .low)
-
-mul-sub : tie.Need-mul-sub
-mul-sub c = let s : tie.Start = search in omega (arith, to-mark (c .before .before), s .pre .0 .to .high, s .pre .1 .all)
-
 shared-slice-copy-out-sub : tie.Need-shared-slice-copy-out-sub
 shared-slice-copy-out-sub c =
     let s : tie.Start = search in
     omega (arith, to-mark (c .before .before), s .pre .0 .to .low, s .pre .0 .to .high, s .pre .1 .all)
-
-sub-sub-2 : tie.Need-sub-sub-2
-sub-sub-2 c = let s : tie.Start = search in omega (arith, from-mark (c .before), s .pre .0 .from .low)
-
-mul-sub-2 : tie.Need-mul-sub-2
-mul-sub-2 c = let s : tie.Start = search in omega (arith, from-mark (c .before), s .pre .0 .from .high, s .pre .1 .all)
 
 shared-slice-copy-out-sub-2 : tie.Need-shared-slice-copy-out-sub-2
 shared-slice-copy-out-sub-2 c =
@@ -121,12 +106,12 @@ correction-of-spec =
     tie.close
     (tie.spec
     (λ c κs. rw (to-read c) (not-negative (c .before .pre .0 .to)))  -- index-requires
-    index-requires-2
-    sub-sub
-    mul-sub
+    (λ c κs. let s : tie.Start = search in rw (from-read c) (not-negative (s .pre .0 .from)))  -- index-requires-2
+    (λ c. let s : tie.Start = search in omega (arith, to-mark (c .before .before), s .pre .0 .to .low))  -- sub-sub
+    (λ c. let s : tie.Start = search in omega (arith, to-mark (c .before .before), s .pre .0 .to .high, s .pre .1 .all))  -- mul-sub
     shared-slice-copy-out-sub
-    sub-sub-2
-    mul-sub-2
+    (λ c. let s : tie.Start = search in omega (arith, from-mark (c .before), s .pre .0 .from .low))  -- sub-sub-2
+    (λ c. let s : tie.Start = search in omega (arith, from-mark (c .before), s .pre .0 .from .high, s .pre .1 .all))  -- mul-sub-2
     shared-slice-copy-out-sub-2
     sub-requires
     sub-requires-2

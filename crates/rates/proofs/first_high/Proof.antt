@@ -31,9 +31,6 @@ made c =
     let at : tie.At-loop Inv-loop μ-loop = search in
     c .in-work .ensures ∙ rw (back (getD (s .args .heights .now) (at .loop .i) (pos 0)) (c .before .in-work-arg .given))
 
-loop-holds : tie.Need-loop-holds Inv-loop μ-loop
-loop-holds c = (search needs, scan-start (highAt (c .args .heights .now)) (length (c .args .heights .now)))
-
 returns : tie.Need-returns Inv-loop μ-loop
 unfolding firstHigh
 returns c =
@@ -65,7 +62,7 @@ first-high-spec =
     (tie.spec
     Inv-loop
     μ-loop
-    loop-holds
+    (λ c. (search needs, scan-start (highAt (c .args .heights .now)) (length (c .args .heights .now))))  -- loop-holds
     (λ c. search needs)  -- mul-in-work
     (λ c. search needs)  -- shared-slice-copy-out-in-work
     (λ c κs. tt)  -- in-work-requires

@@ -36,11 +36,6 @@ returns-2 c =
     rw (out-read after-outside ∙ c .before .before .before .if1 .left, ← f .ensures, lt-ltb 0 (f .result) (c .before .if2 .taken))
     (c .refuse2 .ensures)
 
-index-requires : tie.Need-index-requires
-index-requires c κs =
-    let s : tie.Start = search in
-    rw (toZ-ofZ (s .fits .line)) (not-negative (line-in (c .before .before)))
-
 line-rate-requires : tie.Need-line-rate-requires
 line-rate-requires c κs =
     let s : tie.Start = search in
@@ -77,6 +72,6 @@ good-rate-spec =
     (λ c κs. search needs)  -- first-high-requires
     (λ c κs. search needs)  -- refuse-requires-2
     returns-2
-    index-requires
+    (λ c κs. let s : tie.Start = search in rw (toZ-ofZ (s .fits .line)) (not-negative (line-in (c .before .before))))  -- index-requires
     line-rate-requires
     returns-3)

@@ -14,11 +14,6 @@ Inv-loop lines run sum₀ j₀ sum j = (j ≤ length run) × (sum + lengthOf lin
 abbrev μ-loop : tie.MeasureT-loop
 μ-loop lines run sum₀ j₀ sum j = length run - j
 
-mul-length-by : tie.Need-mul-length-by Inv-loop μ-loop
-mul-length-by c =
-    let entry : tie.Start Inv-loop μ-loop = search in
-    omega (arith, entry .pre .1 .few)
-
 cast-length-by : tie.Need-cast-length-by Inv-loop μ-loop
 cast-length-by c =
     let at-loop : tie.At-loop Inv-loop μ-loop = search in
@@ -44,11 +39,6 @@ add-sum c =
       at-loop .loop .inv,
     )
 
-add-j : tie.Need-add-j Inv-loop μ-loop
-add-j c =
-    let entry : tie.Start Inv-loop μ-loop = search in
-    omega (arith, entry .pre .1 .few)
-
 loop-again : tie.Need-loop-again Inv-loop μ-loop
 loop-again c =
     let at-loop : tie.At-loop Inv-loop μ-loop = search in
@@ -73,12 +63,12 @@ run-length-spec =
     Inv-loop
     μ-loop
     (λ c. (omega arith, omega arith, omega arith))  -- loop-holds
-    mul-length-by
+    (λ c. let entry : tie.Start Inv-loop μ-loop = search in omega (arith, entry .pre .1 .few))  -- mul-length-by
     (λ c. omega arith)  -- shared-slice-read-length-by
     cast-length-by
     length-by-requires
     add-sum
-    add-j
+    (λ c. let entry : tie.Start Inv-loop μ-loop = search in omega (arith, entry .pre .1 .few))  -- add-j
     (λ c. omega arith)  -- loop-less
     loop-again
     returns)

@@ -20,11 +20,6 @@ Inv-loop lines run sum₀ j₀ sum j =
 abbrev μ-loop : tie.MeasureT-loop
 μ-loop lines run sum₀ j₀ sum j = length run - j
 
-mul-rise-by : tie.Need-mul-rise-by Inv-loop μ-loop
-mul-rise-by c =
-    let entry : tie.Start Inv-loop μ-loop = search in
-    omega (arith, entry .pre .1 .few)
-
 cast-rise-by : tie.Need-cast-rise-by Inv-loop μ-loop
 cast-rise-by c =
     let at-loop : tie.At-loop Inv-loop μ-loop = search in
@@ -45,11 +40,6 @@ add-requires c κs =
     let s : natAbs (c .rise-by .result) ≤ mostDifference =
     rw (c .rise-by .ensures) (rise-size _ _ (p .0) (p .1 .each (at-loop .loop .j) (omega arith))) in
     rw (back _ (c .rise-by .ok)) (omega (arith, p .1 .few, at-loop .loop .inv))
-
-add-j : tie.Need-add-j Inv-loop μ-loop
-add-j c =
-    let entry : tie.Start Inv-loop μ-loop = search in
-    omega (arith, entry .pre .1 .few)
 
 loop-again : tie.Need-loop-again Inv-loop μ-loop
 loop-again c =
@@ -77,12 +67,12 @@ run-rise-spec =
     Inv-loop
     μ-loop
     (λ c. (omega arith, +ℤ-idl _, omega arith))  -- loop-holds
-    mul-rise-by
+    (λ c. let entry : tie.Start Inv-loop μ-loop = search in omega (arith, entry .pre .1 .few))  -- mul-rise-by
     (λ c. omega arith)  -- shared-slice-read-rise-by
     cast-rise-by
     rise-by-requires
     add-requires
-    add-j
+    (λ c. let entry : tie.Start Inv-loop μ-loop = search in omega (arith, entry .pre .1 .few))  -- add-j
     (λ c. omega arith)  -- loop-less
     loop-again
     returns)

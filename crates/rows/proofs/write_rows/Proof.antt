@@ -16,12 +16,6 @@ Inv-loop lines starts runs count out₀ t i₀ out i =
 abbrev μ-loop : tie.MeasureT-loop
 μ-loop lines starts runs count out₀ t i₀ out i = count - i
 
-mul-at : tie.Need-mul-at Inv-loop μ-loop
-mul-at c =
-    let entry : tie.Start Inv-loop μ-loop = search in
-    let p = entry .pre in
-    omega (arith, p .1 .1, entry .good)
-
 mul-begin : tie.Need-mul-begin Inv-loop μ-loop
 mul-begin c =
     let entry : tie.Start Inv-loop μ-loop = search in
@@ -87,18 +81,6 @@ part-row-of-end c =
     let p = entry .pre in
     run-fits (p .1 .0) (at-loop .loop .i) (omega (arith, p .1 .0 .counted))
 
-add-row-of : tie.Need-add-row-of Inv-loop μ-loop
-add-row-of c =
-    let entry : tie.Start Inv-loop μ-loop = search in
-    let p = entry .pre in
-    omega (arith, p .1 .1, entry .good)
-
-mul-row-of-2 : tie.Need-mul-row-of-2 Inv-loop μ-loop
-mul-row-of-2 c =
-    let entry : tie.Start Inv-loop μ-loop = search in
-    let p = entry .pre in
-    omega (arith, p .1 .1, entry .good)
-
 part-row-of-end-2 : tie.Need-part-row-of-end-2 Inv-loop μ-loop
 part-row-of-end-2 c =
     let at-loop : tie.At-loop Inv-loop μ-loop = search in
@@ -117,12 +99,6 @@ row-of-requires c κs =
         (p .0 .small-tolerance, simp (length-take, length-drop) (omega (arith, c, at-loop .loop .inv .1, p .1 .1))),
       ),
     )
-
-add-i : tie.Need-add-i Inv-loop μ-loop
-add-i c =
-    let entry : tie.Start Inv-loop μ-loop = search in
-    let p = entry .pre in
-    omega (arith, p .1 .1, entry .good)
 
 loop-again : tie.Need-loop-again Inv-loop μ-loop
 loop-again c =
@@ -147,7 +123,7 @@ write-rows-spec =
     Inv-loop
     μ-loop
     (λ c. (omega arith, refl, all-written-start))  -- loop-holds
-    mul-at
+    (λ c. let entry : tie.Start Inv-loop μ-loop = search in let p = entry .pre in omega (arith, p .1 .1, entry .good))  -- mul-at
     mul-begin
     shared-slice-read-begin
     add-end
@@ -157,13 +133,13 @@ write-rows-spec =
     sub-row-of
     part-row-of-start
     part-row-of-end
-    add-row-of
-    mul-row-of-2
+    (λ c. let entry : tie.Start Inv-loop μ-loop = search in let p = entry .pre in omega (arith, p .1 .1, entry .good))  -- add-row-of
+    (λ c. let entry : tie.Start Inv-loop μ-loop = search in let p = entry .pre in omega (arith, p .1 .1, entry .good))  -- mul-row-of-2
     (λ c. omega arith)  -- sub-row-of-2
     (λ c. omega arith)  -- part-row-of-start-2
     part-row-of-end-2
     row-of-requires
-    add-i
+    (λ c. let entry : tie.Start Inv-loop μ-loop = search in let p = entry .pre in omega (arith, p .1 .1, entry .good))  -- add-i
     (λ c. omega arith)  -- loop-less
     loop-again
     (λ c. omega arith)  -- same-length

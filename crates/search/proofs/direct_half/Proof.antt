@@ -4,11 +4,6 @@ use borrow.Author.Needs.{needs}
 use Rattle.search.proofs.direct_half.Statement.{statement}
 use Rattle.search.proofs.direct_half.Tie as tie
 
-least-sum-requires : tie.Need-least-sum-requires
-least-sum-requires c κs =
-    let s : tie.Start = search in
-    (s .pre .0, s .pre .1 .0 .chained (s .args .r) (s .pre .1 .1 .r-ok))
-
 returns : tie.Need-returns
 returns c = direct-none _ _ _ _ _ _
 
@@ -27,7 +22,7 @@ direct-half-spec =
     (tie.spec
     (λ c. search needs)  -- mul-least-sum
     (λ c. search needs)  -- shared-slice-read-least-sum
-    least-sum-requires
+    (λ c κs. let s : tie.Start = search in (s .pre .0, s .pre .1 .0 .chained (s .args .r) (s .pre .1 .1 .r-ok)))  -- least-sum-requires
     returns
     (λ c. search needs)  -- mul-if2
     (λ c. search needs)  -- shared-slice-read-if2

@@ -14,16 +14,6 @@ Inv-loop next ends n first s₀ h₀ s h = ((hs : List ℕ) × Chain next h hs) 
 abbrev μ-loop : tie.MeasureT-loop
 μ-loop next ends n first s₀ h₀ s h = stepsLeft next h
 
-loop-holds : tie.Need-loop-holds Inv-loop μ-loop
-loop-holds c =
-    let entry : tie.Start Inv-loop μ-loop = search in
-    ((entry .pre .1 .hs, entry .pre .1 .chain), least-start _ _ _)
-
-mul-e : tie.Need-mul-e Inv-loop μ-loop
-mul-e c =
-    let at-loop : tie.At-loop Inv-loop μ-loop = search in
-    omega (arith, chain-low (at-loop .loop .inv .0 .1))
-
 shared-slice-read-e : tie.Need-shared-slice-read-e Inv-loop μ-loop
 shared-slice-read-e c =
     let at-loop : tie.At-loop Inv-loop μ-loop = search in
@@ -37,21 +27,11 @@ add-lesser c =
     let lt = chain-low (at-loop .loop .inv .0 .1) in
     omega (arith, lt, entry .pre .0 .short (at-loop .loop .h) lt)
 
-mul-h : tie.Need-mul-h Inv-loop μ-loop
-mul-h c =
-    let at-loop : tie.At-loop Inv-loop μ-loop = search in
-    omega (arith, chain-low (at-loop .loop .inv .0 .1))
-
 shared-slice-read-h : tie.Need-shared-slice-read-h Inv-loop μ-loop
 shared-slice-read-h c =
     let at-loop : tie.At-loop Inv-loop μ-loop = search in
     let entry : tie.Start Inv-loop μ-loop = search in
     omega (arith, chain-low (at-loop .loop .inv .0 .1), entry .pre .1 .nexts)
-
-loop-less : tie.Need-loop-less Inv-loop μ-loop
-loop-less c =
-    let at-loop : tie.At-loop Inv-loop μ-loop = search in
-    steps-fall (at-loop .loop .inv .0 .1) (omega arith)
 
 loop-again : tie.Need-loop-again Inv-loop μ-loop
 loop-again c =
@@ -70,14 +50,14 @@ least-sum-spec =
     (tie.spec
     Inv-loop
     μ-loop
-    loop-holds
-    mul-e
+    (λ c. let entry : tie.Start Inv-loop μ-loop = search in ((entry .pre .1 .hs, entry .pre .1 .chain), least-start _ _ _))  -- loop-holds
+    (λ c. let at-loop : tie.At-loop Inv-loop μ-loop = search in omega (arith, chain-low (at-loop .loop .inv .0 .1)))  -- mul-e
     shared-slice-read-e
     (λ c. search needs)  -- sub-lesser
     add-lesser
     (λ c κs. search needs)  -- lesser-requires
-    mul-h
+    (λ c. let at-loop : tie.At-loop Inv-loop μ-loop = search in omega (arith, chain-low (at-loop .loop .inv .0 .1)))  -- mul-h
     shared-slice-read-h
-    loop-less
+    (λ c. let at-loop : tie.At-loop Inv-loop μ-loop = search in steps-fall (at-loop .loop .inv .0 .1) (omega arith))  -- loop-less
     loop-again
     returns)

@@ -24,11 +24,6 @@ loop-holds c =
     let entry : tie.Start Inv-loop μ-loop = search in
     ((entry .pre .1 .0 .hs, entry .pre .1 .0 .chain), relax-start _ _ _ _ _ _ _ (entry .pre .1 .1 .0), refl, refl)
 
-mul-e : tie.Need-mul-e Inv-loop μ-loop
-mul-e c =
-    let at-loop : tie.At-loop Inv-loop μ-loop = search in
-    omega (arith, chain-low (at-loop .loop .inv .0 .1))
-
 shared-slice-read-e : tie.Need-shared-slice-read-e Inv-loop μ-loop
 shared-slice-read-e c =
     let at-loop : tie.At-loop Inv-loop μ-loop = search in
@@ -55,21 +50,11 @@ offer-requires c κs =
     let entry : tie.Start Inv-loop μ-loop = search in
     (at-loop .loop .inv .1 .stage, entry .pre .0 .mark-ok (at-loop .loop .h) (chain-low (at-loop .loop .inv .0 .1)))
 
-mul-h : tie.Need-mul-h Inv-loop μ-loop
-mul-h c =
-    let at-loop : tie.At-loop Inv-loop μ-loop = search in
-    omega (arith, chain-low (at-loop .loop .inv .0 .1))
-
 shared-slice-read-h : tie.Need-shared-slice-read-h Inv-loop μ-loop
 shared-slice-read-h c =
     let at-loop : tie.At-loop Inv-loop μ-loop = search in
     let entry : tie.Start Inv-loop μ-loop = search in
     omega (arith, chain-low (at-loop .loop .inv .0 .1), entry .pre .1 .0 .nexts)
-
-loop-less : tie.Need-loop-less Inv-loop μ-loop
-loop-less c =
-    let at-loop : tie.At-loop Inv-loop μ-loop = search in
-    steps-fall (at-loop .loop .inv .0 .1) (omega arith)
 
 loop-again : tie.Need-loop-again Inv-loop μ-loop
 loop-again c =
@@ -94,15 +79,15 @@ relax-spec =
     Inv-loop
     μ-loop
     loop-holds
-    mul-e
+    (λ c. let at-loop : tie.At-loop Inv-loop μ-loop = search in omega (arith, chain-low (at-loop .loop .inv .0 .1)))  -- mul-e
     shared-slice-read-e
     (λ c. search needs)  -- sub-sum
     add-sum
     add-offer
     offer-requires
-    mul-h
+    (λ c. let at-loop : tie.At-loop Inv-loop μ-loop = search in omega (arith, chain-low (at-loop .loop .inv .0 .1)))  -- mul-h
     shared-slice-read-h
-    loop-less
+    (λ c. let at-loop : tie.At-loop Inv-loop μ-loop = search in steps-fall (at-loop .loop .inv .0 .1) (omega arith))  -- loop-less
     loop-again
     (λ c. omega arith)  -- same-length
     (λ c. omega arith)  -- same-length-2

@@ -15,21 +15,6 @@ Inv-loop weight a e sum₀ j₀ sum j =
 abbrev μ-loop : tie.MeasureT-loop
 μ-loop weight a e sum₀ j₀ sum j = e - j
 
-loop-holds : tie.Need-loop-holds Inv-loop μ-loop
-loop-holds c = let o = c .pre .span .order in (omega arith, omega arith, omega arith, omega arith)
-
-mul-sum : tie.Need-mul-sum Inv-loop μ-loop
-mul-sum c = let s = c .before .before in omega (arith, s .pre .long)
-
-shared-slice-read-sum : tie.Need-shared-slice-read-sum Inv-loop μ-loop
-shared-slice-read-sum c = let s = c .before .before .before in omega (arith, s .pre .long)
-
-add-sum : tie.Need-add-sum Inv-loop μ-loop
-add-sum c = let s = c .before .before .before in omega (arith, s .pre .span .few, s .pre .small (c .before .before .loop .j))
-
-add-j : tie.Need-add-j Inv-loop μ-loop
-add-j c = let s = c .before .before .before in omega (arith, s .pre .long)
-
 loop-again : tie.Need-loop-again Inv-loop μ-loop
 loop-again c =
     let s = c .before .before .before in
@@ -50,11 +35,11 @@ total-of-spec =
     (tie.spec
     Inv-loop
     μ-loop
-    loop-holds
-    mul-sum
-    shared-slice-read-sum
-    add-sum
-    add-j
+    (λ c. let o = c .pre .span .order in (omega arith, omega arith, omega arith, omega arith))  -- loop-holds
+    (λ c. let s = c .before .before in omega (arith, s .pre .long))  -- mul-sum
+    (λ c. let s = c .before .before .before in omega (arith, s .pre .long))  -- shared-slice-read-sum
+    (λ c. let s = c .before .before .before in omega (arith, s .pre .span .few, s .pre .small (c .before .before .loop .j)))  -- add-sum
+    (λ c. let s = c .before .before .before in omega (arith, s .pre .long))  -- add-j
     (λ c. search needs)  -- loop-less
     loop-again
     returns)

@@ -32,11 +32,6 @@ turn : (c : tie.In-loop Inv-loop μ-loop) →
     (s .args .b) (s .args .a) (l .loop .c) (l .loop .h) (sightsOf (standing (s .args .lines .now)) (s .args .m)))
 turn c = turn-of (c .before .loop .inv .3) (c .loop-test .taken)
 
-shared-slice-read-h : tie.Need-shared-slice-read-h Inv-loop μ-loop
-shared-slice-read-h c =
-    let s : tie.Start Inv-loop μ-loop = search in
-    omega (arith, s .pre .1 .0 .heads, s .pre .1 .1 .0)
-
 loop-holds : tie.Need-loop-holds Inv-loop μ-loop
 loop-holds c =
     let s : tie.Start Inv-loop μ-loop = search in
@@ -63,20 +58,10 @@ add-c c =
     let i : tie.In-loop Inv-loop μ-loop = search in
     omega (arith, turn i .room .others, i .before .loop .inv .0, start-of (i .before) .good)
 
-mul-h-2 : tie.Need-mul-h-2 Inv-loop μ-loop
-mul-h-2 c =
-    let i : tie.In-loop Inv-loop μ-loop = search in
-    omega (arith, turn i .fits)
-
 shared-slice-read-h-2 : tie.Need-shared-slice-read-h-2 Inv-loop μ-loop
 shared-slice-read-h-2 c =
     let i : tie.In-loop Inv-loop μ-loop = search in
     omega (arith, turn i .fits, start-of (i .before) .pre .1 .0 .nexts)
-
-loop-less : tie.Need-loop-less Inv-loop μ-loop
-loop-less c =
-    let i : tie.In-loop Inv-loop μ-loop = search in
-    omega (arith, turn i .more)
 
 loop-again : tie.Need-loop-again Inv-loop μ-loop
 loop-again c =
@@ -108,13 +93,13 @@ write-chain-spec =
     Inv-loop
     μ-loop
     (λ c. search needs)  -- mul-h
-    shared-slice-read-h
+    (λ c. let s : tie.Start Inv-loop μ-loop = search in omega (arith, s .pre .1 .0 .heads, s .pre .1 .1 .0))  -- shared-slice-read-h
     loop-holds
     write-half-requires
     add-c
-    mul-h-2
+    (λ c. let i : tie.In-loop Inv-loop μ-loop = search in omega (arith, turn i .fits))  -- mul-h-2
     shared-slice-read-h-2
-    loop-less
+    (λ c. let i : tie.In-loop Inv-loop μ-loop = search in omega (arith, turn i .more))  -- loop-less
     loop-again
     (λ c. c .before .loop .inv .0)  -- same-length
     (λ c. c .before .loop .inv .1)  -- same-length-2

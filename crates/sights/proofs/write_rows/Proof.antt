@@ -50,16 +50,6 @@ write-row-requires c κs =
       ),
     )
 
-add-v : tie.Need-add-v Inv-loop μ-loop
-add-v c =
-    let in-loop : tie.In-loop Inv-loop μ-loop = search in
-    omega (arith, in-loop .loop-test .taken)
-
-loop-less : tie.Need-loop-less Inv-loop μ-loop
-loop-less c =
-    let in-loop : tie.In-loop Inv-loop μ-loop = search in
-    omega (arith, in-loop .loop-test .taken)
-
 loop-again : tie.Need-loop-again Inv-loop μ-loop
 loop-again c =
     let after-write-row : tie.After-write-row Inv-loop μ-loop = search in
@@ -75,11 +65,6 @@ loop-again c =
       w .kept .1 .1 .1 .1 .1 .1 .1 .0 ∙ l .inv .5,
       w .ensures,
     )
-
-mul-first : tie.Need-mul-first Inv-loop μ-loop
-mul-first c =
-    let s : tie.Start Inv-loop μ-loop = search in
-    omega (arith, s .pre .1 .1 .1 .firsts)
 
 slice-write-first : tie.Need-slice-write-first Inv-loop μ-loop
 slice-write-first c =
@@ -111,10 +96,10 @@ write-rows-spec =
     μ-loop
     loop-holds
     write-row-requires
-    add-v
-    loop-less
+    (λ c. let in-loop : tie.In-loop Inv-loop μ-loop = search in omega (arith, in-loop .loop-test .taken))  -- add-v
+    (λ c. let in-loop : tie.In-loop Inv-loop μ-loop = search in omega (arith, in-loop .loop-test .taken))  -- loop-less
     loop-again
-    mul-first
+    (λ c. let s : tie.Start Inv-loop μ-loop = search in omega (arith, s .pre .1 .1 .1 .firsts))  -- mul-first
     slice-write-first
     (λ c. simp length-set (c .before .loop .inv .1))  -- same-length
     (λ c. c .before .loop .inv .2)  -- same-length-2

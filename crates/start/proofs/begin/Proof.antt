@@ -19,16 +19,6 @@ Inv-loop flags own root over base h₀ b v₀ h v =
 abbrev μ-loop : tie.MeasureT-loop
 μ-loop flags own root over base h₀ b v₀ h v = b - v
 
-start-at-requires : tie.Need-start-at-requires Inv-loop μ-loop
-start-at-requires c κs =
-    let s : tie.Start Inv-loop μ-loop = search in
-    (c .loop-test .taken, (s .pre .1 .0, s .pre .1 .1))
-
-mul-z : tie.Need-mul-z Inv-loop μ-loop
-mul-z c =
-    let s : tie.Start Inv-loop μ-loop = search in
-    omega (arith, c .before .loop-test .taken, s .pre .1 .0 .held .few)
-
 slice-set-from-z : tie.Need-slice-set-from-z Inv-loop μ-loop
 slice-set-from-z c =
     let s : tie.Start Inv-loop μ-loop = search in
@@ -59,8 +49,8 @@ begin-spec =
     Inv-loop
     μ-loop
     (λ c. (search needs, refl, λ u l. absurd (omega arith)))  -- loop-holds
-    start-at-requires
-    mul-z
+    (λ c κs. let s : tie.Start Inv-loop μ-loop = search in (c .loop-test .taken, (s .pre .1 .0, s .pre .1 .1)))  -- start-at-requires
+    (λ c. let s : tie.Start Inv-loop μ-loop = search in omega (arith, c .before .loop-test .taken, s .pre .1 .0 .held .few))  -- mul-z
     slice-set-from-z
     (λ c. omega (arith, c .before .loop-test .taken))  -- add-v
     (λ c. omega (arith, c .before .loop-test .taken))  -- loop-less

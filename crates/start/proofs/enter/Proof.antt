@@ -39,11 +39,6 @@ come-in-requires c κs =
       ),
     )
 
-sub-root : tie.Need-sub-root
-sub-root c =
-    let s : tie.Start = search in
-    let g = s .pre .1 .0 .marks (s .args .k) (s .pre .1 .1 .1 .0) in g .0
-
 mul-root : tie.Need-mul-root
 mul-root c =
     let s : tie.Start = search in
@@ -53,11 +48,6 @@ slice-write-root : tie.Need-slice-write-root
 slice-write-root c =
     let s : tie.Start = search in
     let g = s .pre .1 .0 .marks (s .args .k) (s .pre .1 .1 .1 .0) in omega (arith, g .0, g .1, s .pre .1 .1 .0 .spotted .roots)
-
-sub-its-over : tie.Need-sub-its-over
-sub-its-over c =
-    let s : tie.Start = search in
-    let g = s .pre .1 .0 .marks (s .args .k) (s .pre .1 .1 .1 .0) in g .0
 
 mul-its-over : tie.Need-mul-its-over
 mul-its-over c =
@@ -92,10 +82,10 @@ enter-spec =
     mul-j
     shared-slice-read-j
     come-in-requires
-    sub-root
+    (λ c. let s : tie.Start = search in let g = s .pre .1 .0 .marks (s .args .k) (s .pre .1 .1 .1 .0) in g .0)  -- sub-root
     mul-root
     slice-write-root
-    sub-its-over
+    (λ c. let s : tie.Start = search in let g = s .pre .1 .0 .marks (s .args .k) (s .pre .1 .1 .1 .0) in g .0)  -- sub-its-over
     mul-its-over
     slice-set-from-its-over
     (λ c. search needs)  -- same-length

@@ -12,18 +12,6 @@ Inv-loop root has b v₀ v = (v ≤ b) × Scanned (unheld root has) b v
 abbrev μ-loop : tie.MeasureT-loop
 μ-loop root has b v₀ v = b - v
 
-loop-holds : tie.Need-loop-holds Inv-loop μ-loop
-loop-holds c = (search needs, scan-start (unheld (c .args .root .now) (c .args .has .now)) (c .args .b))
-
-mul-if1 : tie.Need-mul-if1 Inv-loop μ-loop
-mul-if1 c = let s = c .before .before in omega (arith, c .loop-test .taken, s .pre .0 .all)
-
-shared-slice-read-if1 : tie.Need-shared-slice-read-if1 Inv-loop μ-loop
-shared-slice-read-if1 c = let s = c .before .before .before in omega (arith, c .before .loop-test .taken, s .pre .0 .all)
-
-sub-if1 : tie.Need-sub-if1 Inv-loop μ-loop
-sub-if1 c = let s = c .before .before .before in s .pre .0 .marks (c .before .before .loop .v) (c .before .loop-test .taken) .0
-
 shared-slice-read-if1-2 : tie.Need-shared-slice-read-if1-2 Inv-loop μ-loop
 shared-slice-read-if1-2 c =
     let s : tie.Start Inv-loop μ-loop = search in
@@ -58,10 +46,10 @@ first-unheld-spec =
     (tie.spec
     Inv-loop
     μ-loop
-    loop-holds
-    mul-if1
-    shared-slice-read-if1
-    sub-if1
+    (λ c. (search needs, scan-start (unheld (c .args .root .now) (c .args .has .now)) (c .args .b)))  -- loop-holds
+    (λ c. let s = c .before .before in omega (arith, c .loop-test .taken, s .pre .0 .all))  -- mul-if1
+    (λ c. let s = c .before .before .before in omega (arith, c .before .loop-test .taken, s .pre .0 .all))  -- shared-slice-read-if1
+    (λ c. let s = c .before .before .before in s .pre .0 .marks (c .before .before .loop .v) (c .before .loop-test .taken) .0)  -- sub-if1
     shared-slice-read-if1-2
     (λ c. omega (arith, c .before .before .before .loop-test .taken))  -- add-result
     returns

@@ -30,11 +30,6 @@ slice-write-flags c =
     let s : tie.Start = search in
     omega (arith, mark-read (c .before), s .pre .0 .good .mark .low, s .pre .0 .good .mark .high, s .pre .1 .flagged)
 
-mul-z-2 : tie.Need-mul-z-2
-mul-z-2 c =
-    let s : tie.Start = search in
-    omega (arith, mark-read (c .before), s .pre .0 .good .mark .high, s .pre .1 .heighted)
-
 slice-set-from-z : tie.Need-slice-set-from-z
 slice-set-from-z c =
     let s : tie.Start = search in
@@ -62,7 +57,7 @@ hold-spec =
     (λ c. search needs)  -- mul-z
     (λ c. search needs)  -- shared-slice-copy-out-z
     slice-write-flags
-    mul-z-2
+    (λ c. let s : tie.Start = search in omega (arith, mark-read (c .before), s .pre .0 .good .mark .high, s .pre .1 .heighted))  -- mul-z-2
     slice-set-from-z
     (λ c. search needs)  -- same-length
     (λ c. search needs)  -- same-length-2

@@ -34,11 +34,6 @@ hold-requires c κs =
     let e : l .i - 1 + 1 ≡ l .i = omega arith in
     (held-place (s .args .held .now) (s .args .b) (s .args .h) (l .i - 1) (s .pre .0) (omega arith), rw e (l .inv .3))
 
-loop-less : tie.Need-loop-less Inv-loop μ-loop
-loop-less c =
-    let in-loop : tie.In-loop Inv-loop μ-loop = search in
-    let t = in-loop .loop-test .taken in omega arith
-
 loop-again : tie.Need-loop-again Inv-loop μ-loop
 loop-again c =
     let in-loop : tie.In-loop Inv-loop μ-loop = search in
@@ -61,7 +56,7 @@ hold-all-spec =
     loop-holds
     (λ c. search needs)  -- sub-i
     hold-requires
-    loop-less
+    (λ c. let in-loop : tie.In-loop Inv-loop μ-loop = search in let t = in-loop .loop-test .taken in omega arith)  -- loop-less
     loop-again
     (λ c. c .before .loop .inv .1)  -- same-length
     (λ c. c .before .loop .inv .2)  -- same-length-2

@@ -23,11 +23,6 @@ over-read s =
     read (getD (s .args .over .now) (s .args .v) (pos 0)) (mostMarks * mostDifference)
     (omega (arith, s .pre .1 .0 .spotted .size (s .args .v), s .pre .1 .0 .held .few)) (omega arith)
 
-sub-r : tie.Need-sub-r
-sub-r c =
-    let s : tie.Start = search in
-    s .pre .1 .0 .spotted .marks (s .args .v) (s .pre .0) .0
-
 sub-requires : tie.Need-sub-requires
 sub-requires c κs =
     let s : tie.Start = search in
@@ -84,7 +79,7 @@ lift-spec =
     (λ c. search needs)  -- shared-slice-read-if1
     (λ c. search needs)  -- mul-r
     (λ c. search needs)  -- shared-slice-read-r
-    sub-r
+    (λ c. let s : tie.Start = search in s .pre .1 .0 .spotted .marks (s .args .v) (s .pre .0) .0)  -- sub-r
     (λ c. search needs)  -- mul-sub
     (λ c. search needs)  -- shared-slice-copy-out-sub
     (λ c. search needs)  -- mul-sub-2

@@ -15,9 +15,6 @@ Inv-loop flags own root over has₀ base₀ b v₀ has base v =
 abbrev μ-loop : tie.MeasureT-loop
 μ-loop flags own root over has₀ base₀ b v₀ has base v = v
 
-loop-holds : tie.Need-loop-holds Inv-loop μ-loop
-loop-holds c = let s = c .before .before .before in (search needs, refl, refl, s .pre .1)
-
 lift-requires : tie.Need-lift-requires Inv-loop μ-loop
 lift-requires c κs =
     let s : tie.Start Inv-loop μ-loop = search in
@@ -25,11 +22,6 @@ lift-requires c κs =
     let t = c .before .before .loop-test .taken in
     let e : l .v - 1 + 1 ≡ l .v = omega arith in
     (omega arith, (s .pre .0, rw e (l .inv .3)))
-
-loop-less : tie.Need-loop-less Inv-loop μ-loop
-loop-less c =
-    let in-loop : tie.In-loop Inv-loop μ-loop = search in
-    let t = in-loop .loop-test .taken in omega arith
 
 loop-again : tie.Need-loop-again Inv-loop μ-loop
 loop-again c =
@@ -53,10 +45,10 @@ lift-all-spec =
     (tie.spec
     Inv-loop
     μ-loop
-    loop-holds
+    (λ c. let s = c .before .before .before in (search needs, refl, refl, s .pre .1))  -- loop-holds
     (λ c. search needs)  -- sub-v
     lift-requires
-    loop-less
+    (λ c. let in-loop : tie.In-loop Inv-loop μ-loop = search in let t = in-loop .loop-test .taken in omega arith)  -- loop-less
     loop-again
     (λ c. c .before .loop .inv .1)  -- same-length
     (λ c. c .before .loop .inv .2)  -- same-length-2

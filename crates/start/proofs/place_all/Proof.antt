@@ -14,23 +14,10 @@ Inv-loop lines order best root₀ over₀ b n k₀ root over k =
 abbrev μ-loop : tie.MeasureT-loop
 μ-loop lines order best root₀ over₀ b n k₀ root over k = b - k
 
-loop-holds : tie.Need-loop-holds Inv-loop μ-loop
-loop-holds c = let s = c .before .before .before in (search needs, refl, refl, s .pre .1 .1 .0)
-
 enter-requires : tie.Need-enter-requires Inv-loop μ-loop
 enter-requires c κs =
     let s : tie.Start Inv-loop μ-loop = search in
     (s .pre .0, (s .pre .1 .0, (c .before .before .before .loop .inv .3, (c .before .before .loop-test .taken, s .pre .1 .1 .1))))
-
-add-k : tie.Need-add-k Inv-loop μ-loop
-add-k c =
-    let in-loop : tie.In-loop Inv-loop μ-loop = search in
-    omega (arith, in-loop .loop-test .taken)
-
-loop-less : tie.Need-loop-less Inv-loop μ-loop
-loop-less c =
-    let in-loop : tie.In-loop Inv-loop μ-loop = search in
-    omega (arith, in-loop .loop-test .taken)
 
 loop-again : tie.Need-loop-again Inv-loop μ-loop
 loop-again c =
@@ -54,10 +41,10 @@ place-all-spec =
     (tie.spec
     Inv-loop
     μ-loop
-    loop-holds
+    (λ c. let s = c .before .before .before in (search needs, refl, refl, s .pre .1 .1 .0))  -- loop-holds
     enter-requires
-    add-k
-    loop-less
+    (λ c. let in-loop : tie.In-loop Inv-loop μ-loop = search in omega (arith, in-loop .loop-test .taken))  -- add-k
+    (λ c. let in-loop : tie.In-loop Inv-loop μ-loop = search in omega (arith, in-loop .loop-test .taken))  -- loop-less
     loop-again
     (λ c. c .before .loop .inv .1)  -- same-length
     (λ c. c .before .loop .inv .2)  -- same-length-2

@@ -14,12 +14,6 @@ Inv-loop root₀ b v₀ root v = (v ≤ b) × (length root ≡ length root₀) �
 abbrev μ-loop : tie.MeasureT-loop
 μ-loop root₀ b v₀ root v = b - v
 
-mul-root : tie.Need-mul-root Inv-loop μ-loop
-mul-root c = let s = c .before .before in omega (arith, c .loop-test .taken, s .pre)
-
-slice-write-root : tie.Need-slice-write-root Inv-loop μ-loop
-slice-write-root c = let s = c .before .before in omega (arith, c .loop-test .taken, s .pre, c .before .loop .inv .1)
-
 loop-again : tie.Need-loop-again Inv-loop μ-loop
 loop-again c =
     let s = c .before .before in
@@ -40,8 +34,8 @@ seed-spec =
     μ-loop
     (λ c. (search needs, refl, λ u l. absurd (omega arith)))  -- loop-holds
     (λ c. omega (arith, c .loop-test .taken))  -- add-root
-    mul-root
-    slice-write-root
+    (λ c. let s = c .before .before in omega (arith, c .loop-test .taken, s .pre))  -- mul-root
+    (λ c. let s = c .before .before in omega (arith, c .loop-test .taken, s .pre, c .before .loop .inv .1))  -- slice-write-root
     (λ c. omega (arith, c .loop-test .taken))  -- add-v
     (λ c. omega (arith, c .loop-test .taken))  -- loop-less
     loop-again

@@ -26,11 +26,6 @@ over-read s =
 base-read : (s : tie.Start) (i : ℕ) → toZ w64 (ofZ w64 (getD (s .args .base .now) i (pos 0))) ≡ getD (s .args .base .now) i (pos 0)
 base-read s i = read (getD (s .args .base .now) i (pos 0)) mostRoot (s .pre .1 .1 .size i) (omega arith)
 
-sub-add : tie.Need-sub-add
-sub-add c =
-    let s : tie.Start = search in
-    s .pre .1 .0 .spotted .marks (s .args .v) (s .pre .0) .0
-
 mul-add-2 : tie.Need-mul-add-2
 mul-add-2 c =
     let s : tie.Start = search in
@@ -70,7 +65,7 @@ start-at-spec =
     (tie.spec
     (λ c. search needs)  -- mul-add
     (λ c. search needs)  -- shared-slice-read-add
-    sub-add
+    (λ c. let s : tie.Start = search in s .pre .1 .0 .spotted .marks (s .args .v) (s .pre .0) .0)  -- sub-add
     mul-add-2
     shared-slice-copy-out-add
     (λ c. search needs)  -- mul-add-3

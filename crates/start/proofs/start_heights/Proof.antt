@@ -5,16 +5,6 @@ use Rattle.start.proofs.Zeros.{so-many, bare}
 use Rattle.start.proofs.start_heights.Statement.{statement}
 use Rattle.start.proofs.start_heights.Tie as tie
 
-slice-aggregate-place-and-raise : tie.Need-slice-aggregate-place-and-raise
-slice-aggregate-place-and-raise c =
-    let s : tie.Start = search in
-    sym (so-many 0 (s .args .b) 256 (s .pre .1 .1 .0 .few))
-
-slice-aggregate-place-and-raise-2 : tie.Need-slice-aggregate-place-and-raise-2
-slice-aggregate-place-and-raise-2 c =
-    let s : tie.Start = search in
-    sym (so-many (pos 0) (s .args .b) 256 (s .pre .1 .1 .0 .few))
-
 place-and-raise-requires : tie.Need-place-and-raise-requires
 place-and-raise-requires c κs =
     let s : tie.Start = search in
@@ -26,9 +16,9 @@ start-heights-spec =
     tie.close
     (tie.spec
     (λ c. search needs)  -- array-borrow-prefix-root
-    slice-aggregate-place-and-raise
+    (λ c. let s : tie.Start = search in sym (so-many 0 (s .args .b) 256 (s .pre .1 .1 .0 .few)))  -- slice-aggregate-place-and-raise
     (λ c. search needs)  -- array-borrow-prefix-over
-    slice-aggregate-place-and-raise-2
+    (λ c. let s : tie.Start = search in sym (so-many (pos 0) (s .args .b) 256 (s .pre .1 .1 .0 .few)))  -- slice-aggregate-place-and-raise-2
     place-and-raise-requires
     (λ c. search needs)  -- same-length
     (λ c. search needs))  -- returns

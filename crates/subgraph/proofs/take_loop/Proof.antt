@@ -4,51 +4,15 @@ use borrow.Author.Needs.{needs}
 use Rattle.subgraph.proofs.take_loop.Statement.{statement}
 use Rattle.subgraph.proofs.take_loop.Tie as tie
 
-mul-h : tie.Need-mul-h
-mul-h c =
-    let entry : tie.Start = search in
-    omega (arith, takes-number (entry .pre))
-
-add-from : tie.Need-add-from
-add-from c =
-    let entry : tie.Start = search in
-    omega (arith, takes-number (entry .pre))
-
-mul-from : tie.Need-mul-from
-mul-from c =
-    let entry : tie.Start = search in
-    omega (arith, takes-number (entry .pre))
-
 shared-slice-read-from : tie.Need-shared-slice-read-from
 shared-slice-read-from c =
     let entry : tie.Start = search in
     omega (arith, takes-number (entry .pre), entry .pre .bounded .ends-at)
 
-mul-to : tie.Need-mul-to
-mul-to c =
-    let entry : tie.Start = search in
-    omega (arith, takes-number (entry .pre))
-
-shared-slice-read-to : tie.Need-shared-slice-read-to
-shared-slice-read-to c =
-    let entry : tie.Start = search in
-    omega (arith, takes-number (entry .pre), entry .pre .bounded .ends-at)
-
-path-requires : tie.Need-path-requires
-path-requires c κs =
-    let entry : tie.Start = search in
-    let p = entry .pre in
-    (takes-held p, (p .room, takes-two p))
-
 returns : tie.Need-returns
 returns c =
     let after-path : tie.After-path = search in
     λ q lines sub l tk. took-same lines sub l tk (after-path .path .ensures) (c .if1 .taken)
-
-join-requires : tie.Need-join-requires
-join-requires c κs =
-    let entry : tie.Start = search in
-    (takes-fits (entry .pre), takes-room (entry .pre))
 
 returns-2 : tie.Need-returns-2
 returns-2 c =
@@ -60,20 +24,20 @@ pub take-loop-spec : {M : Type 1} → statement M
 take-loop-spec =
     tie.close
     (tie.spec
-    mul-h
-    add-from
-    mul-from
+    (λ c. let entry : tie.Start = search in omega (arith, takes-number (entry .pre)))  -- mul-h
+    (λ c. let entry : tie.Start = search in omega (arith, takes-number (entry .pre)))  -- add-from
+    (λ c. let entry : tie.Start = search in omega (arith, takes-number (entry .pre)))  -- mul-from
     shared-slice-read-from
-    mul-to
-    shared-slice-read-to
-    path-requires
+    (λ c. let entry : tie.Start = search in omega (arith, takes-number (entry .pre)))  -- mul-to
+    (λ c. let entry : tie.Start = search in omega (arith, takes-number (entry .pre), entry .pre .bounded .ends-at))  -- shared-slice-read-to
+    (λ c κs. let entry : tie.Start = search in let p = entry .pre in (takes-held p, (p .room, takes-two p)))  -- path-requires
     (λ c. search needs)  -- same-length
     (λ c. search needs)  -- same-length-2
     (λ c. search needs)  -- same-length-3
     (λ c. search needs)  -- same-length-4
     (λ c. search needs)  -- same-length-5
     returns
-    join-requires
+    (λ c κs. let entry : tie.Start = search in (takes-fits (entry .pre), takes-room (entry .pre)))  -- join-requires
     (λ c. search needs)  -- same-length-6
     (λ c. search needs)  -- same-length-7
     (λ c. search needs)  -- same-length-8

@@ -4,12 +4,6 @@ use borrow.Author.Needs.{needs}
 use Rattle.survey_cases.proofs.run.Statement.{statement}
 use Rattle.survey_cases.proofs.run.Tie as tie
 
-same-length-3 : tie.Need-same-length-3
-same-length-3 c =
-    let after-clear : tie.After-clear = search in
-    let s : tie.Start = search in
-    search needs
-
 pub run-spec : {M : Type 1} → statement M
 run-spec =
     tie.close
@@ -30,5 +24,5 @@ run-spec =
     (λ c κs. search needs)  -- survey-and-correct-requires
     (λ c. search needs)  -- same-length
     (λ c. search needs)  -- same-length-2
-    same-length-3
+    (λ c. let after-clear : tie.After-clear = search in let s : tie.Start = search in search needs)  -- same-length-3
     (λ c. search needs))  -- returns

@@ -18,18 +18,6 @@ Inv-loop first other rise weight total held h₀ b n₀ h n =
 abbrev μ-loop : tie.MeasureT-loop
 μ-loop first other rise weight total held h₀ b n₀ h n = maxSweeps - n
 
-loop-holds : tie.Need-loop-holds Inv-loop μ-loop
-loop-holds c =
-    let s : tie.Start Inv-loop μ-loop = search in (
-      s .pre .1 .0,
-      left-start _ _ _ _,
-    )
-
-sweep-requires : tie.Need-sweep-requires Inv-loop μ-loop
-sweep-requires c κs =
-    let s : tie.Start Inv-loop μ-loop = search in
-    (s .pre .0, (c .before .before .loop .inv .0, s .pre .1 .1))
-
 same-length : tie.Need-same-length Inv-loop μ-loop
 same-length c =
     let s : tie.Start Inv-loop μ-loop = search in
@@ -77,11 +65,6 @@ loop-again c =
           (ap (λ (t : Turn). swept t gs) (sym (c .enum-told2 .given .1)) ∙ w .ensures .0),
     )
 
-same-length-3 : tie.Need-same-length-3 Inv-loop μ-loop
-same-length-3 c =
-    let s : tie.Start Inv-loop μ-loop = search in
-    c .before .loop .inv .0 .all ∙ sym (s .pre .1 .0 .all)
-
 returns-3 : tie.Need-returns-3 Inv-loop μ-loop
 returns-3 c =
     let s : tie.Start Inv-loop μ-loop = search in
@@ -94,8 +77,8 @@ settle-spec =
     (tie.spec
     Inv-loop
     μ-loop
-    loop-holds
-    sweep-requires
+    (λ c. let s : tie.Start Inv-loop μ-loop = search in (s .pre .1 .0, left-start _ _ _ _))  -- loop-holds
+    (λ c κs. let s : tie.Start Inv-loop μ-loop = search in (s .pre .0, (c .before .before .loop .inv .0, s .pre .1 .1)))  -- sweep-requires
     (λ c. search needs)  -- enum-told
     (λ c. search needs)  -- add-t15
     same-length
@@ -107,5 +90,5 @@ settle-spec =
     (λ c. search needs)  -- add-n
     (λ c. search needs)  -- loop-less
     loop-again
-    same-length-3
+    (λ c. let s : tie.Start Inv-loop μ-loop = search in c .before .loop .inv .0 .all ∙ sym (s .pre .1 .0 .all))  -- same-length-3
     returns-3)

@@ -48,11 +48,6 @@ loop-again c =
       t .ensures .1,
     )
 
-same-length : tie.Need-same-length Inv-loop μ-loop
-same-length c =
-    let s : tie.Start Inv-loop μ-loop = search in
-    c .before .loop .inv .2 .all ∙ sym (s .pre .1 .0 .all)
-
 returns : tie.Need-returns Inv-loop μ-loop
 returns c =
     let s : tie.Start Inv-loop μ-loop = search in
@@ -72,5 +67,5 @@ sweep-spec =
     (λ c. omega arith)  -- sub-left
     (λ c. omega arith)  -- loop-less
     loop-again
-    same-length
+    (λ c. let s : tie.Start Inv-loop μ-loop = search in c .before .loop .inv .2 .all ∙ sym (s .pre .1 .0 .all))  -- same-length
     returns)

@@ -74,21 +74,10 @@ over-read c =
     stored (c .sub .result) (c .sub .ok) (c .sub .ensures ∙ rw
     (given-read (c .before .before .before), present-read (start-of (c .before .before .before))))
 
-mul-add-2 : tie.Need-mul-add-2
-mul-add-2 c = let s = c .before .before .before in omega (arith, s .pre .0 .range .otherIn (s .args .j))
-
-shared-slice-copy-out-add : tie.Need-shared-slice-copy-out-add
-shared-slice-copy-out-add c = let s = c .before .before .before in omega (arith, s .pre .0 .range .otherIn (s .args .j))
-
 add-requires : tie.Need-add-requires
 add-requires c κs =
     let s : tie.Start = search in
     let x = height-size s in let r = rise-size s in rw (height-read s, rise-read s) (omega arith)
-
-signed-count-requires : tie.Need-signed-count-requires
-signed-count-requires c κs =
-    let s : tie.Start = search in
-    omega (arith, s .pre .0 .range .weightIn (s .args .j))
 
 sub-requires : tie.Need-sub-requires
 sub-requires c κs =
@@ -113,14 +102,14 @@ term-spec =
     (tie.spec
     (λ c. search needs)  -- mul-add
     (λ c. search needs)  -- shared-slice-read-add
-    mul-add-2
-    shared-slice-copy-out-add
+    (λ c. let s = c .before .before .before in omega (arith, s .pre .0 .range .otherIn (s .args .j)))  -- mul-add-2
+    (λ c. let s = c .before .before .before in omega (arith, s .pre .0 .range .otherIn (s .args .j)))  -- shared-slice-copy-out-add
     (λ c. search needs)  -- mul-add-3
     (λ c. search needs)  -- shared-slice-copy-out-add-2
     add-requires
     (λ c. search needs)  -- mul-signed-count
     (λ c. search needs)  -- shared-slice-read-signed-count
-    signed-count-requires
+    (λ c κs. let s : tie.Start = search in omega (arith, s .pre .0 .range .weightIn (s .args .j)))  -- signed-count-requires
     sub-requires
     mul-requires
     returns)

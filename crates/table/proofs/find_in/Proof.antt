@@ -17,17 +17,6 @@ ordered c = search
 abbrev planted : tie.After-fill → tie.After-plant-book
 planted c = planted-before (ordered c)
 
-plant-book-requires : tie.Need-plant-book-requires
-plant-book-requires c κs =
-    let entry : tie.Start = search in
-    let p = entry .pre in
-    (p .0, p .1 .1 .book)
-
-add-q : tie.Need-add-q
-add-q c =
-    let entry : tie.Start = search in
-    omega (arith, entry .pre .0 .good .few)
-
 order-loops-requires : tie.Need-order-loops-requires
 order-loops-requires c κs =
     let after-plant-book : tie.After-plant-book = search in
@@ -66,8 +55,8 @@ find-in-spec =
     tie.close
     (tie.spec
     (λ c. search needs)  -- add-n
-    add-q
-    plant-book-requires
+    (λ c. let entry : tie.Start = search in omega (arith, entry .pre .0 .good .few))  -- add-q
+    (λ c κs. let entry : tie.Start = search in let p = entry .pre in (p .0, p .1 .1 .book))  -- plant-book-requires
     order-loops-requires
     fill-requires
     (λ c. let f : tie.After-fill = search in omega (arith, f .fill, ordered f .order-loops, planted f .plant-book))  -- same-length

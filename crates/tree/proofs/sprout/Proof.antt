@@ -24,16 +24,6 @@ relax-requires c κs =
     let lt : after-first-far .first-far .result < entry .args .n = omega arith in
     (p .0, (p .1 .0 .chained _ lt, (stage-set _ _ _ _ st lt, omega arith)))
 
-mul-order-2 : tie.Need-mul-order-2
-mul-order-2 c =
-    let entry : tie.Start = search in
-    omega (arith, entry .pre .1 .1 .1, entry .good)
-
-slice-write-order-2 : tie.Need-slice-write-order-2
-slice-write-order-2 c =
-    let entry : tie.Start = search in
-    entry .pre .1 .1 .1 .1
-
 same-length-4 : tie.Need-same-length-4
 same-length-4 c =
     let after-first-far : tie.After-first-far = search in
@@ -70,8 +60,8 @@ sprout-spec =
     (λ c. search needs)  -- mul-relax
     (λ c. search needs)  -- shared-slice-read-relax
     relax-requires
-    mul-order-2
-    slice-write-order-2
+    (λ c. let entry : tie.Start = search in omega (arith, entry .pre .1 .1 .1, entry .good))  -- mul-order-2
+    (λ c. let entry : tie.Start = search in entry .pre .1 .1 .1 .1)  -- slice-write-order-2
     same-length-4
     (λ c. search needs)  -- same-length-5
     (λ c. search needs)  -- same-length-6

@@ -22,11 +22,6 @@ Inv-loop ends best marked₀ q number₀ marked number =
 abbrev μ-loop : tie.MeasureT-loop
 μ-loop ends best marked₀ q number₀ marked number = q - number
 
-zero-requires : tie.Need-zero-requires Inv-loop μ-loop
-zero-requires c κs =
-    let entry : tie.Start Inv-loop μ-loop = search in
-    omega (arith, entry .pre .marks)
-
 loop-holds : tie.Need-loop-holds Inv-loop μ-loop
 loop-holds c =
     let after-zero : tie.After-zero Inv-loop μ-loop = search in
@@ -69,7 +64,7 @@ check-lines-spec =
     (tie.spec
     Inv-loop
     μ-loop
-    zero-requires
+    (λ c κs. let entry : tie.Start Inv-loop μ-loop = search in omega (arith, entry .pre .marks))  -- zero-requires
     loop-holds
     check-line-requires
     (λ c. search needs)  -- add-number

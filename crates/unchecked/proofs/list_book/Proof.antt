@@ -11,11 +11,6 @@ use Rattle.unchecked.proofs.list_book.Tie as tie
 abbrev entry-before : tie.After-plant-book → tie.Start
 entry-before c = search
 
-add-not-checked : tie.Need-add-not-checked
-add-not-checked c =
-    let entry : tie.Start = search in
-    omega (arith, entry .pre .0 .good .few)
-
 not-checked-requires : tie.Need-not-checked-requires
 not-checked-requires c κs =
     let after-plant-book : tie.After-plant-book = search in
@@ -36,7 +31,7 @@ list-book-spec =
     tie.close
     (tie.spec
     (λ c κs. search needs)  -- plant-book-requires
-    add-not-checked
+    (λ c. let entry : tie.Start = search in omega (arith, entry .pre .0 .good .few))  -- add-not-checked
     not-checked-requires
     (λ c. search needs)  -- same-length
     (λ c. search needs)  -- same-length-2

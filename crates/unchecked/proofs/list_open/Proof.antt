@@ -20,16 +20,6 @@ is-open-requires c κs =
     let entry : tie.Start Inv-loop μ-loop = search in
     let p = entry .pre in (omega (arith, p .ends-at), omega (arith, p .marks))
 
-mul-out : tie.Need-mul-out Inv-loop μ-loop
-mul-out c =
-    let entry : tie.Start Inv-loop μ-loop = search in
-    let p = entry .pre in omega (arith, p .outs)
-
-slice-write-out : tie.Need-slice-write-out Inv-loop μ-loop
-slice-write-out c =
-    let entry : tie.Start Inv-loop μ-loop = search in
-    let p = entry .pre in omega (arith, p .outs)
-
 loop-again : tie.Need-loop-again Inv-loop μ-loop
 loop-again c =
     let v = c .before .before .before .loop .inv in
@@ -54,8 +44,8 @@ list-open-spec =
     μ-loop
     (λ c. (omega arith, refl, writing-start _ _ _ _))  -- loop-holds
     is-open-requires
-    mul-out
-    slice-write-out
+    (λ c. let entry : tie.Start Inv-loop μ-loop = search in let p = entry .pre in omega (arith, p .outs))  -- mul-out
+    (λ c. let entry : tie.Start Inv-loop μ-loop = search in let p = entry .pre in omega (arith, p .outs))  -- slice-write-out
     (λ c. search needs)  -- add-c
     (λ c. search needs)  -- add-number
     (λ c. search needs)  -- loop-less

@@ -40,45 +40,6 @@ loop-holds : tie.Need-loop-holds Inv-loop μ-loop
 unfolding entries
 loop-holds c = (omega arith, refl, rw zero-mul)
 
-mul-at : tie.Need-mul-at Inv-loop μ-loop
-mul-at c = let r = room c in omega arith
-
-add-at : tie.Need-add-at Inv-loop μ-loop
-add-at c = let r = room c in omega arith
-
-mul-to : tie.Need-mul-to Inv-loop μ-loop
-mul-to c = let r = room c in omega arith
-
-add-read-entry : tie.Need-add-read-entry Inv-loop μ-loop
-add-read-entry c = let r = room c in omega arith
-
-sub-read-entry : tie.Need-sub-read-entry Inv-loop μ-loop
-sub-read-entry c = let r = room c in omega arith
-
-part-read-entry-start : tie.Need-part-read-entry-start Inv-loop μ-loop
-part-read-entry-start c = let r = room c in omega arith
-
-part-read-entry-end : tie.Need-part-read-entry-end Inv-loop μ-loop
-part-read-entry-end c = let r = room c in omega arith
-
-add-read-entry-2 : tie.Need-add-read-entry-2 Inv-loop μ-loop
-add-read-entry-2 c = let r = room (c .before) in omega arith
-
-mul-read-entry : tie.Need-mul-read-entry Inv-loop μ-loop
-mul-read-entry c = let r = room (c .before) in omega arith
-
-sub-read-entry-2 : tie.Need-sub-read-entry-2 Inv-loop μ-loop
-sub-read-entry-2 c = let r = room (c .before) in omega arith
-
-part-read-entry-start-2 : tie.Need-part-read-entry-start-2 Inv-loop μ-loop
-part-read-entry-start-2 c = let r = room (c .before) in omega arith
-
-part-read-entry-end-2 : tie.Need-part-read-entry-end-2 Inv-loop μ-loop
-part-read-entry-end-2 c = let r = room (c .before) in omega arith
-
-read-entry-requires : tie.Need-read-entry-requires Inv-loop μ-loop
-read-entry-requires c κs = let r = room (c .before .before) in simp (length-take, length-drop) (omega arith)
-
 loop-again : tie.Need-loop-again Inv-loop μ-loop
 loop-again c =
     let entered = c .before in
@@ -108,19 +69,19 @@ read-entries-spec =
     (λ c κs. tt)  -- bytes-requires
     (λ c κs. tt)  -- words-requires
     loop-holds
-    mul-at
-    add-at
-    mul-to
-    add-read-entry
-    sub-read-entry
-    part-read-entry-start
-    part-read-entry-end
-    add-read-entry-2
-    mul-read-entry
-    sub-read-entry-2
-    part-read-entry-start-2
-    part-read-entry-end-2
-    read-entry-requires
+    (λ c. let r = room c in omega arith)  -- mul-at
+    (λ c. let r = room c in omega arith)  -- add-at
+    (λ c. let r = room c in omega arith)  -- mul-to
+    (λ c. let r = room c in omega arith)  -- add-read-entry
+    (λ c. let r = room c in omega arith)  -- sub-read-entry
+    (λ c. let r = room c in omega arith)  -- part-read-entry-start
+    (λ c. let r = room c in omega arith)  -- part-read-entry-end
+    (λ c. let r = room (c .before) in omega arith)  -- add-read-entry-2
+    (λ c. let r = room (c .before) in omega arith)  -- mul-read-entry
+    (λ c. let r = room (c .before) in omega arith)  -- sub-read-entry-2
+    (λ c. let r = room (c .before) in omega arith)  -- part-read-entry-start-2
+    (λ c. let r = room (c .before) in omega arith)  -- part-read-entry-end-2
+    (λ c κs. let r = room (c .before .before) in simp (length-take, length-drop) (omega arith))  -- read-entry-requires
     (λ c. omega arith)  -- add-i
     (λ c. omega arith)  -- loop-less
     loop-again

@@ -2,16 +2,6 @@ use borrow.Author.Needs.{needs}
 use Rattle.file.proofs.entry.read_entry.Statement.{statement}
 use Rattle.file.proofs.entry.read_entry.Tie as tie
 
-read-held-requires : tie.Need-read-held-requires
-read-held-requires c κs =
-    let entry : tie.Start = search in
-    rw (c .before .enum-told .given .1) at (entry .pre)
-
-read-line-requires : tie.Need-read-line-requires
-read-line-requires c κs =
-    let entry : tie.Start = search in
-    rw (c .before .enum-told2 .given .1) at (entry .pre)
-
 returns : tie.Need-returns
 returns c = rw (c .before .before .before .enum-told .given .1) (c .before .read-held .ensures)
 
@@ -23,9 +13,9 @@ read-entry-spec =
     tie.close
     (tie.spec
     (λ c. search needs)  -- enum-told
-    read-held-requires
+    (λ c κs. let entry : tie.Start = search in rw (c .before .enum-told .given .1) at (entry .pre))  -- read-held-requires
     (λ c. search needs)  -- enum-told-2
-    read-line-requires
+    (λ c κs. let entry : tie.Start = search in rw (c .before .enum-told2 .given .1) at (entry .pre))  -- read-line-requires
     (λ c. search needs)  -- same-length
     returns
     (λ c. search needs)  -- same-length-2

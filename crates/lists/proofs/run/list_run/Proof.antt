@@ -15,32 +15,17 @@ Inv-loop run out₀ i₀ out i = Laid (map listedBy run) out₀ out i
 abbrev μ-loop : tie.MeasureT-loop
 μ-loop run out₀ i₀ out i = length run - i
 
-mul-listed-by : tie.Need-mul-listed-by Inv-loop μ-loop
-mul-listed-by c =
-    let entry : tie.Start Inv-loop μ-loop = search in
-    omega (arith, entry .pre .1, entry .good)
-
 listed-by-requires : tie.Need-listed-by-requires Inv-loop μ-loop
 listed-by-requires c κs =
     let at-loop : tie.At-loop Inv-loop μ-loop = search in
     let entry : tie.Start Inv-loop μ-loop = search in
     entry .pre .0 (at-loop .loop .i) (omega arith)
 
-mul-t9 : tie.Need-mul-t9 Inv-loop μ-loop
-mul-t9 c =
-    let entry : tie.Start Inv-loop μ-loop = search in
-    omega (arith, entry .pre .1, entry .good)
-
 slice-set-from-out : tie.Need-slice-set-from-out Inv-loop μ-loop
 slice-set-from-out c =
     let at-loop : tie.At-loop Inv-loop μ-loop = search in
     let entry : tie.Start Inv-loop μ-loop = search in
     omega (arith, entry .pre .1, at-loop .loop .inv .as-long)
-
-add-i : tie.Need-add-i Inv-loop μ-loop
-add-i c =
-    let entry : tie.Start Inv-loop μ-loop = search in
-    omega (arith, entry .pre .1, entry .good)
 
 loop-again : tie.Need-loop-again Inv-loop μ-loop
 loop-again c =
@@ -65,12 +50,12 @@ list-run-spec =
     Inv-loop
     μ-loop
     (λ c. laid-start _ _)  -- loop-holds
-    mul-listed-by
+    (λ c. let entry : tie.Start Inv-loop μ-loop = search in omega (arith, entry .pre .1, entry .good))  -- mul-listed-by
     (λ c. omega arith)  -- shared-slice-read-listed-by
     listed-by-requires
-    mul-t9
+    (λ c. let entry : tie.Start Inv-loop μ-loop = search in omega (arith, entry .pre .1, entry .good))  -- mul-t9
     slice-set-from-out
-    add-i
+    (λ c. let entry : tie.Start Inv-loop μ-loop = search in omega (arith, entry .pre .1, entry .good))  -- add-i
     (λ c. omega arith)  -- loop-less
     loop-again
     (λ c. c .before .loop .inv .as-long)  -- same-length

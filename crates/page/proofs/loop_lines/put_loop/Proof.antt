@@ -7,11 +7,6 @@ use borrow.Author.Needs.{needs}
 use Rattle.page.proofs.loop_lines.put_loop.Statement.{statement}
 use Rattle.page.proofs.loop_lines.put_loop.Tie as tie
 
-list-run-requires : tie.Need-list-run-requires
-list-run-requires c κs =
-    let s : tie.Start = search in
-    (run-coded (s .pre .0) (s .pre .1 .0), omega (arith, s .pre .1 .0 .few))
-
 slice-aggregate-loop-text : tie.Need-slice-aggregate-loop-text
 slice-aggregate-loop-text c =
     let after-list-run : tie.After-list-run = search in
@@ -39,7 +34,7 @@ put-loop-spec =
     (λ c. search needs)  -- slice-aggregate-row-of
     (λ c κs. search needs)  -- row-of-requires
     (λ c. search needs)  -- slice-aggregate-list-run
-    list-run-requires
+    (λ c κs. let s : tie.Start = search in (run-coded (s .pre .0) (s .pre .1 .0), omega (arith, s .pre .1 .0 .few)))  -- list-run-requires
     (λ c. search needs)  -- array-copy-out-loop-text
     (λ c. search needs)  -- array-copy-out-loop-text-2
     (λ c. search needs)  -- array-copy-out-loop-text-3

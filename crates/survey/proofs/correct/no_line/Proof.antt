@@ -31,21 +31,6 @@ returns : tie.Need-returns
 unfolding noLine
 returns c = or-here _ (flag (c .before)) (c .if1 .taken)
 
-sub-at : tie.Need-sub-at
-sub-at c = let w = inside (c .before) in let m = size c in omega (arith, w .low)
-
-mul-at : tie.Need-mul-at
-mul-at c = let w = inside (c .before) in let m = size c in omega (arith, w .low, w .high)
-
-add-same : tie.Need-add-same
-add-same c = let w = inside (c .before) in let m = size c in omega (arith, w .low, w .high)
-
-mul-same : tie.Need-mul-same
-mul-same c = let w = inside (c .before) in let m = size c in omega (arith, w .low, w .high)
-
-shared-slice-copy-out-same : tie.Need-shared-slice-copy-out-same
-shared-slice-copy-out-same c = let w = inside (c .before) in let m = size c in omega (arith, w .low, w .high)
-
 -- the flag of a withdrawn line
 gone : (c : tie.After-same)
     → (let entry : tie.Start = search in c .same .result ≡ eqZ
@@ -66,10 +51,10 @@ no-line-spec =
     (λ c κs. search needs)  -- outside-requires
     returns
     (λ c κs. search needs)  -- magnitude-requires
-    sub-at
-    mul-at
-    add-same
-    mul-same
-    shared-slice-copy-out-same
+    (λ c. let w = inside (c .before) in let m = size c in omega (arith, w .low))  -- sub-at
+    (λ c. let w = inside (c .before) in let m = size c in omega (arith, w .low, w .high))  -- mul-at
+    (λ c. let w = inside (c .before) in let m = size c in omega (arith, w .low, w .high))  -- add-same
+    (λ c. let w = inside (c .before) in let m = size c in omega (arith, w .low, w .high))  -- mul-same
+    (λ c. let w = inside (c .before) in let m = size c in omega (arith, w .low, w .high))  -- shared-slice-copy-out-same
     (λ c κs. search needs)  -- same-requires
     returns-2)

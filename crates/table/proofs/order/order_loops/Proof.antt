@@ -3,11 +3,6 @@ use borrow.Author.Needs.{needs}
 use Rattle.table.proofs.order.order_loops.Statement.{statement}
 use Rattle.table.proofs.order.order_loops.Tie as tie
 
-closing-lines-requires : tie.Need-closing-lines-requires
-closing-lines-requires c κs =
-    let entry : tie.Start = search in
-    ready-of (entry .pre)
-
 sub-t18 : tie.Need-sub-t18
 sub-t18 c =
     let after-lay-tree : tie.After-lay-tree = search in
@@ -31,7 +26,7 @@ pub order-loops-spec : {M : Type 1} → statement M
 order-loops-spec =
     tie.close
     (tie.spec
-    closing-lines-requires
+    (λ c κs. let entry : tie.Start = search in ready-of (entry .pre))  -- closing-lines-requires
     (λ c κs. search needs)  -- lay-tree-requires
     (λ c. search needs)  -- sub-t17
     sub-t18
