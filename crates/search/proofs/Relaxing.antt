@@ -82,7 +82,8 @@ module _ (n : ℕ) (next ends best seg b₁ s₁ b₂ s₂ : List ℕ) (first ba
     (x : Relaxing n next ends (keys best seg) (keys b₁ s₁) first base i) (pos : 0 < i)
     (lt : markOf ends i < n) (y : Offered n (keys b₁ s₁) (keys b₂ s₂) (markOf ends i) (base + sumOf ends i)) where
   each-next : (m : ℕ) → m < n → Moved n next ends (keys best seg) (keys b₁ s₁) first base m
-      → Offered n (keys b₁ s₁) (keys b₂ s₂) (markOf ends i) (base + sumOf ends i) → Moved n next ends (keys best seg) (keys b₂ s₂) first base m
+      → Offered n (keys b₁ s₁) (keys b₂ s₂) (markOf ends i) (base + sumOf ends i)
+      → Moved n next ends (keys best seg) (keys b₂ s₂) first base m
   each-next m h w (kept a p q) = subst (λ (z : List ℕ). Moved n next ends (keys best seg) (keys z s₂) first base m) (sym p)
       (subst (λ (z : List ℕ). Moved n next ends (keys best seg) (keys b₁ z) first base m) (sym q) w)
   each-next m h w (fell a p ch) = go (ℕ-discrete m (markOf ends i)) w

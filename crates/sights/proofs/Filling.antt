@@ -13,6 +13,10 @@ use Rattle.sights.specs.Sights.{Sight, sight}
 use Rattle.sights.specs.Halves.{placeOf, sightAt, Leads, no-more, one-more}
 use Rattle.sights.specs.Table.{Columns, seen, InRange, RoomUpto, Written, Filling, Filled}
 
+-- room for more is room for less
+pub room-less : {cols : Columns} {e k : ℕ} → RoomUpto cols e → k ≤ e → RoomUpto cols k
+room-less u l = record { others = omega (arith, u .others); rises = omega (arith, u .rises); weighed = omega (arith, u .weighed) }
+
 length-seen : (cols : Columns) (a k : ℕ) → length (seen cols a k) ≡ k
 unfolding seen
 length-seen cols a zero = refl
@@ -88,7 +92,7 @@ filling-next cols₀ cols cols′ b a c s rest all p w r f = record {
     here : sight (suc (getD (cols′ .other) c 0)) (getD (cols′ .rise) c (pos 0)) (getD (cols′ .weight) c 0) ≡ s
     here =
         seen-here cols cols′ c s w p
-        (record { others = omega (arith, f .room .others); rises = omega (arith, f .room .rises); weighed = omega (arith, f .room .weighed) })
+        (room-less (f .room) (omega arith))
 
     grown : seen cols′ a (c + 1 - a) ≡ seen cols a (c - a) ++ (s ∷ [])
     grown =
@@ -155,12 +159,7 @@ module _ {lines : List ℤ} {n : ℕ} {next : List ℕ} {cols₀ cols : Columns}
             rest = ss;
             leads = l;
             filling = f;
-            room = record {
-              others = omega (arith, f .room .others);
-              rises = omega (arith, f .room .rises);
-              weighed
-                  = omega (arith, f .room .weighed);
-            };
+            room = room-less (f .room) (omega arith);
             more = omega (arith, f .reached);
           }
 

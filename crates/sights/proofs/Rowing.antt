@@ -9,14 +9,10 @@ use mathlib.Core.Logic.{⊎-elim}
 use mathlib.Core.List.{List}
 use lib.ListN.{length, getD, set}
 use lib.Seq.{getD-set-same, getD-set-other}
-use lib.IntN.{ℤ}
 use Rattle.divisions.specs.Weight.{mostWeight}
 use Rattle.sights.specs.Sights.{Sight, weights}
+use Rattle.sights.proofs.Filling.{room-less}
 use Rattle.sights.specs.Table.{Columns, seen, rows, InRange, RoomUpto, Filled, weighed, taken, Rowed, RoomRows, Table, Weighable}
-
--- room for more is room for less
-pub room-less : {cols : Columns} {e k : ℕ} → RoomUpto cols e → k ≤ e → RoomUpto cols k
-room-less u l = record { others = omega (arith, u .others); rises = omega (arith, u .rises); weighed = omega (arith, u .weighed) }
 
 -- the weights of the sights from place a on
 pub weighed-is : (cols : Columns) (a k : ℕ) → weights (seen cols a k) ≡ weighed (cols .weight) a k

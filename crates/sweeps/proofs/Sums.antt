@@ -14,7 +14,7 @@ use Rattle.book.specs.Limits.{mostHeight, mostDifference}
 use Rattle.fields.specs.Heights.{Working}
 use Rattle.sights.specs.Sights.{pull}
 use Rattle.sights.specs.Table.{Columns, seen, Ends}
-use Rattle.sights.proofs.Rowing.{room-less}
+use Rattle.sights.proofs.Filling.{room-less}
 use Rattle.sweeps.specs.MarkTurns.{termAt}
 
 -- the most that a line adds to g: its weight, times how far the height given from the other end can be from the present one

@@ -1,7 +1,7 @@
-use Prim.Native.Nat.{_≤_, _-_}
+use Prim.Native.Nat.{_≤_, _+_, _-_}
 use native.Mathlib.Omega.{arith}
 use mathlib.Core.Path.{_≡_, refl}
-use lib.ListN.{length, length-take, length-drop}
+use lib.ListN.{length, getD, length-take, length-drop}
 use Rattle.loops.specs.Report.{reportOf}
 use Rattle.loops.proofs.Table.{run-rises, run-fits}
 use Rattle.rows.proofs.Passes.{measured}
@@ -16,77 +16,17 @@ Inv-loop lines starts runs count out₀ t i₀ out i =
 abbrev μ-loop : tie.MeasureT-loop
 μ-loop lines starts runs count out₀ t i₀ out i = count - i
 
-mul-begin : tie.Need-mul-begin Inv-loop μ-loop
-mul-begin c =
-    let entry : tie.Start Inv-loop μ-loop = search in
-    let p = entry .pre in
-    omega (arith, p .1 .0 .counted, p .1 .0 .starts-fit, entry .good)
+abbrev entry-of : tie.At-loop Inv-loop μ-loop → tie.Start Inv-loop μ-loop
+entry-of c = search
 
-shared-slice-read-begin : tie.Need-shared-slice-read-begin Inv-loop μ-loop
-shared-slice-read-begin c =
-    let entry : tie.Start Inv-loop μ-loop = search in
-    let p = entry .pre in
-    omega (arith, p .1 .0 .counted, p .1 .0 .starts-fit)
+-- where the run of the next loop begins and ends
+rises : (c : tie.In-loop Inv-loop μ-loop) → (let starts = entry-of (c .before) .args .starts .now in let i = c .before .loop .i in
+    getD starts i 0 ≤ getD starts (i + 1) 0)
+rises c = let t = entry-of (c .before) .pre .1 .0 in run-rises t _ (omega (arith, t .counted))
 
-add-end : tie.Need-add-end Inv-loop μ-loop
-add-end c =
-    let entry : tie.Start Inv-loop μ-loop = search in
-    let p = entry .pre in
-    omega (arith, p .1 .0 .counted, p .1 .0 .starts-fit, entry .good)
-
-mul-end : tie.Need-mul-end Inv-loop μ-loop
-mul-end c =
-    let entry : tie.Start Inv-loop μ-loop = search in
-    let p = entry .pre in
-    omega (arith, p .1 .0 .counted, p .1 .0 .starts-fit, entry .good)
-
-shared-slice-read-end : tie.Need-shared-slice-read-end Inv-loop μ-loop
-shared-slice-read-end c =
-    let entry : tie.Start Inv-loop μ-loop = search in
-    let p = entry .pre in
-    omega (arith, p .1 .0 .counted, p .1 .0 .starts-fit)
-
-mul-row-of : tie.Need-mul-row-of Inv-loop μ-loop
-mul-row-of c =
-    let at-loop : tie.At-loop Inv-loop μ-loop = search in
-    let entry : tie.Start Inv-loop μ-loop = search in
-    let p = entry .pre in
-    let tb = p .1 .0 in
-    omega (
-      arith,
-      run-rises tb (at-loop .loop .i) (omega (arith, tb .counted)),
-      run-fits tb (at-loop .loop .i)
-          (omega (arith, tb .counted)),
-      entry .good,
-    )
-
-sub-row-of : tie.Need-sub-row-of Inv-loop μ-loop
-sub-row-of c =
-    let at-loop : tie.At-loop Inv-loop μ-loop = search in
-    let entry : tie.Start Inv-loop μ-loop = search in
-    let p = entry .pre in
-    run-rises (p .1 .0) (at-loop .loop .i) (omega (arith, p .1 .0 .counted))
-
-part-row-of-start : tie.Need-part-row-of-start Inv-loop μ-loop
-part-row-of-start c =
-    let at-loop : tie.At-loop Inv-loop μ-loop = search in
-    let entry : tie.Start Inv-loop μ-loop = search in
-    let p = entry .pre in
-    run-rises (p .1 .0) (at-loop .loop .i) (omega (arith, p .1 .0 .counted))
-
-part-row-of-end : tie.Need-part-row-of-end Inv-loop μ-loop
-part-row-of-end c =
-    let at-loop : tie.At-loop Inv-loop μ-loop = search in
-    let entry : tie.Start Inv-loop μ-loop = search in
-    let p = entry .pre in
-    run-fits (p .1 .0) (at-loop .loop .i) (omega (arith, p .1 .0 .counted))
-
-part-row-of-end-2 : tie.Need-part-row-of-end-2 Inv-loop μ-loop
-part-row-of-end-2 c =
-    let at-loop : tie.At-loop Inv-loop μ-loop = search in
-    let entry : tie.Start Inv-loop μ-loop = search in
-    let p = entry .pre in
-    omega (arith, p .1 .1, at-loop .loop .inv)
+ends : (c : tie.In-loop Inv-loop μ-loop) → (let a = entry-of (c .before) .args in
+    getD (a .starts .now) (c .before .loop .i + 1) 0 ≤ length (a .runs .now))
+ends c = let t = entry-of (c .before) .pre .1 .0 in run-fits t _ (omega (arith, t .counted))
 
 row-of-requires : tie.Need-row-of-requires Inv-loop μ-loop
 row-of-requires c κs =
@@ -123,23 +63,23 @@ write-rows-spec =
     Inv-loop
     μ-loop
     (λ c. (omega arith, refl, all-written-start))  -- loop-holds
-    (λ c. let entry : tie.Start Inv-loop μ-loop = search in let p = entry .pre in omega (arith, p .1 .1, entry .good))  -- mul-at
-    mul-begin
-    shared-slice-read-begin
-    add-end
-    mul-end
-    shared-slice-read-end
-    mul-row-of
-    sub-row-of
-    part-row-of-start
-    part-row-of-end
-    (λ c. let entry : tie.Start Inv-loop μ-loop = search in let p = entry .pre in omega (arith, p .1 .1, entry .good))  -- add-row-of
-    (λ c. let entry : tie.Start Inv-loop μ-loop = search in let p = entry .pre in omega (arith, p .1 .1, entry .good))  -- mul-row-of-2
+    (λ c. let s : tie.Start Inv-loop μ-loop = search in omega (arith, s .pre .1 .1, s .good))  -- mul-at
+    (λ c. let s : tie.Start Inv-loop μ-loop = search in omega (arith, s .pre .1, s .good))  -- mul-begin
+    (λ c. let s : tie.Start Inv-loop μ-loop = search in omega (arith, s .pre .1, s .good))  -- shared-slice-read-begin
+    (λ c. let s : tie.Start Inv-loop μ-loop = search in omega (arith, s .pre .1, s .good))  -- add-end
+    (λ c. let s : tie.Start Inv-loop μ-loop = search in omega (arith, s .pre .1, s .good))  -- mul-end
+    (λ c. let s : tie.Start Inv-loop μ-loop = search in omega (arith, s .pre .1, s .good))  -- shared-slice-read-end
+    (λ c. let i : tie.In-loop Inv-loop μ-loop = search in omega (arith, rises i, ends i, entry-of (i .before) .good))  -- mul-row-of
+    (λ c. let i : tie.In-loop Inv-loop μ-loop = search in rises i)  -- sub-row-of
+    (λ c. let i : tie.In-loop Inv-loop μ-loop = search in rises i)  -- part-row-of-start
+    (λ c. let i : tie.In-loop Inv-loop μ-loop = search in ends i)  -- part-row-of-end
+    (λ c. let s : tie.Start Inv-loop μ-loop = search in omega (arith, s .pre .1 .1, s .good))  -- add-row-of
+    (λ c. let s : tie.Start Inv-loop μ-loop = search in omega (arith, s .pre .1 .1, s .good))  -- mul-row-of-2
     (λ c. omega arith)  -- sub-row-of-2
     (λ c. omega arith)  -- part-row-of-start-2
-    part-row-of-end-2
+    (λ c. let l : tie.At-loop Inv-loop μ-loop = search in omega (arith, entry-of l .pre .1 .1, l .loop .inv))  -- part-row-of-end-2
     row-of-requires
-    (λ c. let entry : tie.Start Inv-loop μ-loop = search in let p = entry .pre in omega (arith, p .1 .1, entry .good))  -- add-i
+    (λ c. let s : tie.Start Inv-loop μ-loop = search in omega (arith, s .pre .1 .1, s .good))  -- add-i
     (λ c. omega arith)  -- loop-less
     loop-again
     (λ c. omega arith)  -- same-length

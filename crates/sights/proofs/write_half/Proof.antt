@@ -1,8 +1,6 @@
 use mathlib.Core.Path.{_∙_, ap}
 use Prim.Native.Nat.{ℕ}
 use lib.IntN.{ℤ}
-use mir.Syntax.{w64}
-use mir.Val.{toZ, ofZ}
 use Rattle.laws.proofs.Signed.{back}
 use lib.ListN.{set}
 use Rattle.sights.proofs.Halves.{range-set}

@@ -1,9 +1,5 @@
 use mathlib.Core.Path.{_∙_}
 use native.Mathlib.Omega.{arith}
-use Rattle.network.specs.Standing.{standing}
-use Rattle.sights.specs.Sights.{sightsOf}
-use Rattle.sights.specs.Table.{rows}
-use Rattle.sweeps.specs.MarkTurns.{flags}
 use Rattle.sights.proofs.Fresh.{range-zeros, room-zeros}
 use Rattle.sweeps.proofs.States.{settle-same}
 use borrow.Author.Needs.{needs}

@@ -1,5 +1,4 @@
 use mathlib.Core.Path.{sym, _∙_}
-use Prim.Native.Nat.{suc}
 use Rattle.sweeps.proofs.States.{turn-held, turn-outside, turn-free}
 use borrow.Author.Needs.{needs}
 use Rattle.sweeps.proofs.take_turn.Statement.{statement}

@@ -1,11 +1,12 @@
 use mir.Facts.{toZ-ofZ}
-use Prim.Native.Nat.{_-_, _<_}
+use Prim.Native.Nat.{_+_, _-_, _<_, _≤_}
 use mathlib.Core.Path.{_≡_, sym, _∙_}
 use native.Mathlib.Omega.{arith}
 use lib.IntN.{pos, natAbs}
-use lib.ListN.{length}
+use lib.ListN.{length, getD}
 use Rattle.laws.specs.Tests.{outZ}
 use Rattle.laws.proofs.Signed.{stored}
+use Rattle.book.specs.Limits.{mostLines}
 use Rattle.loops.specs.Report.{loopsOf}
 use Rattle.loops.proofs.Sounding.{few-loops}
 use Rattle.loops.proofs.Table.{run-rises, run-fits}
@@ -46,61 +47,23 @@ returns c =
     rw (c .refuse .ensures) (eight-is _ _ (s .pre) (after-find-loops .find-loops .ensures .1) (s .args .number) (s .args .out .now)
     (sym (flag (c .before .before)) ∙ c .before .if1 .taken))
 
-mul-begin : tie.Need-mul-begin
-mul-begin c =
-    let after-magnitude : tie.After-magnitude = search in
-    let s : tie.Start = search in
-    omega (arith, there after-magnitude, few-loops _ _ (s .pre), s .pre .good .few)
+few : (c : tie.After-magnitude) → c .magnitude .result ≤ mostLines
+few c = let s : tie.Start = search in omega (arith, there c, few-loops _ _ (s .pre), s .pre .good .few)
 
-array-read-begin : tie.Need-array-read-begin
-array-read-begin c =
-    let after-magnitude : tie.After-magnitude = search in
-    let s : tie.Start = search in
-    omega (arith, there after-magnitude, few-loops _ _ (s .pre), s .pre .good .few)
+-- where its run begins and ends
+rises : (c : tie.After-magnitude) → (let f : tie.After-find-loops = search in let starts = f .find-loops .last .1 .1 .0 in
+    getD starts (c .magnitude .result - 1) 0 ≤ getD starts (c .magnitude .result - 1 + 1) 0)
+rises c = let f : tie.After-find-loops = search in run-rises (f .find-loops .ensures .1) _ (there c .1)
 
-mul-end : tie.Need-mul-end
-mul-end c =
-    let after-magnitude : tie.After-magnitude = search in
-    let s : tie.Start = search in
-    omega (arith, there after-magnitude, few-loops _ _ (s .pre), s .pre .good .few)
-
-array-read-end : tie.Need-array-read-end
-array-read-end c =
-    let after-magnitude : tie.After-magnitude = search in
-    let s : tie.Start = search in
-    omega (arith, there after-magnitude, few-loops _ _ (s .pre), s .pre .good .few)
+ends : (c : tie.After-magnitude) → (let f : tie.After-find-loops = search in let tables = f .find-loops .last .1 .1 in
+    getD (tables .0) (c .magnitude .result - 1 + 1) 0 ≤ length (tables .1 .0))
+ends c = let f : tie.After-find-loops = search in run-fits (f .find-loops .ensures .1) _ (there c .1)
 
 mul-write-run : tie.Need-mul-write-run
 mul-write-run c =
-    let after-find-loops : tie.After-find-loops = search in
-    let after-magnitude : tie.After-magnitude = search in
-    let s : tie.Start = search in
-    omega (
-      arith,
-      run-rises (after-find-loops .find-loops .ensures .1) (after-magnitude .magnitude .result - 1)
-          (there after-magnitude .1),
-      run-fits (after-find-loops .find-loops .ensures .1) (after-magnitude .magnitude .result - 1)
-          (there after-magnitude .1),
-      after-find-loops .find-loops .kept,
-    )
-
-sub-write-run : tie.Need-sub-write-run
-sub-write-run c =
-    let after-find-loops : tie.After-find-loops = search in
-    let after-magnitude : tie.After-magnitude = search in
-    run-rises (after-find-loops .find-loops .ensures .1) (after-magnitude .magnitude .result - 1) (there after-magnitude .1)
-
-part-write-run-start : tie.Need-part-write-run-start
-part-write-run-start c =
-    let after-find-loops : tie.After-find-loops = search in
-    let after-magnitude : tie.After-magnitude = search in
-    run-rises (after-find-loops .find-loops .ensures .1) (after-magnitude .magnitude .result - 1) (there after-magnitude .1)
-
-part-write-run-end : tie.Need-part-write-run-end
-part-write-run-end c =
-    let after-find-loops : tie.After-find-loops = search in
-    let after-magnitude : tie.After-magnitude = search in
-    run-fits (after-find-loops .find-loops .ensures .1) (after-magnitude .magnitude .result - 1) (there after-magnitude .1)
+    let m : tie.After-magnitude = search in
+    let f : tie.After-find-loops = search in
+    omega (arith, rises m, ends m, f .find-loops)
 
 write-run-requires : tie.Need-write-run-requires
 write-run-requires c κs =
@@ -134,15 +97,15 @@ listing-good-spec =
     returns
     (λ c κs. search needs)  -- magnitude-requires
     (λ c. there c .0)  -- sub-i
-    mul-begin
-    array-read-begin
+    (λ c. let m : tie.After-magnitude = search in omega (arith, there m, few m))  -- mul-begin
+    (λ c. let m : tie.After-magnitude = search in omega (arith, there m, few m))  -- array-read-begin
     (λ c. search needs)  -- add-end
-    mul-end
-    array-read-end
+    (λ c. let m : tie.After-magnitude = search in omega (arith, there m, few m))  -- mul-end
+    (λ c. let m : tie.After-magnitude = search in omega (arith, there m, few m))  -- array-read-end
     mul-write-run
-    sub-write-run
-    part-write-run-start
-    part-write-run-end
+    (λ c. let m : tie.After-magnitude = search in rises m)  -- sub-write-run
+    (λ c. let m : tie.After-magnitude = search in rises m)  -- part-write-run-start
+    (λ c. let m : tie.After-magnitude = search in ends m)  -- part-write-run-end
     write-run-requires
     (λ c. search needs)  -- same-length
     returns-2)

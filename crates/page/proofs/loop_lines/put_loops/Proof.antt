@@ -1,7 +1,7 @@
-use Prim.Native.Nat.{_≤_, _-_}
+use Prim.Native.Nat.{_≤_, _+_, _-_}
 use native.Mathlib.Omega.{arith}
 use mathlib.Core.Path.{_≡_, refl}
-use lib.ListN.{length}
+use lib.ListN.{length, getD}
 use Rattle.loops.proofs.Table.{run-rises, run-fits}
 use Rattle.rows.proofs.Passes.{measured}
 use Rattle.rows.proofs.Written.{run-in}
@@ -16,75 +16,17 @@ Inv-loop lines starts runs count out₀ at t after₀ i₀ out after i =
 abbrev μ-loop : tie.MeasureT-loop
 μ-loop lines starts runs count out₀ at t after₀ i₀ out after i = count - i
 
-mul-begin : tie.Need-mul-begin Inv-loop μ-loop
-mul-begin c =
-    let entry : tie.Start Inv-loop μ-loop = search in
-    let p = entry .pre in
-    omega (arith, p .1 .counted, p .1 .starts-fit, entry .good)
+abbrev entry-of : tie.At-loop Inv-loop μ-loop → tie.Start Inv-loop μ-loop
+entry-of c = search
 
-shared-slice-read-begin : tie.Need-shared-slice-read-begin Inv-loop μ-loop
-shared-slice-read-begin c =
-    let entry : tie.Start Inv-loop μ-loop = search in
-    let p = entry .pre in
-    omega (arith, p .1 .counted, p .1 .starts-fit, entry .good)
+-- where the run of the next loop begins and ends
+rises : (c : tie.In-loop Inv-loop μ-loop) → (let starts = entry-of (c .before) .args .starts .now in let i = c .before .loop .i in
+    getD starts i 0 ≤ getD starts (i + 1) 0)
+rises c = let p = entry-of (c .before) .pre in run-rises (p .1) _ (omega (arith, p .1 .counted))
 
-add-end : tie.Need-add-end Inv-loop μ-loop
-add-end c =
-    let entry : tie.Start Inv-loop μ-loop = search in
-    let p = entry .pre in
-    omega (arith, p .1 .counted, p .1 .starts-fit, entry .good)
-
-mul-end : tie.Need-mul-end Inv-loop μ-loop
-mul-end c =
-    let entry : tie.Start Inv-loop μ-loop = search in
-    let p = entry .pre in
-    omega (arith, p .1 .counted, p .1 .starts-fit, entry .good)
-
-shared-slice-read-end : tie.Need-shared-slice-read-end Inv-loop μ-loop
-shared-slice-read-end c =
-    let entry : tie.Start Inv-loop μ-loop = search in
-    let p = entry .pre in
-    omega (arith, p .1 .counted, p .1 .starts-fit, entry .good)
-
-add-i : tie.Need-add-i Inv-loop μ-loop
-add-i c =
-    let entry : tie.Start Inv-loop μ-loop = search in
-    let p = entry .pre in
-    omega (arith, p .1 .counted, p .1 .starts-fit, entry .good)
-
-mul-put-loop : tie.Need-mul-put-loop Inv-loop μ-loop
-mul-put-loop c =
-    let at-loop : tie.At-loop Inv-loop μ-loop = search in
-    let entry : tie.Start Inv-loop μ-loop = search in
-    let p = entry .pre in
-    omega (
-      arith,
-      run-rises (p .1) (at-loop .loop .i) (omega (arith, p .1 .counted)),
-      run-fits (p .1) (at-loop .loop .i)
-          (omega (arith, p .1 .counted)),
-      entry .good,
-    )
-
-sub-put-loop : tie.Need-sub-put-loop Inv-loop μ-loop
-sub-put-loop c =
-    let at-loop : tie.At-loop Inv-loop μ-loop = search in
-    let entry : tie.Start Inv-loop μ-loop = search in
-    let p = entry .pre in
-    run-rises (p .1) (at-loop .loop .i) (omega (arith, p .1 .counted))
-
-part-put-loop-start : tie.Need-part-put-loop-start Inv-loop μ-loop
-part-put-loop-start c =
-    let at-loop : tie.At-loop Inv-loop μ-loop = search in
-    let entry : tie.Start Inv-loop μ-loop = search in
-    let p = entry .pre in
-    run-rises (p .1) (at-loop .loop .i) (omega (arith, p .1 .counted))
-
-part-put-loop-end : tie.Need-part-put-loop-end Inv-loop μ-loop
-part-put-loop-end c =
-    let at-loop : tie.At-loop Inv-loop μ-loop = search in
-    let entry : tie.Start Inv-loop μ-loop = search in
-    let p = entry .pre in
-    run-fits (p .1) (at-loop .loop .i) (omega (arith, p .1 .counted))
+ends : (c : tie.In-loop Inv-loop μ-loop) → (let a = entry-of (c .before) .args in
+    getD (a .starts .now) (c .before .loop .i + 1) 0 ≤ length (a .runs .now))
+ends c = let p = entry-of (c .before) .pre in run-fits (p .1) _ (omega (arith, p .1 .counted))
 
 put-loop-requires : tie.Need-put-loop-requires Inv-loop μ-loop
 put-loop-requires c κs =
@@ -117,16 +59,16 @@ put-loops-spec =
     Inv-loop
     μ-loop
     (λ c. (omega arith, refl, all-put-start))  -- loop-holds
-    mul-begin
-    shared-slice-read-begin
-    add-end
-    mul-end
-    shared-slice-read-end
-    add-i
-    mul-put-loop
-    sub-put-loop
-    part-put-loop-start
-    part-put-loop-end
+    (λ c. let s : tie.Start Inv-loop μ-loop = search in omega (arith, s .pre .1, s .good))  -- mul-begin
+    (λ c. let s : tie.Start Inv-loop μ-loop = search in omega (arith, s .pre .1, s .good))  -- shared-slice-read-begin
+    (λ c. let s : tie.Start Inv-loop μ-loop = search in omega (arith, s .pre .1, s .good))  -- add-end
+    (λ c. let s : tie.Start Inv-loop μ-loop = search in omega (arith, s .pre .1, s .good))  -- mul-end
+    (λ c. let s : tie.Start Inv-loop μ-loop = search in omega (arith, s .pre .1, s .good))  -- shared-slice-read-end
+    (λ c. let s : tie.Start Inv-loop μ-loop = search in omega (arith, s .pre .1, s .good))  -- add-i
+    (λ c. let i : tie.In-loop Inv-loop μ-loop = search in omega (arith, rises i, ends i, entry-of (i .before) .good))  -- mul-put-loop
+    (λ c. let i : tie.In-loop Inv-loop μ-loop = search in rises i)  -- sub-put-loop
+    (λ c. let i : tie.In-loop Inv-loop μ-loop = search in rises i)  -- part-put-loop-start
+    (λ c. let i : tie.In-loop Inv-loop μ-loop = search in ends i)  -- part-put-loop-end
     put-loop-requires
     (λ c. omega arith)  -- loop-less
     loop-again
