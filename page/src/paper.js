@@ -1,0 +1,60 @@
+// What is only on paper: the head of the report, and the field sheet.
+import { count } from './core.js';
+import { present } from './desk.js';
+import { byId, fill, make, tableHead } from './dom.js';
+import { writeHeights } from './heights.js';
+import { drawForPaper, drawPicture } from './network.js';
+import { named, plural } from './text.js';
+
+const EMPTY_ROWS = 20;
+
+function countsWords({ results, book }) {
+  const { numbers, done, pieces, loops } = results;
+  const counts = [plural(count(numbers.marks), 'mark'), plural(numbers.lines.length / 5, 'line')];
+  if (done) counts.push(plural(pieces, 'piece'), `${plural(loops.length, 'loop')} (${loops.filter(loop => loop.over).length} over)`);
+  return `${counts.join(', ')}. Tolerance ${book.tolerance} mm per √km. Printed ${new Date().toLocaleString()}.`;
+}
+
+function checkedWords({ done, notChecked }) {
+  if (!done) return make('div', { class: 'frame' }, 'This book is refused: there are no results.');
+  if (notChecked.length === 0) return make('div', {}, 'Every standing line is checked by a loop.');
+  const words = `NOT CHECKED: ${named('line', notChecked)}. No closed loop passes here. A blunder would not show.`;
+  return make('div', { class: 'frame' }, words);
+}
+
+const head = step => [
+  make('h1', {}, `Level book: ${step.name || 'without name'}`), make('div', {}, countsWords(step)), checkedWords(step.results),
+];
+
+/** Standing lines with their ends and lengths. Old differences would lead the observer, and are left out. */
+function fieldSheet({ name, book, results }) {
+  const lines = book.lines.slice(0, results.numbers.lines.length / 5)
+    .map((line, i) => [line.standing, i + 1, line.from, line.to, line.length])
+    .filter(([standing]) => standing).map(([, ...cells]) => cells);
+  const rows = lines.length > 0 ? lines : Array.from({ length: EMPTY_ROWS }, () => ['', '', '', '']);
+  return [
+    make('h1', {}, `Field sheet${name ? `: ${name}` : ''}`),
+    make('div', { class: 'blanks' }, ['Party', 'Date', 'Instrument', 'Staves', 'Weather'].map(word => make('span', {}, word))),
+    make('table', {},
+      tableHead('Line', 'From', 'To', 'Length m', 'Difference run forward, m', 'Difference run back, m', 'Remarks'),
+      make('tbody', {}, rows.map(cells => make('tr', {}, [...cells, '', '', ''].map(text => make('td', {}, String(text))))))),
+  ];
+}
+
+export function wirePaper() {
+  addEventListener('beforeprint', () => {
+    writeHeights();
+    drawForPaper();
+    fill(byId('paper'), head(present()));
+    fill(byId('field-sheet'), fieldSheet(present()));
+  });
+  addEventListener('afterprint', () => {
+    document.body.classList.remove('sheet');
+    drawPicture();
+  });
+  byId('print').addEventListener('click', () => print());
+  byId('sheet').addEventListener('click', () => {
+    document.body.classList.add('sheet');
+    print();
+  });
+}

@@ -1,0 +1,71 @@
+// The report as text: what the report program and the heights program print for this book. They cannot be told of withdrawn lines;
+// the page shows those too.
+import { groups } from './book.js';
+import { count } from './core.js';
+import { present } from './desk.js';
+import { byId } from './dom.js';
+import { metres, millimetres, rateText } from './text.js';
+
+const COPIED_FOR = 1_500;
+
+const right = (text, width) => String(text).padStart(width);
+
+/** What the report program prints. */
+function reportText({ done, faults, stopped, refusal, numbers, pieces, loops, notChecked }) {
+  if (stopped) return 'THE CORE STOPPED\n';
+  if (!done) return faults.length > 0 ? 'CANNOT BE READ\n' : `REFUSED ${refusal.number} AT ${refusal.place}\n`;
+  return [
+    'LEVEL BOOK 1',
+    `MARKS ${numbers.marks} LINES ${numbers.lines.length / 5} PIECES ${pieces} LOOPS ${loops.length}`,
+    ...loops.map(({ length, misclosure, over, lines }, i) =>
+      `LOOP ${i + 1} LENGTH ${length} MISCLOSURE ${misclosure} ${over ? 'OVER' : 'WITHIN'}: ${lines.join(' ')}`),
+    `NOT CHECKED ${notChecked.length}:${notChecked.map(line => ` ${line}`).join('')}`,
+    '',
+  ].join('\n');
+}
+
+const markText = (height, mark, held) => right(mark, 4) + right(metres(height, 6, '-'), 14) + (held.has(mark) ? '  HELD' : '');
+
+const rateLine = ({ correction, rate, withdrawn }, line) =>
+  right(line, 4) + (withdrawn ? '  withdrawn' : right(millimetres(correction, '-'), 14) + right(rateText(rate, '-'), 13));
+
+/** What the heights program prints. */
+function heightsText({ done, numbers, adjusted, rates }) {
+  if (!done) return '';
+  const { number, place, sweeps, heights } = adjusted;
+  if (number !== 0) return `REFUSED ${number} AT ${place}\n`;
+  const held = new Set(groups(numbers.held, 2).map(([mark]) => count(mark)));
+  return [
+    'ADJUSTED HEIGHTS',
+    `MARKS ${numbers.marks} LINES ${numbers.lines.length / 5} HELD ${held.size} SWEEPS ${sweeps}`,
+    'MARK      HEIGHT m',
+    ...Array.from(heights, (height, i) => markText(height, i + 1, held)),
+    'LINE CORRECTION mm   RATE mm/km',
+    ...rates.map((rate, i) => rateLine(rate, i + 1)),
+    '',
+  ].join('\n');
+}
+
+const details = () => byId('text').querySelector('details');
+
+export function showSheet({ results }) {
+  if (details().open) byId('textbox').textContent = [reportText(results), heightsText(results)].filter(Boolean).join('\n');
+}
+
+async function copy() {
+  const box = byId('textbox');
+  try {
+    await navigator.clipboard.writeText(box.textContent);
+  } catch {
+    // A page from disk may not be given the clipboard.
+    getSelection().selectAllChildren(box);
+    document.execCommand('copy');
+  }
+  byId('copy').textContent = 'Copied';
+  setTimeout(() => { byId('copy').textContent = 'Copy'; }, COPIED_FOR);
+}
+
+export function wireSheet() {
+  details().addEventListener('toggle', () => showSheet(present()));
+  byId('copy').addEventListener('click', copy);
+}

@@ -1,0 +1,173 @@
+// The page opens, shows the worked network, says what the programs say, and keeps everything to itself.
+import crypto from 'node:crypto';
+import fs from 'node:fs';
+import net from 'node:net';
+import path from 'node:path';
+import { book } from '../books.mjs';
+import { includes, same } from '../check.mjs';
+import { bothTexts } from '../programs.mjs';
+import { sleep, TOP } from '../tools.mjs';
+
+const BOTH = ['chromium', 'firefox'];
+const BOOKS = [
+  'worked', 'memorandum_figure', 'parallel_lines', 'past_the_last_junction', 'two_pieces', 'town12', 'town25',
+  'town40', 'town60', 'grid6', 'chain20', 'star15', 'ring12', 'free_tails',
+];
+const LARGEST_BOOKS = ['full', 'slowest', 'random256', 'parallel512', 'city256'];
+const FEW_BOOKS = ['memorandum_figure', 'past_the_last_junction', 'two_pieces', 'town60', 'random256'];
+
+export const cases = [
+  { name: 'worked-network-opens', run: workedNetworkOpens, browsers: BOTH, needs: ['programs'] },
+  { name: 'text-equals-report-program', run: textEqualsReportProgram, browsers: BOTH, needs: ['programs'] },
+  { name: 'heights-equal-program', run: heightsEqualProgram, browsers: BOTH, needs: ['programs'] },
+  { name: 'nothing-leaves-the-page', run: nothingLeavesThePage, browsers: BOTH },
+  { name: 'glance-says-it-in-words', run: glanceSaysItInWords },
+  { name: 'foot-names-the-core', run: footNamesTheCore },
+];
+
+async function workedNetworkOpens(desk) {
+  same(await desk.texts(), await bothTexts(book('worked')), 'the texts');
+  same(await desk.tiles(), [
+    '2 of 3 loops OVER / 1 within',
+    'Every line is checked / 7 lines, 5 marks, 1 piece',
+    'Heights adjusted / 15 sweeps, 1 held mark',
+  ], 'the glance');
+  same((await desk.loops()).map(loop => [loop.verdict, loop.misclosure, loop.length, loop.lines, loop.marks]), [
+    ['✗ OVER', '−40.000', '4450', '6 −1 5', '4–3–1–4'],
+    ['✓ within', '−5.000', '7600', '4 5 −7', '5–1–4–5'],
+    ['✗ OVER', '65.000', '6750', '3 2 −6 −7', '5–2–3–4–5'],
+  ], 'the loops');
+  const { fields, marks } = await desk.picture();
+  same([marks.length, fields.filter(field => field.isOver).length, fields.length], [5, 2, 3], 'the picture');
+  same([await desk.value('#name'), await desk.isUnsaved()], ['worked', false], 'name and state');
+  includes(await desk.heightsPanel(), '102.123536', 'the heights');
+}
+
+/** Opens each book and holds one of its texts, 0 the report and 1 the heights, to what the programs print. */
+async function holdTexts(desk, which, names) {
+  // All are asked at once, since the programs may run in an emulator.
+  names.forEach(name => bothTexts(book(name)));
+  for (const name of names) {
+    includes(await desk.openBook(book(name), `${name}.book`), `Opened ${name}`, 'the message');
+    same((await desk.texts())[which], (await bothTexts(book(name)))[which], name);
+  }
+  return `${names.length} books`;
+}
+
+function textEqualsReportProgram(desk, { browser }) {
+  return holdTexts(desk, 0, browser === 'firefox' ? FEW_BOOKS : [...BOOKS, ...LARGEST_BOOKS]);
+}
+
+function heightsEqualProgram(desk, { browser }) {
+  return holdTexts(desk, 1, browser === 'firefox' ? FEW_BOOKS : [...BOOKS, 'slowest']);
+}
+
+/** Every way out that a policy can shut: each is tried by hand, from inside the page. */
+function tryToGetOut(address) {
+  const add = (name, attributes) => document.body.append(Object.assign(document.createElement(name), attributes));
+  const ways = [
+    () => fetch(address).catch(() => {}),
+    () => fetch(address, { mode: 'no-cors', method: 'POST', body: 'book' }).catch(() => {}),
+    () => {
+      const asked = new XMLHttpRequest();
+      asked.open('GET', `${address}asked`);
+      asked.send();
+    },
+    () => navigator.sendBeacon(address, 'book'),
+    () => new WebSocket(address.replace('http', 'ws')),
+    () => new EventSource(address),
+    () => new Worker(address),
+    () => { new Image().src = `${address}image`; },
+    () => add('script', { src: `${address}script` }),
+    () => add('link', { rel: 'stylesheet', href: `${address}style` }),
+    ...['prefetch', 'preload', 'preconnect', 'modulepreload', 'icon', 'manifest'].map(rel => {
+      return () => add('link', { rel, href: address + rel });
+    }),
+    () => add('iframe', { src: `${address}frame` }),
+    () => add('video', { src: `${address}film`, preload: 'auto' }),
+    () => add('object', { data: `${address}object` }),
+    () => add('embed', { src: `${address}embed` }),
+    () => new FontFace('f', `url(${address}font)`).load().catch(() => {}),
+    () => { document.body.style.backgroundImage = `url(${address}ground)`; },
+    () => import(`${address}module`).catch(() => {}),
+    () => {
+      const form = Object.assign(document.createElement('form'), { action: address, method: 'post' });
+      document.body.append(form);
+      form.submit();
+    },
+  ];
+  for (const way of ways) {
+    try {
+      way();
+    } catch {
+      // stopped at once
+    }
+  }
+}
+
+const loadImage = address => new Promise(resolve => {
+  Object.assign(new Image(), { onload: resolve, onerror: resolve }).src = address;
+});
+
+/** A listener on this machine that notes who knocks, and what for. */
+async function listener() {
+  const knocks = [];
+  const server = net.createServer(socket => {
+    const knock = knocks.push('nothing') - 1;
+    socket.on('data', text => { knocks[knock] = text.toString().split('\r\n')[0]; });
+    socket.on('error', () => {});
+    socket.end('HTTP/1.1 204 No Content\r\nConnection: close\r\n\r\n');
+  });
+  await new Promise(resolve => server.listen(0, '127.0.0.1', resolve));
+  return { address: `http://127.0.0.1:${server.address().port}/`, knocks, close: () => server.close() };
+}
+
+async function nothingLeavesThePage(desk) {
+  const { address, knocks, close } = await listener();
+  try {
+    const other = await desk.profile.openPage();
+    await other.evaluate(loadImage, `${address}heard`);
+    await other.close();
+    includes(knocks.join(), 'GET /heard', 'a page without a policy is heard, so that silence means something');
+    await sleep(300);
+    knocks.length = 0;
+    await desk.openBook(book('two_pieces'), 'two.book');
+    await desk.rerun(1, '0.5');
+    await desk.heightsPanel();
+    same(desk.page.errors, [], 'page errors');
+    const schemes = new Set(desk.page.requests.map(url => url.split(':')[0]));
+    same([...schemes].filter(scheme => !['file', 'data', 'blob'].includes(scheme)), [], 'requests');
+    await desk.forgivingErrors(async () => {
+      await desk.evaluate(tryToGetOut, address);
+      await sleep(500);
+    });
+    // Chromium opens a line for a frame or a form before it asks the policy; nothing may be said on it.
+    same(knocks.filter(knock => knock !== 'nothing'), [], 'what the listener heard');
+  } finally {
+    close();
+  }
+}
+
+async function glanceSaysItInWords(desk) {
+  const wanted = {
+    two_pieces: ['Both loops within / the tolerance', 'Every line is checked / 5 lines, 5 marks, 2 pieces'],
+    chain20: ['No loops / nothing closes yet', '19 lines / 20 marks, 1 piece'],
+    ring12: ['12 lines, 12 marks, 1 piece'],
+    past_the_last_junction: ['NOT CHECKED: lines 4 5 6 7', 'The loop is within', '7 lines / 7 marks, 1 piece'],
+  };
+  for (const [name, parts] of Object.entries(wanted)) {
+    await desk.openBook(book(name), `${name}.book`);
+    const glance = (await desk.tiles()).join(' | ');
+    for (const part of parts) includes(glance, part, name);
+  }
+  await desk.newBook();
+  const [loops, lines] = await desk.tiles();
+  same([loops, lines], ['No loops / nothing closes yet', '0 lines / 1 mark, 1 piece'], 'an empty book');
+}
+
+async function footNamesTheCore(desk) {
+  const core = fs.readFileSync(path.join(TOP, 'target', 'page', 'level.wasm'));
+  const digits = crypto.createHash('sha256').update(core).digest('hex').slice(0, 12);
+  same(await desk.text('#core-id'), digits, 'the digits of the core');
+  includes(await desk.text('.foot, footer'), 'Nothing is sent anywhere.', 'the foot');
+}

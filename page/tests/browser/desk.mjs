@@ -1,0 +1,284 @@
+// The page in a surveyor's hands: books are opened, cells typed, lines corrected, and what is shown is read off it.
+import path from 'node:path';
+import { pathToFileURL } from 'node:url';
+import { whole } from './book-file.mjs';
+import * as seen from './seen.mjs';
+import { TOP, until } from './tools.mjs';
+
+export const PAGE = path.join(TOP, 'target', 'page', 'yorrabesk.html');
+
+/** The selector of a line's cell; lines count from 1. */
+export const lineCell = (line, column) => `#lines tr[data-row="${line - 1}"] input[data-column="${column}"]`;
+/** The selector of a held entry's cell; entries count from 1. */
+export const heldCell = (entry, column) => `#held tr[data-row="${entry - 1}"] input[data-column="${column}"]`;
+
+const LINE_COLUMNS = ['from', 'to', 'difference', 'length'];
+
+/** Opens the page in a storage of its own. options: width, height, mobile; before, a script to run before its own. */
+export async function openDesk(browser, { file = PAGE, ...options } = {}) {
+  const profile = await browser.openProfile();
+  const desk = new Desk(profile, pathToFileURL(file).href, options);
+  await desk.open();
+  return desk;
+}
+
+export class Desk {
+  constructor(profile, address, options) {
+    Object.assign(this, { profile, address, options });
+  }
+
+  async open() {
+    this.page = await this.profile.openPage(this.options);
+    await this.goto();
+  }
+
+  /** Opens the page anew in the same window: what was not saved is only in its storage. */
+  async goto() {
+    await this.page.goto(this.address);
+    const { errors } = this.page;
+    const before = errors.length;
+    const isDone = async () => errors.length > before || await this.page.evaluate(seen.isReady);
+    await until(isDone, { pause: 5, milliseconds: 10_000 });
+    if (!await this.page.evaluate(seen.isReady)) throw new Error(`the page did not get ready: ${errors.join('; ')}`);
+  }
+
+  /** Another window on the same storage. */
+  async another() {
+    const desk = new Desk(this.profile, this.address, this.options);
+    await desk.open();
+    return desk;
+  }
+
+  async closeWindow() {
+    await this.page.close();
+  }
+
+  async close() {
+    await this.page.close();
+    await this.profile.close().catch(() => {});
+  }
+
+  // ---- hands
+
+  evaluate(task, ...values) {
+    return this.page.evaluate(task, ...values);
+  }
+
+  /** Presses a button of the page, if it can be pressed. */
+  async press(selector) {
+    await this.evaluate(seen.press, selector);
+  }
+
+  /** Clicks with the mouse, where a person would: in the middle of what is in sight, and it must not be covered. */
+  async click(selector) {
+    const { place, cover } = await this.evaluate(seen.placeOf, selector);
+    if (cover) throw new Error(`${selector} cannot be clicked: ${cover} lies over it`);
+    await this.page.clickAt(place);
+  }
+
+  async tap(selector) {
+    const { place, cover } = await this.evaluate(seen.placeOf, selector);
+    if (cover) throw new Error(`${selector} cannot be tapped: ${cover} lies over it`);
+    await this.page.tapAt(place);
+  }
+
+  async keys(...keys) {
+    for (const key of keys) await this.page.press(key);
+  }
+
+  focus(selector) {
+    return this.evaluate(seen.focus, selector);
+  }
+
+  focused() {
+    return this.evaluate(seen.focused);
+  }
+
+  /** Puts a text into a field and leaves the field. */
+  async write(selector, text) {
+    await this.evaluate(seen.write, selector, text);
+  }
+
+  async writeLine(line, values) {
+    for (const [place, column] of LINE_COLUMNS.entries()) {
+      await this.write(lineCell(line, column), String(values[place]));
+    }
+  }
+
+  async paste(selector, text) {
+    await this.evaluate(seen.paste, selector, text);
+  }
+
+  // ---- books
+
+  newBook() {
+    return this.press('#new');
+  }
+
+  /** Opens a file with these bytes; gives the message that comes. */
+  async openBook(bytes, name = 'x.book') {
+    await this.evaluate(seen.giveFile, 'chosen', name, Buffer.from(bytes).toString('base64'));
+    return this.notice();
+  }
+
+  /** Drops a file on the page. */
+  async dropBook(bytes, name = 'x.book') {
+    await this.evaluate(seen.giveFile, 'dropped', name, Buffer.from(bytes).toString('base64'));
+    return this.notice();
+  }
+
+  /** Saves, by the button or as told; gives the saved file, or null if none came. */
+  save(act = () => this.press('#save')) {
+    return this.profile.saved(act);
+  }
+
+  /** Presses Save where no file may come. */
+  saveInVain() {
+    return this.profile.saved(() => this.press('#save'), 700);
+  }
+
+  async shutNotice() {
+    await this.evaluate(seen.pressIfThere, '#shut');
+  }
+
+  async openCorrection(line) {
+    await this.press(`#lines tr[data-row="${line - 1}"] .correct`);
+  }
+
+  async rerun(line, difference) {
+    await this.evaluate(seen.correct, line, difference);
+  }
+
+  async withdraw(line) {
+    await this.evaluate(seen.correct, line, null);
+  }
+
+  undo() {
+    return this.press('#undo');
+  }
+
+  redo() {
+    return this.press('#redo');
+  }
+
+  // ---- what is shown
+
+  text(selector) {
+    return this.evaluate(seen.textOf, selector);
+  }
+
+  value(selector) {
+    return this.evaluate(seen.valueOf, selector);
+  }
+
+  count(selector) {
+    return this.evaluate(seen.countOf, selector);
+  }
+
+  notice() {
+    return this.evaluate(seen.visibleText, '#notice');
+  }
+
+  trouble() {
+    return this.evaluate(seen.visibleText, '#trouble');
+  }
+
+  glance() {
+    return this.evaluate(seen.visibleText, '#glance');
+  }
+
+  tiles() {
+    return this.evaluate(seen.tiles);
+  }
+
+  /** The report as text: [what the report program prints, what the heights program prints]. */
+  async texts() {
+    const text = await this.evaluate(seen.reportText);
+    const end = text.indexOf('\n\n');
+    return end < 0 ? [text, ''] : [text.slice(0, end + 1), text.slice(end + 2)];
+  }
+
+  async report() {
+    return (await this.texts())[0];
+  }
+
+  loops() {
+    return this.evaluate(seen.loops);
+  }
+
+  goneLoops() {
+    return this.evaluate(seen.goneLoops);
+  }
+
+  /** The heights panel is written when it comes into sight. */
+  async heightsPanel() {
+    await this.evaluate(seen.scrollTo, '#heights');
+    return until(() => this.text('#heights-box'), { good: text => text !== '' });
+  }
+
+  wrongCells() {
+    return this.evaluate(seen.wrongCells);
+  }
+
+  checkedBy(line) {
+    return this.text(`#lines tr[data-row="${line - 1}"] .checked-by`);
+  }
+
+  /** The book as its cells show it, all texts but standing. */
+  shownBook() {
+    return this.evaluate(seen.shownBook);
+  }
+
+  /** The shown book, as in book-file.mjs, and the standing of each line; only for a book that is right. */
+  async shownTable() {
+    return tableShown(await this.shownBook());
+  }
+
+  isUnsaved() {
+    return this.evaluate(seen.isVisible, '#unsaved');
+  }
+
+  /** Everything that Undo must bring back. */
+  async state() {
+    const asked = [this.shownBook(), this.texts(), this.tiles(), this.loops(), this.goneLoops(), this.value('#name')];
+    const [book, texts, tiles, loops, gone, name] = await Promise.all(asked);
+    return { book, texts, tiles, loops, gone, name };
+  }
+
+  /** What the picture shows, once it stands still: large pictures come some time after the numbers. */
+  async picture() {
+    await this.evaluate(seen.pictureIsStill);
+    return this.evaluate(seen.picture);
+  }
+
+  /** Where each mark is drawn, as text. */
+  async places() {
+    const { marks } = await this.picture();
+    return marks.map(({ place }) => place.join(' ')).join(', ');
+  }
+
+  /** Runs something that must make the page complain to the browser, and takes those complaints away. */
+  async forgivingErrors(task) {
+    const before = this.page.errors.length;
+    const answer = await task();
+    this.page.errors.length = before;
+    return answer;
+  }
+}
+
+/** A book that is right, of its cells: without the rows at the end that are not complete. */
+function tableShown(book) {
+  const isEmpty = row => row.cells.every(cell => cell === '');
+  const complete = rows => {
+    const typed = rows.filter(row => !isEmpty(row));
+    return typed.at(-1)?.cells.includes('') ? typed.slice(0, -1) : typed;
+  };
+  const lines = complete(book.lines);
+  const table = {
+    tolerance: whole(book.tolerance, 1),
+    marks: Number(book.marks),
+    held: complete(book.held).map(({ cells: [mark, height] }) => [Number(mark), whole(height, 6)]),
+    lines: lines.map(({ cells: [from, to, difference, length] }) => [+from, +to, whole(difference, 6), +length]),
+  };
+  return { table, standing: lines.map(row => row.standing) };
+}
