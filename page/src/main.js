@@ -27,7 +27,7 @@ const inside = text => Uint8Array.from(atob(text), letter => letter.charCodeAt(0
 
 function cannotRun() {
   fill(byId('trouble'), make('div', { class: 'box refused' }, strong('This browser cannot run the page.'),
-    ' It needs WebAssembly with 64-bit numbers: Chrome or Edge 85, Firefox 78, Safari 14.1, or later.'));
+    ' It needs one of 2022 or later: Chrome or Edge 97, Firefox 102, Safari 16.'));
 }
 
 async function begin() {

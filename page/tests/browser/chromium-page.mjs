@@ -5,7 +5,6 @@ import { until } from './tools.mjs';
 
 // Others, as that for assistive technology, would make the page slower while they are on.
 const PARTS = ['Page', 'Runtime', 'Log', 'Network'];
-const LONGEST_PICTURE = 6000;
 
 export class ChromiumPage {
   constructor(browser, { targetId, sessionId }) {
@@ -123,15 +122,9 @@ export class ChromiumPage {
     await this.ask('DOM.setFileInputFiles', { nodeId, files });
   }
 
-  /** The whole page, or what is in sight, as PNG. */
-  async screenshot(file, { whole = false } = {}) {
-    const options = { format: 'png' };
-    if (whole) {
-      const { cssContentSize: size } = await this.ask('Page.getLayoutMetrics');
-      options.clip = { x: 0, y: 0, width: size.width, height: Math.min(size.height, LONGEST_PICTURE), scale: 1 };
-      options.captureBeyondViewport = true;
-    }
-    const shot = await this.ask('Page.captureScreenshot', options);
+  /** What is in sight, as PNG. */
+  async screenshot(file) {
+    const shot = await this.ask('Page.captureScreenshot', { format: 'png' });
     fs.writeFileSync(file, Buffer.from(shot.data, 'base64'));
   }
 

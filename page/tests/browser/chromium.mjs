@@ -18,15 +18,8 @@ const FLAGS = [
 
 /** Root has no sandbox; others lack it in some containers, where the second try goes without. */
 export async function launchChromium() {
-  const root = process.getuid?.() === 0;
-  if (!root) {
-    try {
-      return await launchWith([]);
-    } catch {
-      // the second try follows
-    }
-  }
-  return launchWith(['--no-sandbox']);
+  const withoutSandbox = () => launchWith(['--no-sandbox']);
+  return process.getuid?.() === 0 ? withoutSandbox() : launchWith([]).catch(withoutSandbox);
 }
 
 async function launchWith(flags) {
@@ -47,9 +40,7 @@ async function launchWith(flags) {
 
 class Chromium {
   constructor(program, folder) {
-    this.name = 'chromium';
-    this.folder = folder;
-    this.program = program;
+    Object.assign(this, { name: 'chromium', program, folder });
     this.gone = new Promise(resolve => program.once('exit', resolve));
     const [, , , questions, answers] = program.stdio;
     this.exchange = new Exchange(text => questions.write(`${text}\0`));
@@ -126,19 +117,13 @@ class ChromiumProfile {
   }
 }
 
-/** Messages in the pipe end with a zero byte; a piece that arrives may have many or a part of one. */
+/** Messages in the pipe end with a zero byte; a piece that arrives may have many, or a part of one. */
 function readMessages(pipe, hear) {
   const decoder = new StringDecoder('utf8');
-  let parts = [];
+  let begun = '';
   pipe.on('data', piece => {
-    const [rest, ...whole] = decoder.write(piece).split('\0').reverse();
-    if (whole.length === 0) {
-      parts.push(rest);
-      return;
-    }
-    const messages = whole.reverse();
-    messages[0] = parts.join('') + messages[0];
-    parts = [rest];
-    messages.forEach(hear);
+    const texts = (begun + decoder.write(piece)).split('\0');
+    begun = texts.pop();
+    texts.forEach(hear);
   });
 }

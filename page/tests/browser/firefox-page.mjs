@@ -81,8 +81,8 @@ export class FirefoxPage {
     return this.pointer([moveTo(from), down, moveTo(middle), moveTo(to), { type: 'pointerUp', button: 0 }]);
   }
 
-  async screenshot(file, { whole = false } = {}) {
-    const shot = await this.ask('browsingContext.captureScreenshot', { origin: whole ? 'document' : 'viewport' });
+  async screenshot(file) {
+    const shot = await this.ask('browsingContext.captureScreenshot', {});
     fs.writeFileSync(file, Buffer.from(shot.data, 'base64'));
   }
 

@@ -11,6 +11,8 @@ const SCREENS = {
   390: { width: 390, height: 844, mobile: true },
 };
 
+const LONGEST = 4000;
+
 const opened = name => desk => desk.openBook(book(name), `${name}.book`);
 
 /** The states, and how each is reached from the page as it opens. */
@@ -55,12 +57,22 @@ export async function takePictures(browser, file, folder) {
       await reach(desk);
       await desk.picture();
       await desk.page.screenshot(path.join(folder, `${name}-${size}.png`));
-      await desk.page.screenshot(path.join(folder, `${name}-${size}-whole.png`), { whole: true });
+      await showWhole(desk, screen);
+      await desk.page.screenshot(path.join(folder, `${name}-${size}-whole.png`));
       await desk.close();
     }
   }
   if (paperToolsAreThere()) await takePaper(browser, file, folder);
   console.log(`pictures are in ${folder}`);
+}
+
+/** Makes the window as high as the page, up to a length that can be looked at: what is out of sight is not drawn. */
+async function showWhole(desk, screen) {
+  await desk.heightsPanel();
+  const height = await desk.evaluate(() => document.documentElement.scrollHeight);
+  await desk.page.resize({ ...screen, height: Math.min(height, LONGEST) });
+  await desk.picture();
+  await desk.evaluate(() => scrollTo(0, 0));
 }
 
 async function takePaper(browser, file, folder) {

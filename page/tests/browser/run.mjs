@@ -25,6 +25,8 @@ const NEEDS = {
 };
 
 const LONGEST_CASE = 150_000;
+// Whoever stops this leaves no browser behind.
+const SIGNALS = ['SIGINT', 'SIGTERM', 'SIGHUP'];
 
 const { values: options } = parseArgs({
   options: {
@@ -97,11 +99,14 @@ async function runBrowser(name, cases) {
   const chosen = chosenCases(cases, name);
   if (chosen.length === 0 && !options.pictures) return { done: 0, failed: 0 };
   const browser = await BROWSERS[name].launch();
+  const stop = () => browser.close().finally(() => process.exit(1));
+  SIGNALS.forEach(signal => process.once(signal, stop));
   try {
     const failed = await runLanes(browser, chosen);
     if (options.pictures && name === 'chromium') await takePictures(browser, file, options.pictures);
     return { done: chosen.length, failed };
   } finally {
+    SIGNALS.forEach(signal => process.off(signal, stop));
     await browser.close();
   }
 }

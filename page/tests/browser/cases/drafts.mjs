@@ -13,6 +13,7 @@ export const cases = [
   { name: 'broken-draft-is-ignored', run: brokenDraftIsIgnored },
   { name: 'draft-with-markup-in-its-name', run: draftWithMarkup },
   { name: 'draft-of-a-refused-book', run: draftOfARefusedBook },
+  { name: 'cell-typed-while-closing', run: cellTypedWhileClosing },
   { name: 'storage-denied', run: storageDenied, window: { before: `(${denyStorage})()` } },
   { name: 'storage-full', run: storageFull, window: { before: `(${fillStorage})()` } },
 ];
@@ -142,6 +143,17 @@ async function draftWithMarkup(desk) {
   lacks(await desk.evaluate(() => document.getElementById('glance').innerHTML), '<img', 'the page');
   await desk.page.pdf();
   same(await desk.evaluate(() => globalThis.wasRun), undefined, 'nothing of it ran');
+}
+
+/** A cell that is being typed when the window is closed is not left any more. */
+async function cellTypedWhileClosing(desk) {
+  await desk.focus(lineCell(6, 'difference'));
+  await desk.page.press('a', { control: true });
+  await desk.page.type('2.4321');
+  await desk.goto();
+  same(await offers(desk), 1, 'a draft is offered');
+  await desk.press('.draft-yes');
+  same(await desk.value(lineCell(6, 'difference')), '2.4321', 'the cell');
 }
 
 /** A book that cannot be read has the most typing in it that can be lost. */

@@ -6,7 +6,7 @@ import path from 'node:path';
 import { book } from '../books.mjs';
 import { includes, same } from '../check.mjs';
 import { bothTexts } from '../programs.mjs';
-import { sleep, TOP } from '../tools.mjs';
+import { sleep, TOP, until } from '../tools.mjs';
 
 const BOTH = ['chromium', 'firefox'];
 const BOOKS = [
@@ -23,6 +23,8 @@ export const cases = [
   { name: 'nothing-leaves-the-page', run: nothingLeavesThePage, browsers: BOTH },
   { name: 'glance-says-it-in-words', run: glanceSaysItInWords },
   { name: 'foot-names-the-core', run: footNamesTheCore },
+  { name: 'text-is-copied', run: textIsCopied, window: { before: `(${watchClipboard})()` } },
+  { name: 'text-is-copied-without-clipboard', run: textIsCopied, window: { before: `(${denyClipboard})()` } },
 ];
 
 async function workedNetworkOpens(desk) {
@@ -62,9 +64,8 @@ function heightsEqualProgram(desk, { browser }) {
   return holdTexts(desk, 1, browser === 'firefox' ? FEW_BOOKS : [...BOOKS, 'slowest']);
 }
 
-/** Every way out that a policy can shut: each is tried by hand, from inside the page. */
-function tryToGetOut(address) {
-  const add = (name, attributes) => document.body.append(Object.assign(document.createElement(name), attributes));
+/** Inside the page: every way out by script that a policy can shut. What is stopped at once throws. */
+function tryByScript(address) {
   const ways = [
     () => fetch(address).catch(() => {}),
     () => fetch(address, { mode: 'no-cors', method: 'POST', body: 'book' }).catch(() => {}),
@@ -77,32 +78,31 @@ function tryToGetOut(address) {
     () => new WebSocket(address.replace('http', 'ws')),
     () => new EventSource(address),
     () => new Worker(address),
-    () => { new Image().src = `${address}image`; },
-    () => add('script', { src: `${address}script` }),
-    () => add('link', { rel: 'stylesheet', href: `${address}style` }),
-    ...['prefetch', 'preload', 'preconnect', 'modulepreload', 'icon', 'manifest'].map(rel => {
-      return () => add('link', { rel, href: address + rel });
-    }),
-    () => add('iframe', { src: `${address}frame` }),
-    () => add('video', { src: `${address}film`, preload: 'auto' }),
-    () => add('object', { data: `${address}object` }),
-    () => add('embed', { src: `${address}embed` }),
-    () => new FontFace('f', `url(${address}font)`).load().catch(() => {}),
-    () => { document.body.style.backgroundImage = `url(${address}ground)`; },
     () => import(`${address}module`).catch(() => {}),
-    () => {
-      const form = Object.assign(document.createElement('form'), { action: address, method: 'post' });
-      document.body.append(form);
-      form.submit();
-    },
+    () => new FontFace('f', `url(${address}font)`).load().catch(() => {}),
+    () => { new Image().src = `${address}image`; },
+    () => { document.body.style.backgroundImage = `url(${address}ground)`; },
   ];
-  for (const way of ways) {
+  ways.forEach(way => {
+    try { way(); } catch { /* as it should be */ }
+  });
+}
+
+/** Inside the page: every way out by an element. */
+function tryByElements(address) {
+  const add = (name, attributes) => {
     try {
-      way();
-    } catch {
-      // stopped at once
-    }
+      const element = Object.assign(document.createElement(name), attributes);
+      document.body.append(element);
+      if (name === 'form') element.submit();
+    } catch { /* as it should be */ }
+  };
+  for (const rel of ['stylesheet', 'prefetch', 'preload', 'preconnect', 'modulepreload', 'icon', 'manifest']) {
+    add('link', { rel, href: address + rel });
   }
+  for (const name of ['script', 'iframe', 'embed', 'video', 'audio']) add(name, { src: address + name });
+  add('object', { data: `${address}object` });
+  add('form', { action: `${address}form`, method: 'post' });
 }
 
 const loadImage = address => new Promise(resolve => {
@@ -138,7 +138,8 @@ async function nothingLeavesThePage(desk) {
     const schemes = new Set(desk.page.requests.map(url => url.split(':')[0]));
     same([...schemes].filter(scheme => !['file', 'data', 'blob'].includes(scheme)), [], 'requests');
     await desk.forgivingErrors(async () => {
-      await desk.evaluate(tryToGetOut, address);
+      await desk.evaluate(tryByScript, address);
+      await desk.evaluate(tryByElements, address);
       await sleep(500);
     });
     // Chromium opens a line for a frame or a form before it asks the policy; nothing may be said on it.
@@ -170,4 +171,23 @@ async function footNamesTheCore(desk) {
   const digits = crypto.createHash('sha256').update(core).digest('hex').slice(0, 12);
   same(await desk.text('#core-id'), digits, 'the digits of the core');
   includes(await desk.text('.foot, footer'), 'Nothing is sent anywhere.', 'the foot');
+}
+
+/** Runs before the page's own script: what is put into the clipboard is noted. */
+function watchClipboard() {
+  const writeText = async text => { globalThis.copied = text; };
+  Object.defineProperty(navigator, 'clipboard', { value: { writeText } });
+}
+
+/** Runs before the page's own script: a browser that gives it no clipboard, but copies what is selected. */
+function denyClipboard() {
+  Object.defineProperty(navigator, 'clipboard', { value: undefined });
+  document.addEventListener('copy', () => { globalThis.copied = String(getSelection()); });
+}
+
+async function textIsCopied(desk) {
+  const text = (await desk.texts()).join('\n');
+  await desk.click('#copy');
+  same(await until(() => desk.text('#copy'), { good: words => words === 'Copied' }), 'Copied', 'the button');
+  same((await desk.evaluate(() => globalThis.copied)).trim(), text.trim(), 'what was copied');
 }

@@ -43,6 +43,9 @@ async function pasteFills(desk) {
   same(table.lines.slice(0, 4), [
     [1, 3, 6_345_000, 1600], [2, 3, 4_200_000, 2600], [5, 2, 3_100_000, 1100], [5, 1, 920_000, 4000],
   ], 'from the cell to the right and down');
+  await desk.paste(lineCell(4, 'length'), '4100\tremark\t7');
+  same((await desk.shownTable()).table.lines[3], [5, 1, 920_000, 4100], 'cells beyond the last column');
+  includes(await desk.notice(), 'left out', 'are left out, and the message says so');
   await desk.paste(heldCell(2, 'mark'), '2\t102.1\n3\t106.3');
   same((await desk.shownTable()).table.held, [[1, 100_000_000], [2, 102_100_000], [3, 106_300_000]], 'held marks');
   // One number is the field's own to paste: the page does not step in.

@@ -253,6 +253,11 @@ async function labelsOnLines(desk) {
   holds(differences.every(label => /^[−-]?\d+\.\d{3,6}( m)?$/.test(label)), `differences: ${differences}`);
   includes(differences.join(' '), '6.345', 'differences');
   includes((await choose('lengths')).join(' '), '1600', 'lengths');
+  await choose('numbers');
+  await desk.openBook(book('parallel512'), 'parallel.book');
+  const { labels, lines } = await desk.picture();
+  same(lines.length, 512, 'parallel lines are drawn each by itself');
+  same(labels, ['512 lines'], 'over ten of them carry one label');
 }
 
 const hotLines = async desk => {
