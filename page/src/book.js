@@ -100,13 +100,16 @@ function gridOf(text) {
 /** Whether cells that are pasted at From have the line's number in front. */
 const areNumbered = (cell, grid) => cell.table === 'lines' && cell.column === 'from' && grid.every(row => row.length === 5);
 
-/** Pastes cells from a cell on, to the right and down: the book, how many rows were taken, and how many left out. */
+/**
+ * Pastes cells from a cell on, to the right and down: the book, how many rows were taken and how many left out, and how many cells
+ * are beyond the last column.
+ */
 export function pasted(book, cell, text) {
   const { columns, most } = TABLES[cell.table];
   const grid = gridOf(text);
   const first = columns.findIndex(each => each.key === cell.column);
   const rows = book[cell.table].slice();
-  let taken = 0;
+  let [taken, beyond] = [0, 0];
   grid.map(row => (areNumbered(cell, grid) ? row.slice(1) : row)).forEach((texts, down) => {
     const at = cell.row + down;
     // A withdrawn line is not written over.
@@ -114,8 +117,9 @@ export function pasted(book, cell, text) {
     while (rows.length <= at) rows.push(blankRow(cell.table));
     rows[at] = { ...rows[at], ...pastedCells(cell.table, columns.slice(first), at, texts) };
     taken++;
+    beyond += texts.slice(columns.length - first).filter(each => each.trim() !== '').length;
   });
-  return { book: { ...book, [cell.table]: trimmed(cell.table, rows) }, taken, left: grid.length - taken };
+  return { book: { ...book, [cell.table]: trimmed(cell.table, rows) }, taken, left: grid.length - taken, beyond };
 }
 
 const pastedCells = (table, columns, row, texts) => Object.fromEntries(columns.slice(0, texts.length)

@@ -106,12 +106,20 @@ function onPaste(event) {
   const text = event.clipboardData.getData('text/plain').slice(0, MOST_PASTED);
   if (!cell || cell.table === 'head' || !/[\t\n\r;]/.test(text.trim())) return;
   event.preventDefault();
-  const { book, taken, left } = pasted(present().book, cell, text);
+  const { book, ...counts } = pasted(present().book, cell, text);
   edit(book);
   goTo(cell);
-  const { most } = TABLES[cell.table];
-  const why = `a book has at most ${most} ${cell.table === 'lines' ? 'lines' : 'held marks'}, and withdrawn lines are not written over`;
-  tell(`${plural(taken, 'row')} pasted${left > 0 ? `; ${left} left out: ${why}` : ''}. `, undoHere());
+  tell(`${pastedWords(cell.table, counts)}. `, undoHere());
+}
+
+/** What was pasted, and what did not fit. */
+function pastedWords(table, { taken, left, beyond }) {
+  const most = `a book has at most ${TABLES[table].most} ${table === 'lines' ? 'lines' : 'held marks'}`;
+  return [
+    `${plural(taken, 'row')} pasted`,
+    left > 0 && `${left} left out: ${most}, and withdrawn lines are not written over`,
+    beyond > 0 && `${plural(beyond, 'cell')} left out: there is no column for them`,
+  ].filter(Boolean).join('; ');
 }
 
 /** What is copied has plain minus signs, as other programs read them. */

@@ -64,6 +64,8 @@ test('what does not fit is left out and counted; a withdrawn line is not written
   const gone = { ...emptyBook(), lines: [line('1', '2', '1.000', '10', false)] };
   assert.deepEqual(pasted(gone, cellOf('lines', 0, 'from'), '3\t4\t5\t60').book.lines, gone.lines);
   assert.equal(pasted(emptyBook(), cellOf('held', 0, 'mark'), '1\t100\n2\t101').book.held.length, 2);
+  const { taken: rowsTaken, beyond } = pasted(emptyBook(), cellOf('lines', 0, 'length'), '4100\tremark\t7\n1000\t\t');
+  assert.deepEqual([rowsTaken, beyond], [2, 2]);
 });
 
 test('withdrawn lines keep their place, and books are compared by their texts', () => {
