@@ -37,7 +37,7 @@ unfolding codes
 codes-listed [] = refl
 codes-listed (p ∷ ps) = ap₂ (λ (x : ℤ) (xs : List ℤ). x ∷ xs) (code-listed (p .forward) (p .line .number)) (codes-listed ps)
 
-map-append : (xs ys : List ℕ) → map listedBy (xs ++ ys) ≡ map listedBy xs ++ map listedBy ys
+pub map-append : (xs ys : List ℕ) → map listedBy (xs ++ ys) ≡ map listedBy xs ++ map listedBy ys
 map-append [] ys = refl
 map-append (x ∷ xs) ys = ap (λ (r : List ℤ). listedBy x ∷ r) (map-append xs ys)
 
@@ -48,12 +48,12 @@ runs-listed (lp ∷ ls) = map-append (codes lp) (runsOf ls) ∙ ap₂ (λ (a b :
 
 -- ---- every code is small
 
-append-coded : (xs ys : List ℕ) → Coded xs → Coded ys → Coded (xs ++ ys)
+pub append-coded : (xs ys : List ℕ) → Coded xs → Coded ys → Coded (xs ++ ys)
 append-coded [] ys p q i h = q i h
 append-coded (x ∷ xs) ys p q zero h = p zero (omega arith)
 append-coded (x ∷ xs) ys p q (suc i) h = append-coded xs ys (λ j l. p (suc j) (omega arith)) q i (omega arith)
 
-codes-small : (lp : Loop) → ((p : Pass) → List·Memᴰ p lp → p .line .number ≤ mostLines) → Coded (codes lp)
+pub codes-small : (lp : Loop) → ((p : Pass) → List·Memᴰ p lp → p .line .number ≤ mostLines) → Coded (codes lp)
 unfolding codes
 codes-small [] f i h = absurd (omega arith)
 codes-small (p ∷ ps) f zero h = go (p .forward)

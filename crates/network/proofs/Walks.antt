@@ -4,18 +4,14 @@ use mathlib.Core.Path.{_≡_, refl, sym, _∙_, subst}
 use mathlib.Core.Bool.{Bool, true, false, not}
 use mathlib.Core.List.{List, [], _∷_, _++_, List·Memᴰ}
 use Rattle.network.specs.Standing.{Line}
-use Rattle.network.specs.Walk.{Pass, pass, end, start, stop, Walk, here, step, Ends, along, against}
+use Rattle.network.specs.Walk.{Pass, pass, flip, end, start, stop, Walk, here, step, Ends, along, against}
 
 -- one walk after the other
 pub walk-append : {ls : List Line} {r u v : ℕ} {w w′ : List Pass} → Walk ls v u w → Walk ls r v w′ → Walk ls r u (w ++ w′)
 walk-append {ls = ls} {r = r} {w′ = w′} (here e) y = subst (λ (x : ℕ). Walk ls r x w′) (sym e) y
 walk-append (step s m x) y = step s m (walk-append x y)
 
--- a pass run the other way
-abbrev pub flip : Pass → Pass
-flip p = pass (p .line) (not (p .forward))
-
--- it starts where the pass stops
+-- a pass run the other way starts where the pass stops
 pub flip-start : (p : Pass) → start (flip p) ≡ stop p
 flip-start p = go (p .forward)
   where

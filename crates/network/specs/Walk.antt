@@ -2,7 +2,7 @@
 -- Assumes nothing.
 use Prim.Native.Nat.{ℕ, zero, _+_, _≤_, _<_}
 use mathlib.Core.Path.{_≡_}
-use mathlib.Core.Bool.{Bool, true, false}
+use mathlib.Core.Bool.{Bool, true, false, not}
 use mathlib.Core.List.{List, [], _∷_, List·Memᴰ}
 use Rattle.network.specs.Standing.{Line}
 use Rattle.network.specs.Pairwise.{Pairwise}
@@ -19,6 +19,10 @@ pub record Pass : Type 0 where
 
 abbrev pub pass : Line → Bool → Pass
 pass l f = record { line = l; forward = f }
+
+-- a pass run the other way
+abbrev pub flip : Pass → Pass
+flip p = pass (p .line) (not (p .forward))
 
 abbrev pub end : Bool → ℕ → ℕ → ℕ
 end true a b = a

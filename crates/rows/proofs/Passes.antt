@@ -51,7 +51,7 @@ code-line false n i e = omega arith
 
 module _ (ls : List ℤ) where
   -- every line that the loop runs stands
-  abbrev Stand : Loop → Type 0
+  abbrev pub Stand : Loop → Type 0
   Stand lp = (p : Pass) → List·Memᴰ p lp → List·Memᴰ (p .line) (standing ls)
 
   length-one : (p : Pass) → List·Memᴰ (p .line) (standing ls) → lengthBy ls (codeOf (p .forward) (p .line .number)) ≡ p .line .length
@@ -75,12 +75,12 @@ module _ (ls : List ℤ) where
       go true = rw (eq-eqb (2 * p .line .number % 2) 0 (omega arith)) (at-line true)
       go false = rw (ne-eqb ((2 * p .line .number + 1) % 2) 0 (λ z. omega arith)) (ap negℤ (at-line false))
 
-  length-is : (lp : Loop) → Stand lp → lengthOf ls (codes lp) ≡ wayLength lp
+  pub length-is : (lp : Loop) → Stand lp → lengthOf ls (codes lp) ≡ wayLength lp
   unfolding lengthOf codes wayLength
   length-is [] f = refl
   length-is (p ∷ ps) f = ap₂ (λ (x y : ℕ). x + y) (length-one p (f p (List·Memᴰ·head refl))) (length-is ps (λ q i. f q (List·Memᴰ·tail i)))
 
-  rise-is : (lp : Loop) → Stand lp → riseOf ls (codes lp) ≡ misclosure lp
+  pub rise-is : (lp : Loop) → Stand lp → riseOf ls (codes lp) ≡ misclosure lp
   unfolding riseOf codes misclosure
   rise-is [] f = refl
   rise-is (p ∷ ps) f = ap₂ (λ (x y : ℤ). x +ℤ y) (rise-one p (f p (List·Memᴰ·head refl))) (rise-is ps (λ q i. f q (List·Memᴰ·tail i)))
@@ -108,7 +108,7 @@ module _ (ls : List ℤ) where
   code-runs l m true = let w = place-of ls l m in record { low = omega (arith, w .number); high = omega (arith, w .number, w .there) }
   code-runs l m false = let w = place-of ls l m in record { low = omega (arith, w .number); high = omega (arith, w .number, w .there) }
 
-  codes-run : (lp : Loop) → Stand lp → (j : ℕ) → j < length lp → Runs ls (getD (codes lp) j 0)
+  pub codes-run : (lp : Loop) → Stand lp → (j : ℕ) → j < length lp → Runs ls (getD (codes lp) j 0)
   unfolding codes
   codes-run [] f j h = absurd (omega arith)
   codes-run (p ∷ ps) f zero h = code-runs (p .line) (f p (List·Memᴰ·head refl)) (p .forward)

@@ -13,10 +13,10 @@ use borrow.Author.Tests.{eq-eqb, ne-eqb, le-leb, lt-leb}
 use Rattle.laws.proofs.Tests.{cond-ind}
 use Rattle.laws.proofs.Size.{size-neg}
 use Rattle.laws.proofs.Lists.{filled}
-use Rattle.book.specs.Limits.{mostMarks, mostDifference, mostLength, mostTolerance}
+use Rattle.book.specs.Limits.{mostLines, mostDifference, mostLength, mostTolerance}
 use Rattle.book.specs.Line.{lineCount, differenceAt}
 use Rattle.loops.specs.Row.{rowWords, rowClosing, rowCount, rowLength, rowMisclosure, rowVerdict}
-use Rattle.rows.specs.Sums.{lineOf, lengthBy, riseBy, lengthOf, riseOf, verdictOf, rowOf, Measured, Runs, squareLimit}
+use Rattle.rows.specs.Sums.{lineOf, lengthBy, riseBy, lengthOf, riseOf, verdictOf, rowOf, Measured, Runs, squareLimit, LinesIn, RunIn}
 
 module _ (ls : List ℤ) (run : List ℕ) where
   -- the run from place j on begins with what stands at j
@@ -71,11 +71,11 @@ rise-aft ls code e = rw (ne-eqb (code % 2) 0 e) (sym (+ℤ-idl (negℤ (differen
 
 -- ---- the verdict
 
-pub allow : (t len : ℕ) → t ≤ mostTolerance → len ≤ mostMarks * mostLength
-    → t * t * len ≤ mostTolerance * mostTolerance * (mostMarks * mostLength)
+pub allow : (t len : ℕ) → t ≤ mostTolerance → len ≤ mostLines * mostLength
+    → t * t * len ≤ mostTolerance * mostTolerance * (mostLines * mostLength)
 allow t len ht hl = mul-le-mul (mul-le-mul ht ht) hl
 
-pub verdict-big : (t : ℕ) (m : ℤ) (len size : ℕ) → t ≤ mostTolerance → len ≤ mostMarks * mostLength → size ≡ natAbs m
+pub verdict-big : (t : ℕ) (m : ℤ) (len size : ℕ) → t ≤ mostTolerance → len ≤ mostLines * mostLength → size ≡ natAbs m
     → squareLimit ≤ size → verdictOf t m len ≡ pos 1
 unfolding verdictOf
 verdict-big t m len size ht hl e h =
@@ -104,3 +104,7 @@ pub row-made : (t : ℕ) (ls : List ℤ) (run : List ℕ) (metres : ℕ) (m v : 
     → pos (getD run 0 0 / 2) ∷ pos (length run) ∷ pos metres ∷ m ∷ v ∷ [] ≡ rowOf t ls run
 unfolding rowOf
 row-made t ls run metres m v p q r = rw (r, p, q)
+
+-- a loop's run is a run of lines
+pub loop-lines : {ls : List ℤ} {run : List ℕ} → RunIn ls run → LinesIn ls run
+loop-lines r = record { few = omega (arith, r .few); each = r .each }

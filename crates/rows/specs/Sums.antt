@@ -58,6 +58,11 @@ pub record Runs (ls : List ℤ) (code : ℕ) : Type 0 where
   pub low : 2 ≤ code
   pub high : code / 2 ≤ lineCount ls
 
+-- a run in the book ls: lines of it, no more than a book has
+pub record LinesIn (ls : List ℤ) (run : List ℕ) : Type 0 where
+  pub few : length run ≤ mostLines
+  pub each : (j : ℕ) → j < length run → Runs ls (getD run j 0)
+
 -- a loop's run in the book ls: some lines of it, no more than there are marks
 pub record RunIn (ls : List ℤ) (run : List ℕ) : Type 0 where
   pub some-line : 0 < length run

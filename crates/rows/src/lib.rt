@@ -4,12 +4,12 @@ ghost use mathlib.Core.List.{[], _∷_, _++_};
 ghost use Prim.Native.Nat.{_*_, _<_, _≤_, _^_};
 ghost use lib.IntN.{pos, natAbs};
 ghost use lib.ListN.{length, drop};
-ghost use Rattle.book.specs.Limits.{mostMarks, mostDifference, mostLength, mostTolerance};
+ghost use Rattle.book.specs.Limits.{mostLines, mostDifference, mostLength, mostTolerance};
 ghost use Rattle.book.specs.Good.{GoodLines};
 ghost use Rattle.loops.specs.Row.{rowWords};
 ghost use Rattle.loops.specs.Report.{loopsOf, reportOf};
 ghost use Rattle.loops.specs.Table.{Table};
-ghost use Rattle.rows.specs.Sums.{lengthBy, riseBy, lengthOf, riseOf, verdictOf, rowOf, Measured, Runs, RunIn};
+ghost use Rattle.rows.specs.Sums.{lengthBy, riseBy, lengthOf, riseOf, verdictOf, rowOf, Measured, Runs, LinesIn, RunIn};
 use book::Book;
 use book::line::Line;
 
@@ -54,10 +54,10 @@ fn rise_by(lines: &[i64], code: usize) -> i64
 }
 
 // The length of a run.
-fn run_length(lines: &[i64], run: &[u16]) -> usize
+pub fn run_length(lines: &[i64], run: &[u16]) -> usize
     requires { ⌜ Measured (now lines) ⌝
-        ∗ ⌜ RunIn (now lines) (now run) ⌝ }
-    ensures { λ r. ⌜ (r ≡ lengthOf (now (lines .entry)) (now (run .entry))) × (r ≤ mostMarks * mostLength) ⌝ }
+        ∗ ⌜ LinesIn (now lines) (now run) ⌝ }
+    ensures { λ r. ⌜ (r ≡ lengthOf (now (lines .entry)) (now (run .entry))) × (r ≤ mostLines * mostLength) ⌝ }
 {
     let mut sum = 0;
     let mut j = 0;
@@ -69,10 +69,10 @@ fn run_length(lines: &[i64], run: &[u16]) -> usize
 }
 
 // The rise of a run.
-fn run_rise(lines: &[i64], run: &[u16]) -> i64
+pub fn run_rise(lines: &[i64], run: &[u16]) -> i64
     requires { ⌜ Measured (now lines) ⌝
-        ∗ ⌜ RunIn (now lines) (now run) ⌝ }
-    ensures { λ r. ⌜ (r ≡ riseOf (now (lines .entry)) (now (run .entry))) × (natAbs r ≤ mostMarks * mostDifference) ⌝ }
+        ∗ ⌜ LinesIn (now lines) (now run) ⌝ }
+    ensures { λ r. ⌜ (r ≡ riseOf (now (lines .entry)) (now (run .entry))) × (natAbs r ≤ mostLines * mostDifference) ⌝ }
 {
     let mut sum = 0i64;
     let mut j = 0;
@@ -87,7 +87,7 @@ fn run_rise(lines: &[i64], run: &[u16]) -> i64
 // square fits.
 fn verdict(misclosure: i64, t: usize, metres: usize) -> i64
     requires { ⌜ t ≤ mostTolerance ⌝
-        ∗ ⌜ metres ≤ mostMarks * mostLength ⌝ }
+        ∗ ⌜ metres ≤ mostLines * mostLength ⌝ }
     ensures { λ r. ⌜ r ≡ verdictOf t misclosure metres ⌝ }
 {
     let size = signed::magnitude(misclosure);

@@ -1,7 +1,7 @@
 use native.Mathlib.Omega.{arith}
 use mathlib.Core.Path.{_∙_}
 use Rattle.laws.proofs.Signed.{stored}
-use Rattle.rows.proofs.Totals.{row-made}
+use Rattle.rows.proofs.Totals.{row-made, loop-lines}
 use borrow.Author.Needs.{needs}
 use Rattle.rows.proofs.row_of.Statement.{statement}
 use Rattle.rows.proofs.row_of.Tie as tie
@@ -40,8 +40,8 @@ pub row-of-spec : {M : Type 1} → statement M
 row-of-spec =
     tie.close
     (tie.spec
-    (λ c κs. search needs)  -- run-length-requires
-    (λ c κs. search needs)  -- run-rise-requires
+    (λ c κs. let entry : tie.Start = search in (entry .pre .0, loop-lines (entry .pre .1 .0)))  -- run-length-requires
+    (λ c κs. let entry : tie.Start = search in (entry .pre .0, loop-lines (entry .pre .1 .0)))  -- run-rise-requires
     (λ c κs. search needs)  -- verdict-requires
     (λ c. search needs)  -- shared-slice-read-write-row
     cast-write-row
