@@ -1,0 +1,16 @@
+pub mod Among
+pub mod Turning
+pub mod Lowest
+pub mod Begun
+pub mod Ends
+pub mod OneStep
+pub mod Kept
+pub mod Stages
+pub mod EachLine
+pub mod Order
+pub mod OneSketch
+pub mod Rings
+pub mod Shapes
+pub mod Again
+pub mod Combined
+pub mod Memorandum
