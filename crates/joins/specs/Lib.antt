@@ -1,0 +1,4 @@
+pub mod Row
+pub mod Code
+pub mod Tables
+pub mod Step
