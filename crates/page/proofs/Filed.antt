@@ -1,4 +1,4 @@
--- The report of a file is that of what the reader gives. Assumes nothing.
+-- The text of a file is that of what the reader gives. Assumes nothing.
 use Prim.Native.Nat.{ℕ, _+_, _*_, _≤_}
 use native.Mathlib.Omega.{arith}
 use mathlib.Core.Path.{_≡_, refl, sym, _∙_, ap, subst}
@@ -28,13 +28,17 @@ use Rattle.file.proofs.Heads.{head-states, head-numbered}
 use Rattle.file.proofs.Reading.{zero-is-read}
 use Rattle.book.specs.Good.{GoodLines}
 use Rattle.text.specs.Report.{refusedText}
-use Rattle.page.specs.Page.{bookPage, statedPage, pageOf}
+use Rattle.page.specs.Filed.{BookText, statedText, fileText, bookLines, Filed}
 
--- of what was read: the book's report, or the refusal's line
-unfoldable pub readPage : Outcome → List ℕ
-readPage o =
+-- the book that was read
+abbrev pub bookRead : ReadAnswer → Book
+bookRead a = record { marks = a .b; tolerance = a .t; held = a .h; lines = a .n }
+
+-- of what was read: the book's text, or the refusal's line
+unfoldable readText : BookText → Outcome → List ℕ
+readText text o =
     let a = o .answer in
-    cond (eqb (a .refusal .number) 0) (bookPage (a .b) (a .t) (a .n) (take (a .n * lineWords) (o .lines)))
+    cond (eqb (a .refusal .number) 0) (text (bookRead a) (bookLines (bookRead a) (o .lines)))
     (refusedText (a .refusal .number) (a .refusal .place))
 
 lines-length : (file : List ℕ) (h n : ℕ) → length (linesOf file h n) ≡ n * lineWords
@@ -43,50 +47,49 @@ lines-length file h n = entries-length Line file (13 + h * 10) n
 
 module _ (file : List ℕ) (held lines : List ℤ) (held-room : mostHeld * heldWords ≤ length held)
     (lines-room : mostLines * lineWords ≤ length lines) where
-  room-page : (k : Book) → k .held ≤ mostHeld → k .lines ≤ mostLines
-      → readPage (roomOf file k held lines) ≡ bookPage (k .marks) (k .tolerance) (k .lines) (linesOf file (k .held) (k .lines))
-  unfolding readPage roomOf
-  room-page k h n = rw (
+  room-text : (text : BookText) (k : Book) → k .held ≤ mostHeld → k .lines ≤ mostLines
+      → readText text (roomOf file k held lines) ≡ text k (linesOf file (k .held) (k .lines))
+  unfolding readText roomOf
+  room-text text k h n = rw (
     le-ltb (length held) (k .held * 2) (omega arith),
     le-ltb (length lines) (k .lines * lineWords) (omega arith),
     take-at (linesOf file (k .held) (k .lines)) (drop (k .lines * lineWords) lines) (k .lines * lineWords)
         (lines-length file (k .held) (k .lines)),
   )
 
-  body-page : (k : Book) → k .held ≤ mostHeld → k .lines ≤ mostLines
-      → readPage (bodyOf file k held lines) ≡ statedPage file (head.the-variants.States k)
-  unfolding readPage bodyOf statedPage
-  body-page k h n = go (testOf (bookIn file k)) refl
+  body-text : (text : BookText) (k : Book) → k .held ≤ mostHeld → k .lines ≤ mostLines
+      → readText text (bodyOf file k held lines) ≡ statedText text file (head.the-variants.States k)
+  unfolding readText bodyOf statedText
+  body-text text k h n = go (testOf (bookIn file k)) refl
     where
       go : (o : Tested) → testOf (bookIn file k) ≡ o
-          → readPage (ifGood o (λ r. answered held lines (refusedWith r)) (λ _. roomOf file k held lines))
+          → readText text (ifGood o (λ r. answered held lines (refusedWith r)) (λ _. roomOf file k held lines))
           ≡ ifGood o (λ r. refusedText (r .number) (r .place))
-          (λ _. bookPage (k .marks) (k .tolerance) (k .lines) (linesOf file (k .held) (k .lines)))
+          (λ _. text k (linesOf file (k .held) (k .lines)))
       go (Refused r) e =
           let w = tested-numbered (bookIn file k) r e in
           rw (ne-eqb (r .number) 0 (λ z. omega (arith, w .low)))
-      go (Good book) e = room-page k h n
+      go (Good book) e = room-text text k h n
 
-  pub page-read : readPage (readOf file held lines) ≡ pageOf file
-  unfolding readPage pageOf statedPage readOf afterHead
-  page-read = go (headOf file) refl
+  text-read : (text : BookText) → readText text (readOf file held lines) ≡ fileText text file
+  unfolding readText fileText statedText readOf afterHead
+  text-read text = go (headOf file) refl
     where
-      go : (o : Head) → headOf file ≡ o → readPage (afterHead file held lines o) ≡ statedPage file o
+      go : (o : Head) → headOf file ≡ o → readText text (afterHead file held lines o) ≡ statedText text file o
       go (head.the-variants.Refused number) e =
           let w = head-numbered file number e in
           rw (ne-eqb number 0 (λ z. omega (arith, w .0)))
-      go (head.the-variants.States k) e = let s = head-states file k e in body-page k (s .few-held) (s .few-lines)
+      go (head.the-variants.States k) e = let s = head-states file k e in body-text text k (s .few-held) (s .few-lines)
 
   -- what a call gave
   module _ (o : Outcome) (e : o ≡ readOf file held lines) where
-    is-page : readPage o ≡ pageOf file
-    is-page = ap readPage e ∙ page-read
+    is-text : (text : BookText) → readText text o ≡ fileText text file
+    is-text text = ap (readText text) e ∙ text-read text
 
     -- a refusal
-    pub refused-page : (o .answer .refusal .number ≡ 0 → ⊥)
-        → refusedText (o .answer .refusal .number) (o .answer .refusal .place) ≡ pageOf file
-    unfolding readPage
-    refused-page n = rw (ne-eqb (o .answer .refusal .number) 0 n) at is-page
+    pub refused-filed : (o .answer .refusal .number ≡ 0 → ⊥) → Filed file (o .lines) (Refused (o .answer .refusal))
+    unfolding readText
+    refused-filed n text = rw (ne-eqb (o .answer .refusal .number) 0 n) at (is-text text)
 
     -- a book
     module _ (zero : o .answer .refusal .number ≡ 0) where
@@ -95,22 +98,20 @@ module _ (file : List ℕ) (held lines : List ℤ) (held-room : mostHeld * heldW
           subst (λ (x : Outcome). BookRead file held lines x) (sym e)
           (zero-is-read file held lines (sym (ap (λ (x : Outcome). x .answer .refusal .number) e) ∙ zero))
 
-      lines-are : take (r .book .lines * lineWords) (o .lines) ≡ linesOf file (r .book .held) (r .book .lines)
+      lines-are : bookLines (r .book) (o .lines) ≡ linesOf file (r .book .held) (r .book .lines)
       lines-are =
           ap (take (r .book .lines * lineWords)) (r .lines-now)
           ∙ take-at (linesOf file (r .book .held) (r .book .lines)) (drop (r .book .lines * lineWords) lines)
           (r .book .lines * lineWords) (lines-length file (r .book .held) (r .book .lines))
 
-      pub few-read : o .answer .n ≤ mostLines
-      few-read = omega (arith, ap (λ (x : ReadAnswer). x .n) (r .answer), r .good .lines-good .few)
-
-      pub good-read : GoodLines (record { marks = o .answer .b; tolerance = o .answer .t; held = o .answer .h; lines = o .answer .n })
-          (take (o .answer .n * lineWords) (o .lines))
+      good-read : GoodLines (bookRead (o .answer)) (bookLines (bookRead (o .answer)) (o .lines))
       good-read =
-          subst (λ (x : ReadAnswer). GoodLines (record { marks = x .b; tolerance = x .t; held = x .h; lines = x .n })
-          (take (x .n * lineWords) (o .lines))) (sym (r .answer))
+          subst (λ (x : ReadAnswer). GoodLines (bookRead x) (bookLines (bookRead x) (o .lines))) (sym (r .answer))
           (subst (λ (l : List ℤ). GoodLines (r .book) l) (sym lines-are) (good-lines (r .book) (bookIn file (r .book)) (r .good)))
 
-      pub book-page : bookPage (o .answer .b) (o .answer .t) (o .answer .n) (take (o .answer .n * lineWords) (o .lines)) ≡ pageOf file
-      unfolding readPage
-      book-page = rw zero at is-page
+      read-text : (text : BookText) → text (bookRead (o .answer)) (bookLines (bookRead (o .answer)) (o .lines)) ≡ fileText text file
+      unfolding readText
+      read-text text = rw zero at (is-text text)
+
+      pub book-filed : Filed file (o .lines) (Good (bookRead (o .answer)))
+      book-filed = record { good = good-read; its-text = read-text }

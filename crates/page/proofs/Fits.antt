@@ -4,7 +4,7 @@
 use Prim.Native.Nat.{ℕ, suc, _+_, _*_, _≤_}
 use native.Mathlib.Nat.{le-of-eq, le-trans}
 use native.Mathlib.Omega.{arith}
-use mathlib.Core.Path.{_≡_, refl, sym, ap, subst}
+use mathlib.Core.Path.{_≡_, refl, sym, ap}
 use mathlib.Core.Logic.{inl, inr}
 use mathlib.Core.List.{List, [], _∷_, _++_, map, List·Memᴰ, List·Memᴰ·head, List·Memᴰ·tail}
 use lib.IntN.{ℤ, pos}
@@ -35,8 +35,9 @@ use Rattle.text.specs.Report.{headText, notCheckedText}
 use Rattle.text.specs.Put.{Put}
 use Rattle.text.proofs.Puts.{put-whole}
 use Rattle.text.proofs.Room.{LoopNumbers, head-room, loop-room, not-checked-room, refused-room}
-use Rattle.page.specs.Page.{loopLine, loopLines, loopsPage, bookPage, pageOf}
-use Rattle.page.proofs.Filed.{refused-page, good-read, book-page}
+use Rattle.page.specs.Filed.{BookText, fileText}
+use Rattle.page.specs.Page.{loopLine, loopLines, loopsPage, bookPage, reportText, pageOf}
+use Rattle.page.proofs.Filed.{refused-filed, book-filed}
 
 -- the bytes that the report program lends
 abbrev pub pageRoom : ℕ
@@ -102,28 +103,35 @@ module _ (k : Book) (ls : List ℤ) (g : GoodLines k ls) where
 
 -- ---- of every file, as it is read into buffers that have room for every book
 
-module _ (file : List ℕ) (held lines : List ℤ) (held-room : mostHeld * heldWords ≤ length held)
-    (lines-room : mostLines * lineWords ≤ length lines) where
-  abbrev o : Outcome
-  o = readOf file held lines
+-- what is printed of a file is no longer than the line of a refusal and what is printed of each good book
+module _ (text : BookText) (most : ℕ) (refusals : 53 ≤ most)
+    (books : (k : Book) (ls : List ℤ) → GoodLines k ls → length (text k ls) ≤ most) where
+  module _ (file : List ℕ) (held lines : List ℤ) (held-room : mostHeld * heldWords ≤ length held)
+      (lines-room : mostLines * lineWords ≤ length lines) where
+    abbrev o : Outcome
+    o = readOf file held lines
 
-  read-fits : ReadOrRefused file held lines (readOf file held lines) → Fits (pageOf file)
-  read-fits (inl r) =
-      let zero : o .answer .refusal .number ≡ 0 = ap (λ (a : ReadAnswer). a .refusal .number) (r .answer) in
-      subst Fits (book-page file held lines held-room lines-room o refl zero)
-      (book-fits _ _ (good-read file held lines held-room lines-room o refl zero))
-  read-fits (inr f) =
-      let n = ap (λ (a : ReadAnswer). a .refusal .number) (f .answer) in
-      let p = ap (λ (a : ReadAnswer). a .refusal .place) (f .answer) in
-      let r = refused-room (o .answer .refusal .number) (o .answer .refusal .place) (omega (arith, f .high)) (omega (arith, f .near)) in
-      subst Fits (refused-page file held lines held-room lines-room o refl (λ z. omega (arith, f .low))) (omega arith)
+    read-fits : ReadOrRefused file held lines (readOf file held lines) → length (fileText text file) ≤ most
+    read-fits (inl r) =
+        let zero : o .answer .refusal .number ≡ 0 = ap (λ (a : ReadAnswer). a .refusal .number) (r .answer) in
+        let w = book-filed file held lines held-room lines-room o refl zero in
+        rw (w .its-text text) at (books _ _ (w .good))
+    read-fits (inr f) =
+        let n = ap (λ (a : ReadAnswer). a .refusal .number) (f .answer) in
+        let p = ap (λ (a : ReadAnswer). a .refusal .place) (f .answer) in
+        let r = refused-room (o .answer .refusal .number) (o .answer .refusal .place) (omega (arith, f .high)) (omega (arith, f .near)) in
+        rw (refused-filed file held lines held-room lines-room o refl (λ z. omega (arith, f .low)) text) at (le-trans r refusals)
+
+  pub file-fits : (file : List ℕ) → length (fileText text file) ≤ most
+  file-fits file =
+      let held = replicate (mostHeld * heldWords) (pos 0) in
+      let lines = replicate (mostLines * lineWords) (pos 0) in
+      read-fits file held lines (le-of-eq (sym (length-replicate (mostHeld * heldWords) (pos 0))))
+      (le-of-eq (sym (length-replicate (mostLines * lineWords) (pos 0)))) (read-or-refused file held lines)
 
 pub page-fits : (file : List ℕ) → length (pageOf file) ≤ pageRoom
-page-fits file =
-    let held = replicate (mostHeld * heldWords) (pos 0) in
-    let lines = replicate (mostLines * lineWords) (pos 0) in
-    read-fits file held lines (le-of-eq (sym (length-replicate (mostHeld * heldWords) (pos 0))))
-    (le-of-eq (sym (length-replicate (mostLines * lineWords) (pos 0)))) (read-or-refused file held lines)
+unfolding pageOf
+page-fits = file-fits reportText pageRoom (omega arith) book-fits
 
 -- so that the program prints the whole report: what it hands on are the bytes up to the place after the page
 pub page-whole : (file out out′ : List ℕ) (next : ℕ) → pageRoom ≤ length out → Put out out′ 0 next (pageOf file)

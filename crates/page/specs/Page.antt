@@ -4,16 +4,13 @@ use mathlib.Core.List.{List, [], _∷_, _++_, map}
 use Prim.Native.Nat.{ℕ, suc}
 use lib.IntN.{ℤ, pos}
 use lib.ListN.{length}
-use Rattle.book.specs.Test.{testOf, ifGood}
-use Rattle.file.specs.Read.{headOf, heldOf, linesOf, bookIn}
-use Rattle.file.specs.declared.Head as head
-use Rattle.file.specs.declared.Head.{Head}
 use Rattle.network.specs.Path.{wayLength}
 use Rattle.loops.specs.Loops.{Loop}
 use Rattle.loops.specs.Row.{listed, misclosure, verdict}
 use Rattle.loops.specs.Report.{loopsOf, piecesOf}
 use Rattle.lists.specs.NotChecked.{uncheckedOf}
-use Rattle.text.specs.Report.{headText, loopText, notCheckedText, refusedText}
+use Rattle.text.specs.Report.{headText, loopText, notCheckedText}
+use Rattle.page.specs.Filed.{BookText, fileText}
 
 -- the line of one loop
 unfoldable pub loopLine : ℕ → ℕ → Loop → List ℕ
@@ -36,15 +33,10 @@ unfoldable pub bookPage : ℕ → ℕ → ℕ → List ℤ → List ℕ
 unfolding loopsPage notCheckedText uncheckedOf
 bookPage b t n lines = loopsPage b t n lines ++ notCheckedText (uncheckedOf b lines)
 
--- of a file's book, by the test of every call: its report, or "for a refused file .. one line instead"
-unfoldable pub statedPage : List ℕ → Head → List ℕ
-unfolding bookPage refusedText testOf heldOf linesOf
-statedPage file (head.the-variants.Refused number) = refusedText number 0
-statedPage file (head.the-variants.States k) =
-    ifGood (testOf (bookIn file k)) (λ r. refusedText (r .number) (r .place))
-    (λ _. bookPage (k .marks) (k .tolerance) (k .lines) (linesOf file (k .held) (k .lines)))
+abbrev pub reportText : BookText
+reportText k lines = bookPage (k .marks) (k .tolerance) (k .lines) lines
 
 -- of a file
 unfoldable pub pageOf : List ℕ → List ℕ
-unfolding statedPage headOf
-pageOf file = statedPage file (headOf file)
+unfolding fileText bookPage
+pageOf file = fileText reportText file

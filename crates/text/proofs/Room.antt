@@ -1,8 +1,8 @@
--- How much room a text needs. A buffer of 4,096 bytes is enough for each line of a report.
+-- How much room a text needs. A buffer of 4,096 bytes is enough for each line of a report and of a junction sketch.
 -- Assumes nothing.
 use mathlib.Core.Path.{_≡_}
 use mathlib.Core.List.{List, [], _∷_}
-use Prim.Native.Nat.{ℕ, zero, suc, _*_, _/_, _^_, _≤_, _<_}
+use Prim.Native.Nat.{ℕ, zero, suc, _+_, _*_, _/_, _^_, _≤_, _<_}
 use native.Mathlib.Nat.{pow-suc, zero-lt-suc}
 use native.Mathlib.Omega.{arith}
 use lib.IntN.{ℤ, pos, negsuc, natAbs}
@@ -13,6 +13,7 @@ use Rattle.book.specs.Limits.{mostMarks, mostLines, mostLength, mostDifference}
 use Rattle.text.specs.Bytes.{bytes}
 use Rattle.text.specs.Number.{decimal, signedText}
 use Rattle.text.specs.Report.{headText, listedText, verdictText, loopText, notCheckedText, refusedText}
+use Rattle.text.specs.Sketch.{sketchHeadText, measuredText, linkText, spurText, selfClosingText}
 use Rattle.text.proofs.Numbers.{by-size, decimal-one, decimal-more}
 
 -- a number below 10 to the k, from k = 1 on, has at most k digits
@@ -86,3 +87,55 @@ loop-room number len misclosure verdict listing h =
     let b = signed-room 7 len (omega arith) in
     let d = signed-room 10 misclosure (omega arith) in
     simp length-append (omega (arith, verdict-room verdict, listed-room listing (h .lines)))
+
+-- ---- the lines of a junction sketch
+
+pub sketch-head-room : (marks lines links spurs loops : ℕ) → marks < 2 ^ 64 → lines < 2 ^ 64 → links < 2 ^ 64 → spurs < 2 ^ 64
+    → loops < 2 ^ 64
+    → length (sketchHeadText marks lines links spurs loops) ≤ 151
+unfolding sketchHeadText bytes
+sketch-head-room marks lines links spurs loops m n k s l =
+    simp length-append (omega (
+      arith,
+      machine-room marks m,
+      machine-room lines n,
+      machine-room links k,
+      machine-room spurs s,
+      machine-room loops l,
+    ))
+
+-- the numbers of a link, a spur or a self-closing loop in a book within its limits
+pub record LinkNumbers (first last len difference : ℤ) (listing : List ℤ) : Type 0 where
+  pub first-low : natAbs first ≤ mostMarks
+  pub last-low : natAbs last ≤ mostMarks
+  pub short : natAbs len ≤ mostLines * mostLength
+  pub small : natAbs difference ≤ mostLines * mostDifference
+  pub lines : LineNumbers listing
+
+module _ {first last len difference : ℤ} {listing : List ℤ} (h : LinkNumbers first last len difference listing) where
+  measured-room : (word : List ℕ) → length (measuredText word len difference listing) ≤ 31 + length word + length listing * 5
+  unfolding measuredText bytes
+  measured-room word =
+      let l = h .short in
+      let d = h .small in
+      let a = signed-room 7 len (omega arith) in
+      let b = signed-room 10 difference (omega arith) in
+      simp length-append (omega (arith, listed-room listing (h .lines)))
+
+  first-room : length (signedText first) ≤ 4
+  first-room = let m = h .first-low in signed-room 2 first (omega arith)
+
+  last-room : length (signedText last) ≤ 4
+  last-room = let m = h .last-low in signed-room 2 last (omega arith)
+
+  pub link-room : length (linkText first last len difference listing) ≤ 57 + length listing * 5
+  unfolding linkText bytes
+  link-room = simp length-append (omega (arith, first-room, last-room, measured-room (bytes " DIFFERENCE ")))
+
+  pub spur-room : length (spurText first len difference listing) ≤ 57 + length listing * 5
+  unfolding spurText bytes
+  spur-room = simp length-append (omega (arith, first-room, measured-room (bytes " DIFFERENCE ")))
+
+  pub self-closing-room : length (selfClosingText first len difference listing) ≤ 57 + length listing * 5
+  unfolding selfClosingText bytes
+  self-closing-room = simp length-append (omega (arith, first-room, measured-room (bytes " MISCLOSURE ")))

@@ -1,4 +1,4 @@
--- Document 01, "Worked network": the report, line by line.
+-- Document 01, "Worked network": the report, line by line; and lines of a junction sketch.
 -- Assumes nothing.
 use mathlib.Core.Path.{_≡_, refl}
 use mathlib.Core.List.{[], _∷_, _++_}
@@ -8,6 +8,7 @@ use Rattle.laws.specs.Tests.{eqZ}
 use Rattle.text.specs.Bytes.{bytes}
 use Rattle.text.specs.Number.{digits, decimal, signedText}
 use Rattle.text.specs.Report.{headText, listedText, verdictText, loopText, notCheckedText, refusedText}
+use Rattle.text.specs.Sketch.{sketchHeadText, measuredText, linkText, spurText, selfClosingText}
 
 -- a line's number, run against its sense; a misclosure below 0
 abbrev minus : ℕ → ℤ
@@ -36,3 +37,18 @@ line-2-not-checked = refl
 pub refused : refusedText 7 3 ≡ bytes "REFUSED 7 AT 3\n"
 unfolding bytes digits decimal refusedText
 refused = refl
+
+-- Request 01, "The program": lines of the Memorandum's sketch
+pub sketch : sketchHeadText 16 20 6 4 2
+    ++ linkText (pos 1) (pos 2) (pos 200) (pos 0) (pos 1 ∷ pos 2 ∷ [])
+    ++ linkText (pos 1) (pos 4) (pos 100) (pos 0) (minus 6 ∷ [])
+    ++ spurText (pos 12) (pos 200) (pos 0) (minus 15 ∷ minus 14 ∷ [])
+    ++ selfClosingText (pos 12) (pos 300) (pos 0) (pos 16 ∷ pos 17 ∷ pos 18 ∷ [])
+    ≡ bytes "JUNCTION SKETCH\n"
+    ++ bytes "MARKS 16 LINES 20 LINKS 6 SPURS 4 LOOPS 2\n"
+    ++ bytes "LINK 1 2 LENGTH 200 DIFFERENCE 0: 1 2\n"
+    ++ bytes "LINK 1 4 LENGTH 100 DIFFERENCE 0: -6\n"
+    ++ bytes "SPUR 12 LENGTH 200 DIFFERENCE 0: -15 -14\n"
+    ++ bytes "LOOP 12 LENGTH 300 MISCLOSURE 0: 16 17 18\n"
+unfolding bytes digits decimal signedText listedText sketchHeadText measuredText linkText spurText selfClosingText
+sketch = refl

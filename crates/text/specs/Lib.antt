@@ -1,4 +1,5 @@
 pub mod Bytes
 pub mod Number
 pub mod Report
+pub mod Sketch
 pub mod Put

@@ -5,6 +5,8 @@ ghost use Rattle.text.specs.Number.{lastDigit, decimal, signedText};
 ghost use Rattle.text.specs.Put.{Put};
 ghost use Rattle.text.specs.Report.{headText, listedText, verdictText, loopText, notCheckedText, refusedText};
 
+pub mod sketch;
+
 // `LEVEL BOOK 1` and `MARKS 5 LINES 7 PIECES 1 LOOPS 3`
 pub fn head_text(
     out: &mut [u8],
@@ -105,7 +107,7 @@ pub fn put_line(out: &mut [u8], at: usize, line: i64) -> usize
 }
 
 // A number with its sign, if it is below 0.
-fn put_signed(out: &mut [u8], at: usize, x: i64) -> usize
+pub(crate) fn put_signed(out: &mut [u8], at: usize, x: i64) -> usize
     ensures { λ r. ⌜ Put (now (out .entry)) (now (out .exit)) at r (signedText x) ⌝ }
 {
     let size = signed::magnitude(x);
@@ -148,7 +150,7 @@ pub fn put(out: &mut [u8], at: usize, s: &[u8]) -> usize
 }
 
 // One byte. It is left out where the buffer has no such place.
-fn put_byte(out: &mut [u8], at: usize, byte: u8) -> usize
+pub(crate) fn put_byte(out: &mut [u8], at: usize, byte: u8) -> usize
     ensures { λ r. ⌜ Put (now (out .entry)) (now (out .exit)) at r (byte ∷ []) ⌝ }
 {
     if at < out.len() {
