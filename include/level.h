@@ -83,6 +83,13 @@ struct Listed {
     int64_t entries;
 };
 
+/* What the sketch answers: how many links, spurs and loops there are, and how many numbers run has: as
+ * many as lines stand. */
+struct Sketched {
+    int64_t number, place;
+    int64_t links, spurs, loops, run;
+};
+
 /* What the adjustment answers: how many sweeps it took, the last one, that moved nothing, too. */
 struct Adjusted {
     int64_t number, place;
@@ -129,6 +136,31 @@ struct Listed level_not_checked(int64_t b, int64_t t,
                                 const int64_t *held, size_t held_count,
                                 const int64_t *lines, size_t lines_count,
                                 int64_t *out, size_t out_count);
+
+/* The junction sketch: the network as links between its junctions, with the spurs and loops that come off
+ * before. Every standing line begins as a link of its own, and steps are taken until none is left, each
+ * the first there is: the link of the lowest mark with one link end comes off as a spur; else the link
+ * of lowest line that runs from a mark to itself, two ends there, comes off as a loop; else the two links
+ * at the lowest mark with two link ends become one.
+ *
+ *   links   what remains, by lowest line, each read from its lower junction to its higher.
+ *   spurs   in the order in which they came off, each read from the mark that had one link end.
+ *   loops   in the order in which they came off, each begun with its lowest line, run forward. That line
+ *           need not start at the mark at which the loop hangs.
+ *   run     the line numbers of all links, then of all spurs, then of all loops, in the order of these
+ *           lists. A line run from its to to its from is negative. Each standing line is there once.
+ *
+ * Links, spurs and loops have five numbers to an entry: first mark, last mark, count of lines, length,
+ * difference from the first mark to the last. Of a loop both marks are the one at which it hangs, and
+ * the difference is its misclosure. Each has a line, so that there are no more of them in all than lines
+ * stand. */
+struct Sketched level_sketch(int64_t b, int64_t t,
+                             const int64_t *held, size_t held_count,
+                             const int64_t *lines, size_t lines_count,
+                             int64_t *links, size_t links_count,
+                             int64_t *spurs, size_t spurs_count,
+                             int64_t *loops, size_t loops_count,
+                             int64_t *run, size_t run_count);
 
 /* A line was run again: sets its difference in lines, and makes the report, which must be that of the
  * book as it was lent, the report of the corrected book. */

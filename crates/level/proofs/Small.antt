@@ -39,6 +39,9 @@ use Rattle.loops.specs.Loops.{loopAt}
 use Rattle.loops.specs.Row.{listed, listings}
 use Rattle.loops.proofs.Sounding.{lines-sound, few-loops}
 use Rattle.survey.proofs.Corrected.{stands-of, rerun-lines-good, withdrawn-lines-good}
+use Rattle.junctions.specs.Call as junctions
+use Rattle.junctions.specs.Call.{Lists, Drawing, listsOf, anyShort, sketchIn, drawnInto, sketchGood, sketchCall}
+use Rattle.junctions.proofs.Few.{few}
 use Rattle.rates.specs.Rates as rates
 use Rattle.rates.specs.Rates.{lineRate, firstHigh, goodRate, rateAnswer}
 use Rattle.rates.proofs.Rating.{marks-of}
@@ -48,6 +51,7 @@ use Rattle.level.specs.Signed.{Small, SmallRead}
 use Rattle.level.specs.Answers.{SmallAnswer}
 use Rattle.level.specs.Listings.{SmallListed}
 use Rattle.level.specs.Rating.{SmallRate}
+use Rattle.level.specs.Sketches.{SmallSketched}
 
 pub read-small : (file : List ℕ) (held lines : List ℤ) → SmallRead (readOf file held lines .answer)
 read-small file held lines = go (read-or-refused file held lines)
@@ -95,6 +99,27 @@ list-small list out small =
     (λ _. unlisted-small 10 0 (omega arith) (omega arith))
     (λ fits. let f = ltb-false (length out) (length list) fits in record
     { refusal = record { number = omega arith; place = omega arith }; entries = omega arith })
+
+unsketched-small : (number place : ℕ) → number ≤ 13 → place ≤ mostLines → SmallSketched (junctions.refusedWith (refusal number place))
+unsketched-small number place high near = record {
+  refusal = record { number = omega arith; place = omega arith };
+  links = omega arith;
+  spurs = omega arith;
+  loops = omega arith;
+  run = omega arith;
+}
+
+-- no more links, spurs and loops than lines
+sketched-small : (k : Book) (lines : List ℤ) → GoodLines k lines → SmallSketched (junctions.drawn (sketchIn (k .marks) lines))
+sketched-small k lines g =
+    let f = few k lines g in
+    record {
+      refusal = record { number = omega arith; place = omega arith };
+      links = omega (arith, f .links);
+      spurs = omega (arith, f .spurs);
+      loops = omega (arith, f .loops);
+      run = omega (arith, f .lines);
+    }
 
 module _ (book : Lent) where
   -- the test's own refusals
@@ -202,3 +227,13 @@ module _ (book : Lent) where
         (λ k e. let g = tested-good book k e in good-small k (g .lines-good .few)
         (omega (arith, marks-of book k e (length heights) same, g .few-marks))))
         (λ _. rate-refusal-small 4 0 (omega arith) (omega arith))
+
+  pub sketch-small : (out : Lists) → SmallSketched (sketchCall book out .answer)
+  unfolding sketchCall sketchGood drawnInto
+  sketch-small out =
+      either-way book _ _ (λ (o : Drawing). SmallSketched (o .answer))
+      (λ r e. let n = tested-numbered book r e in unsketched-small (r .number) (r .place) (omega (arith, n .high)) (n .near))
+      (λ k e.
+      cond-ind (λ (o : Drawing). SmallSketched (o .answer)) (anyShort (listsOf (sketchIn (k .marks) (book .lines))) out) _ _
+      (λ _. unsketched-small 10 0 (omega arith) (omega arith))
+      (λ _. sketched-small k (book .lines) (good-of k e)))

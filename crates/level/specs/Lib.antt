@@ -3,3 +3,4 @@ pub mod Answers
 pub mod Listings
 pub mod Rating
 pub mod Heights
+pub mod Sketches

@@ -14,6 +14,8 @@ ghost use Rattle.adjust.specs.Call.{adjustOf};
 ghost use Rattle.level.specs.Listings.{SmallListed, signedListed, listingNow, ofListing};
 ghost use Rattle.level.specs.Heights.{SmallAdjusted, signedAdjusted, adjustNow, ofAdjust};
 ghost use Rattle.level.specs.Rating.{SmallRate, signedRate};
+ghost use Rattle.junctions.specs.Call.{lists, sketchCall};
+ghost use Rattle.level.specs.Sketches.{SmallSketched, signedSketched, sketchNow, ofSketch};
 use book::Refusal;
 use rates::Rate;
 use rates::RateAnswer;
@@ -199,6 +201,51 @@ pub extern "C" fn level_not_checked(
         ≡ ofListing (notCheckedOf (lent b t (now (held .entry)) (now (lines .entry))) (now (out .entry))) ⌝ }
 {
     listing_answer(lists::not_checked(b, t, held, lines, out))
+}
+
+// What the sketch answers.
+#[repr(C)]
+pub struct Sketched {
+    pub number: i64,
+    pub place: i64,
+    pub links: i64,
+    pub spurs: i64,
+    pub loops: i64,
+    pub run: i64,
+}
+
+fn sketch_answer(a: junctions::Sketched) -> Sketched
+    requires { ⌜ SmallSketched a ⌝ }
+    ensures { λ r. ⌜ r ≡ signedSketched a ⌝ }
+{
+    let refusal = a.refusal;
+    let r = signed_refusal(refusal);
+    Sketched {
+        number: r.number,
+        place: r.place,
+        links: signed::signed_count(a.links),
+        spurs: signed::signed_count(a.spurs),
+        loops: signed::signed_count(a.loops),
+        run: signed::signed_count(a.run),
+    }
+}
+
+#[no_mangle]
+pub extern "C" fn level_sketch(
+    b: i64,
+    t: i64,
+    held: &[i64],
+    lines: &[i64],
+    links: &mut [i64],
+    spurs: &mut [i64],
+    loops: &mut [i64],
+    run: &mut [i64],
+) -> Sketched
+    ensures { λ r. ⌜ sketchNow r (lists (now (links .exit)) (now (spurs .exit)) (now (loops .exit)) (now (run .exit)))
+        ≡ ofSketch (sketchCall (lent b t (now (held .entry)) (now (lines .entry)))
+        (lists (now (links .entry)) (now (spurs .entry)) (now (loops .entry)) (now (run .entry)))) ⌝ }
+{
+    sketch_answer(junctions::sketch(b, t, held, lines, links, spurs, loops, run))
 }
 
 // What the adjustment answers.
