@@ -30,6 +30,14 @@ FIGURE = [
     (3, 6, 452_000, 1000),
 ]
 
+# The network in the text of the Memorandum's part 1, its letters in alphabetical order (there is no I and no O) as marks 1 to 16: the two
+# marks of each line.
+LETTERS = "ABCDEFGHJKLMNPQR"
+NETWORK = [
+    tuple(LETTERS.index(letter) + 1 for letter in ends)
+    for ends in "AE EB BC CG GD DA AF FC BD FH HJ JK KH KL LM MN NP PM PQ QR".split()
+]
+
 # A checked triangle, and a line out past its last junction to three final marks.
 PAST_THE_LAST_JUNCTION = [
     (1, 2, 1_204_000, 800),
@@ -61,6 +69,7 @@ PARALLEL = [
 BOOKS = {
     "worked": file_of(120, 5, [(1, 100_000_000)], WORKED),
     "memorandum_figure": file_of(40, 6, [(1, 0)], FIGURE),
+    "memorandum_network": file_of(40, 16, [(1, 0)], [(*ends, 0, 100) for ends in NETWORK]),
     "past_the_last_junction": file_of(80, 7, [(1, 52_310_000)], PAST_THE_LAST_JUNCTION),
     "two_pieces": file_of(40, 5, [(1, 0), (4, 10_000_000)], TWO_PIECES),
     "parallel_lines": file_of(40, 2, [(1, 0)], PARALLEL),
