@@ -13,3 +13,4 @@ pub mod StillStands
 pub mod ShutOut
 pub mod Heights
 pub mod Start
+pub mod TheSketch

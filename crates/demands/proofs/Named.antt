@@ -28,6 +28,7 @@ use Rattle.survey.specs.Survey.{surveyOf}
 use Rattle.lists.specs.Listing.{listingOf, listingsOf}
 use Rattle.lists.specs.NotChecked.{notCheckedOf}
 use Rattle.survey.specs.Correction.{corrected, otherReport, correctOf, correctGood, rerunOf, withdrawOf}
+use Rattle.junctions.specs.Call.{sketchCall}
 use Rattle.rates.specs.Rates.{rateAnswer}
 use Rattle.adjust.proofs.Calling.{by-refusal}
 use Rattle.demands.specs.Tables.{bookFault}
@@ -41,12 +42,13 @@ use Rattle.demands.proofs.BookRules.{test-by-rules}
 
 -- a book that the test refuses gets the same refusal from every call
 pub faulty-book-same-at-every-call : (book : Lent) (r : Refusal) → testOf book ≡ Refused r → SameAtEveryCall book r
-unfolding surveyOf listingOf listingsOf notCheckedOf withdrawOf rerunOf correctOf differenceOut rateAnswer
+unfolding surveyOf listingOf listingsOf notCheckedOf sketchCall withdrawOf rerunOf correctOf differenceOut rateAnswer
 faulty-book-same-at-every-call book r e = record {
   survey-of = λ out. rw e;
   listing-of = λ loop out. rw e;
   listings-of = λ out. rw e;
   not-checked = λ out. rw e;
+  sketch-of = λ out. rw e;
   withdrawal = λ report line. rw e;
   re-run = λ report line difference small. rw (size-inside mostDifference difference small, e);
   adjustment = λ out. by-refusal book out _ e;

@@ -27,9 +27,12 @@ use Rattle.adjust.specs.Call.{Given, adjustOf}
 use Rattle.text.specs.Put.{Put}
 use Rattle.text.proofs.Puts.{put-unique}
 use Rattle.page.specs.Page.{pageOf}
+use Rattle.page.specs.Sketch.{sketchPageOf}
 use Rattle.level.specs.Signed.{ReadNow, ofRead}
 use Rattle.level.specs.Answers.{SurveyNow, ofSurvey, CorrectionNow, ofCorrection}
 use Rattle.level.specs.Listings.{ListingNow, ofListing}
+use Rattle.level.specs.Sketches.{SketchNow, ofSketch}
+use Rattle.junctions.specs.Call.{Lists, Drawing, sketchCall}
 use Rattle.level.specs.Heights.{AdjustNow, ofAdjust}
 use Rattle.level.specs.Rating.{signedRate}
 use Rattle.level.specs.declared.Rated.{Rated}
@@ -58,6 +61,10 @@ listing-has-one-answer book loop out = one-answer (listingOf book loop out)
 pub listings-has-one-answer : (book : Lent) (out : List ℤ) (x y : Listing)
     → x ≡ listingsOf book out → y ≡ listingsOf book out → x ≡ y
 listings-has-one-answer book out = one-answer (listingsOf book out)
+
+-- the junction sketch: answer and the four outputs
+pub sketch-has-one-answer : (book : Lent) (out : Lists) (x y : Drawing) → x ≡ sketchCall book out → y ≡ sketchCall book out → x ≡ y
+sketch-has-one-answer book out = one-answer (sketchCall book out)
 
 -- the not-checked list: answer and output
 pub not-checked-has-one-answer : (book : Lent) (out : List ℤ) (x y : Listing)
@@ -97,6 +104,10 @@ pub level-listing-has-one-answer : (book : Lent) (loop : ℤ) (out : List ℤ) (
     → x ≡ ofListing (listingOf book loop out) → y ≡ ofListing (listingOf book loop out) → x ≡ y
 level-listing-has-one-answer book loop out = one-answer (ofListing (listingOf book loop out))
 
+pub level-sketch-has-one-answer : (book : Lent) (out : Lists) (x y : SketchNow)
+    → x ≡ ofSketch (sketchCall book out) → y ≡ ofSketch (sketchCall book out) → x ≡ y
+level-sketch-has-one-answer book out = one-answer (ofSketch (sketchCall book out))
+
 pub level-listings-has-one-answer : (book : Lent) (out : List ℤ) (x y : ListingNow)
     → x ≡ ofListing (listingsOf book out) → y ≡ ofListing (listingsOf book out) → x ≡ y
 level-listings-has-one-answer book out = one-answer (ofListing (listingsOf book out))
@@ -130,6 +141,10 @@ text-has-one-answer out a b at r s text p q = put-unique p q
 -- the whole report of a file
 pub report-has-one-text : (file out a b : List ℕ) (r s : ℕ) → Put out a 0 r (pageOf file) → Put out b 0 s (pageOf file) → (a ≡ b) × (r ≡ s)
 report-has-one-text file out a b r s p q = put-unique p q
+
+pub sketch-has-one-text : (file out a b : List ℕ) (r s : ℕ) → Put out a 0 r (sketchPageOf file) → Put out b 0 s (sketchPageOf file)
+    → (a ≡ b) × (r ≡ s)
+sketch-has-one-text file out a b r s p q = put-unique p q
 
 -- a row for printing
 pub row-has-one-answer : (line : ℕ) (correction : ℤ) (rate : Rate) (x y : RateRow) → x ≡ rowOf line correction rate

@@ -23,6 +23,8 @@ use Rattle.survey.specs.Survey.{Surveyed, surveyed, surveyOf}
 use Rattle.lists.specs.Listing as lists
 use Rattle.lists.specs.Listing.{Listing, listing, listingOf, listingsOf, entered}
 use Rattle.lists.specs.NotChecked.{uncheckedOf, notCheckedOf}
+use Rattle.junctions.specs.Call as junctions
+use Rattle.junctions.specs.Call.{Lists, Drawing, drawing, drawn, allOver, sketchIn, sketchCall}
 use Rattle.survey.specs.Correction.{Corrected, corrected, updated, rerunLines, withdrawLines, rerunOf, withdrawOf}
 use Rattle.rates.specs.Rates as rates
 use Rattle.rates.specs.Rates.{rateAnswer}
@@ -31,7 +33,7 @@ use Rattle.adjust.specs.Call.{adjusted, adjustOf}
 use Rattle.demands.specs.Rules.{Rule, KeepsToTable}
 pub use Rattle.demands.specs.Tables.{afresh}
 use Rattle.demands.specs.Tables.{surveyRules, loopListing, listingRules, listingsRules, notCheckedRules, rerunRules, withdrawRules}
-use Rattle.demands.specs.Tables.{fileRules}
+use Rattle.demands.specs.Tables.{sketchLists, sketchRules, fileRules}
 
 -- the survey: rows and pieces of the book, and its report in the first places of the output
 abbrev pub surveyDone : Lent → List ℤ → Surveyed
@@ -62,6 +64,15 @@ ListingsKeepsToTable book out given =
 -- the not-checked list
 abbrev pub NotCheckedKeepsToTable : Lent → List ℤ → Listing → Type 0
 NotCheckedKeepsToTable book out given = ListKeepsToTable (notCheckedRules book out) (uncheckedOf (natAbs (book .b)) (book .lines)) out given
+
+-- the junction sketch: its counts, and its lists in the first places of the outputs
+abbrev pub sketchDone : Lent → Lists → Drawing
+sketchDone book out = drawing (drawn (sketchIn (natAbs (book .b)) (book .lines))) (allOver (sketchLists book) out)
+
+abbrev pub SketchKeepsToTable : Lent → Lists → Drawing → Type 0
+SketchKeepsToTable book out given =
+    KeepsToTable (λ (d : Drawing). d .answer .refusal) (sketchRules book out)
+    (λ r. drawing (junctions.refusedWith r) out) (sketchDone book out) given
 
 -- a correction that makes the book's lines new: rows and pieces of the book as it then stands, its lines, and its kept report brought up
 -- to date
@@ -104,6 +115,7 @@ pub record SameAtEveryCall (book : Lent) (r : Refusal) : Type 0 where
   pub listing-of : (loop : ℤ) (out : List ℤ) → listingOf book loop out ≡ listing (lists.refusedWith r) out
   pub listings-of : (out : List ℤ) → listingsOf book out ≡ listing (lists.refusedWith r) out
   pub not-checked : (out : List ℤ) → notCheckedOf book out ≡ listing (lists.refusedWith r) out
+  pub sketch-of : (out : Lists) → sketchCall book out ≡ drawing (junctions.refusedWith r) out
   pub withdrawal : (report : List ℤ) (line : ℤ) → withdrawOf book report line ≡ corrected (survey.refusedWith r) (book .lines) report
   pub re-run : (report : List ℤ) (line difference : ℤ) → natAbs difference ≤ mostDifference
       → rerunOf book report line difference ≡ corrected (survey.refusedWith r) (book .lines) report

@@ -5,3 +5,4 @@ pub mod TheLoops
 pub mod Corrections
 pub mod StillStands
 pub mod Heights
+pub mod TheSketch

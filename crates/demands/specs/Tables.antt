@@ -18,6 +18,8 @@ use Rattle.loops.specs.Loops.{loopAt}
 use Rattle.loops.specs.Row.{listed, listings}
 use Rattle.loops.specs.Report.{loopsOf, reportOf}
 use Rattle.lists.specs.NotChecked.{uncheckedOf}
+use Rattle.links.specs.Sketch.{entries, runOf}
+use Rattle.junctions.specs.Call.{Lists, listsOf, anyShort, sketchIn}
 use Rattle.survey.specs.Correction.{noLine, otherReport}
 use Rattle.demands.specs.Rules.{Rule, rule}
 
@@ -75,6 +77,14 @@ listingsRules book out = bookRules book (roomRule out (listings (loopsOf (natAbs
 unfoldable pub notCheckedRules : Lent → List ℤ → List Rule
 unfolding uncheckedOf
 notCheckedRules book out = bookRules book (roomRule out (uncheckedOf (natAbs (book .b)) (book .lines)) ∷ [])
+
+-- the junction sketch of a book, and 10, "where any of the four is too short"
+abbrev pub sketchLists : Lent → Lists
+sketchLists book = listsOf (sketchIn (natAbs (book .b)) (book .lines))
+
+unfoldable pub sketchRules : Lent → Lists → List Rule
+unfolding sketchIn entries runOf
+sketchRules book out = bookRules book (rule 10 (anyShort (sketchLists book) out) 0 ∷ [])
 
 -- 8: "no such line .. also a withdrawn line"; 9: "lent report is shorter than this book's rows, or differs from them in their places"
 abbrev pub correctionRules : Lent → List ℤ → ℤ → List Rule
