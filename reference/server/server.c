@@ -1,11 +1,12 @@
 /*
  * Calls the functions of liblevel.a for a program on another processor, which cannot link it.
  *
- * Reads requests on standard input and answers each on standard output. A request is eight numbers
- * (the call, b, t, loop or line, difference, and the counts of three slices), then the slices: held,
- * lines, and the one that is left. Of level_read that one is the file, in bytes; all else is int64. The
- * answer is eight numbers (up to six of the call's answer, and 1 if the call touched nothing but its
- * outputs), then the slices as they are after the call.
+ * Reads requests on standard input and answers each on standard output. A request is eleven numbers
+ * (the call, b, t, loop or line, difference, and the counts of six slices), then the slices: held, lines,
+ * and those that are left in the order of the call, none to four of them; the others have no elements. Of
+ * level_read the third is the file, in bytes; all else is int64. The answer is eleven numbers (up to six
+ * of the call's answer, 1 if the call touched nothing but its outputs, and four zeros), then the slices
+ * as they are after the call.
  *
  * Every slice lies between guards, and those that are lent to be read are compared afterwards.
  */
@@ -25,13 +26,16 @@ extern void _exit(int);
 #pragma weak level_listing
 #pragma weak level_listings
 #pragma weak level_not_checked
+#pragma weak level_sketch
 #pragma weak level_rerun
 #pragma weak level_withdraw
 #pragma weak level_adjust
 #pragma weak level_rate
 
-enum { READ, SURVEY, LISTING, LISTINGS, NOT_CHECKED, RERUN, WITHDRAW, ADJUST, RATE };
-enum { HELD, LINES, THIRD, SLICES };
+enum { READ, SURVEY, LISTING, LISTINGS, NOT_CHECKED, SKETCH, RERUN, WITHDRAW, ADJUST, RATE };
+enum { HELD, LINES, THIRD, FOURTH, FIFTH, SIXTH, SLICES };
+/* Where the counts of the slices begin in a request, and how many numbers a request or an answer has. */
+enum { COUNTS = 5, HEAD = COUNTS + SLICES };
 enum { GUARD = 64, MOST = 1 << 20, CANARY = 0xA5 };
 
 /* A slice in bytes, between its guards, and as it was lent. */
@@ -98,15 +102,26 @@ static int is_output(int64_t call, int i)
 {
     switch (call) {
     case READ:
-        return i != THIRD;
+        return i < THIRD;
     case RERUN:
     case WITHDRAW:
         return i != HELD;
     case RATE:
         return 0;
     default:
-        return i == THIRD;
+        return i >= THIRD;
     }
+}
+
+static void sketch(const int64_t *q, int64_t *a)
+{
+    size_t n[SLICES];
+    for (int i = 0; i < SLICES; i++)
+        n[i] = (size_t)q[COUNTS + i];
+    struct Sketched r = level_sketch(q[1], q[2], slice(HELD), n[HELD], slice(LINES), n[LINES],
+                                     slice(THIRD), n[THIRD], slice(FOURTH), n[FOURTH],
+                                     slice(FIFTH), n[FIFTH], slice(SIXTH), n[SIXTH]);
+    a[0] = r.number, a[1] = r.place, a[2] = r.links, a[3] = r.spurs, a[4] = r.loops, a[5] = r.run;
 }
 
 /* Makes a call; its answer goes to a. */
@@ -114,7 +129,7 @@ static void make(const int64_t *q, int64_t *a)
 {
     int64_t call = q[0], b = q[1], t = q[2], number = q[3], difference = q[4];
     int64_t *held = slice(HELD), *lines = slice(LINES), *third = slice(THIRD);
-    size_t h = (size_t)q[5], l = (size_t)q[6], n = (size_t)q[7];
+    size_t h = (size_t)q[COUNTS], l = (size_t)q[COUNTS + 1], n = (size_t)q[COUNTS + 2];
     switch (call) {
     case READ: {
         struct ReadAnswer r = level_read(room[THIRD] + GUARD, n, held, h, lines, l);
@@ -141,6 +156,9 @@ static void make(const int64_t *q, int64_t *a)
         a[0] = r.number, a[1] = r.place, a[2] = r.entries;
         break;
     }
+    case SKETCH:
+        sketch(q, a);
+        break;
     case ADJUST: {
         struct Adjusted r = level_adjust(b, t, held, h, lines, l, third, n);
         a[0] = r.number, a[1] = r.place, a[2] = r.sweeps;
@@ -160,11 +178,10 @@ static void make(const int64_t *q, int64_t *a)
 int main(void)
 {
     for (;;) {
-        int64_t request[8], answer[8] = {0};
+        int64_t request[HEAD], answer[HEAD] = {0};
         get(request, sizeof request);
-        take(HELD, request[5], sizeof(int64_t));
-        take(LINES, request[6], sizeof(int64_t));
-        take(THIRD, request[7], request[0] == READ ? 1 : sizeof(int64_t));
+        for (int i = 0; i < SLICES; i++)
+            take(i, request[COUNTS + i], i == THIRD && request[0] == READ ? 1 : sizeof(int64_t));
         make(request, answer);
         answer[6] = 1;
         for (int i = 0; i < SLICES; i++)

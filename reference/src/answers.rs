@@ -1,4 +1,4 @@
-//! The nine calls, and what they answer, laid out as in `include/level.h`.
+//! The calls, and what they answer, laid out as in `include/level.h`.
 
 use crate::{Lent, LentMut};
 
@@ -50,6 +50,18 @@ pub struct Listed {
     pub entries: i64,
 }
 
+/// The answer of the junction sketch.
+#[repr(C)]
+#[derive(Clone, Copy, Debug, Default, PartialEq, Eq)]
+pub struct Sketched {
+    pub number: i64,
+    pub place: i64,
+    pub links: i64,
+    pub spurs: i64,
+    pub loops: i64,
+    pub run: i64,
+}
+
 /// The answer of the adjustment.
 #[repr(C)]
 #[derive(Clone, Copy, Debug, Default, PartialEq, Eq)]
@@ -79,7 +91,7 @@ impl PartialEq for Rated {
     }
 }
 
-/// The nine calls, in the order of `include/level.h` and of the server.
+/// The calls, in the order of `include/level.h` and of the server.
 #[derive(Clone, Copy, Debug, PartialEq, Eq)]
 pub enum Kind {
     Read,
@@ -87,19 +99,28 @@ pub enum Kind {
     Listing,
     Listings,
     NotChecked,
+    Sketch,
     Rerun,
     Withdraw,
     Adjust,
     Rate,
 }
 
-/// Who answers the nine calls, in the words of `include/level.h`.
+/// Who answers the calls, in the words of `include/level.h`.
 pub trait Level {
     fn read(&mut self, file: &[u8], held: &mut [i64], lines: &mut [i64]) -> ReadAnswer;
     fn survey(&mut self, book: Lent, rows: &mut [i64]) -> Answer;
     fn listing(&mut self, book: Lent, number: i64, out: &mut [i64]) -> Listed;
     fn listings(&mut self, book: Lent, out: &mut [i64]) -> Listed;
     fn not_checked(&mut self, book: Lent, out: &mut [i64]) -> Listed;
+    fn sketch(
+        &mut self,
+        book: Lent,
+        links: &mut [i64],
+        spurs: &mut [i64],
+        loops: &mut [i64],
+        run: &mut [i64],
+    ) -> Sketched;
     fn rerun(&mut self, book: LentMut, report: &mut [i64], line: i64, difference: i64) -> Answer;
     fn withdraw(&mut self, book: LentMut, report: &mut [i64], line: i64) -> Answer;
     fn adjust(&mut self, book: Lent, heights: &mut [i64]) -> Adjusted;

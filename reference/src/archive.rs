@@ -45,6 +45,22 @@ impl Level for Archive {
         unsafe { level_not_checked(b, t, h, held.len(), l, lines.len(), o, out.len()) }
     }
 
+    fn sketch(
+        &mut self,
+        book: Lent,
+        links: &mut [i64],
+        spurs: &mut [i64],
+        loops: &mut [i64],
+        run: &mut [i64],
+    ) -> Sketched {
+        let Lent { b, t, held, lines } = book;
+        let (h, l, hs, ls) = (held.as_ptr(), lines.as_ptr(), held.len(), lines.len());
+        let (n, s, o, r) =
+            (links.as_mut_ptr(), spurs.as_mut_ptr(), loops.as_mut_ptr(), run.as_mut_ptr());
+        let (ns, ss, os, rs) = (links.len(), spurs.len(), loops.len(), run.len());
+        unsafe { level_sketch(b, t, h, hs, l, ls, n, ns, s, ss, o, os, r, rs) }
+    }
+
     fn rerun(&mut self, book: LentMut, report: &mut [i64], line: i64, difference: i64) -> Answer {
         let Lent { b, t, held, lines } = book;
         let (h, l, r) = (held.as_ptr(), lines.as_mut_ptr(), report.as_mut_ptr());

@@ -6,6 +6,9 @@ use crate::*;
 use std::io::{self, Read, Write};
 use std::process::{Child, ChildStdin, ChildStdout, Command, Stdio};
 
+/// Numbers at the start of a request, and of its answer.
+const HEAD: usize = 11;
+
 /// In the place of a refusal's number: the call touched what it may not; the server ended.
 const TOUCHED: i64 = -1;
 const ENDED: i64 = -2;
@@ -22,19 +25,36 @@ pub struct Bridge {
     server: Option<Server>,
 }
 
-/// A request: the book, the loop or line with its difference, and the slice that is left.
+/// How many slices there can be after held and lines.
+const MORE: usize = 4;
+
+/// A request: the book, the loop or line with its difference, and the slices that are left.
 struct Request<'a> {
     kind: Kind,
     book: Lent<'a>,
     number: i64,
     difference: i64,
-    third: Third<'a>,
+    more: More<'a>,
 }
 
 #[derive(Clone, Copy)]
-enum Third<'a> {
-    Numbers(&'a [i64]),
+enum More<'a> {
+    Numbers([&'a [i64]; MORE]),
     File(&'a [u8]),
+}
+
+impl<'a> More<'a> {
+    /// One slice, as most calls are lent.
+    fn one(numbers: &'a [i64]) -> Self {
+        More::Numbers([numbers, &[], &[], &[]])
+    }
+
+    fn counts(&self) -> [usize; MORE] {
+        match self {
+            More::Numbers(slices) => slices.map(<[i64]>::len),
+            More::File(file) => [file.len(), 0, 0, 0],
+        }
+    }
 }
 
 /// What comes back: the numbers of the answer, and the slices after the call.
@@ -42,7 +62,7 @@ struct Reply {
     answer: [i64; 6],
     held: Vec<i64>,
     lines: Vec<i64>,
-    third: Vec<i64>,
+    more: [Vec<i64>; MORE],
 }
 
 impl Bridge {
@@ -58,12 +78,12 @@ impl Bridge {
                 let _ = server.process.kill();
                 let _ = server.process.wait();
             }
-            let third = match request.third {
-                Third::Numbers(numbers) => numbers.to_vec(),
-                Third::File(_) => vec![],
+            let more = match request.more {
+                More::Numbers(slices) => slices.map(<[i64]>::to_vec),
+                More::File(_) => Default::default(),
             };
             let (held, lines) = (request.book.held.to_vec(), request.book.lines.to_vec());
-            Reply { answer: [ENDED, 0, 0, 0, 0, 0], held, lines, third }
+            Reply { answer: [ENDED, 0, 0, 0, 0, 0], held, lines, more }
         })
     }
 
@@ -74,29 +94,31 @@ impl Bridge {
         };
         let Server { input, output, .. } = self.server.insert(server);
         input.write_all(&sent(request))?;
-        let numbers = receive(output, 8)?;
+        let numbers = receive(output, HEAD)?;
         let held = receive(output, request.book.held.len())?;
         let lines = receive(output, request.book.lines.len())?;
-        let third = match request.third {
-            Third::Numbers(numbers) => receive(output, numbers.len())?,
-            Third::File(file) => {
-                output.read_exact(&mut vec![0; file.len()])?;
-                vec![]
+        let mut more: [Vec<i64>; MORE] = Default::default();
+        match request.more {
+            More::Numbers(slices) => {
+                for (after, lent) in more.iter_mut().zip(slices) {
+                    *after = receive(output, lent.len())?;
+                }
             }
-        };
+            More::File(file) => output.read_exact(&mut vec![0; file.len()])?,
+        }
         let mut answer = [0; 6];
         answer.copy_from_slice(&numbers[..6]);
         if numbers[6] != 1 {
             answer[0] = TOUCHED;
         }
-        Ok(Reply { answer, held, lines, third })
+        Ok(Reply { answer, held, lines, more })
     }
 
     /// A call that fills an output. Gives the numbers of its answer.
     fn fill(&mut self, kind: Kind, book: Lent, number: i64, out: &mut [i64]) -> [i64; 6] {
-        let third = Third::Numbers(out);
-        let reply = self.ask(&Request { kind, book, number, difference: 0, third });
-        out.copy_from_slice(&reply.third);
+        let more = More::one(out);
+        let reply = self.ask(&Request { kind, book, number, difference: 0, more });
+        out.copy_from_slice(&reply.more[0]);
         reply.answer
     }
 
@@ -109,10 +131,10 @@ impl Bridge {
         number: i64,
         difference: i64,
     ) -> [i64; 6] {
-        let third = Third::Numbers(report);
-        let reply = self.ask(&Request { kind, book: book.lent(), number, difference, third });
+        let more = More::one(report);
+        let reply = self.ask(&Request { kind, book: book.lent(), number, difference, more });
         book.lines.copy_from_slice(&reply.lines);
-        report.copy_from_slice(&reply.third);
+        report.copy_from_slice(&reply.more[0]);
         reply.answer
     }
 }
@@ -138,24 +160,23 @@ fn start(command: &[String]) -> io::Result<Server> {
 }
 
 fn sent(request: &Request) -> Vec<u8> {
-    let Request { kind, book: Lent { b, t, held, lines }, number, difference, third } = request;
-    let third_count = match third {
-        Third::Numbers(numbers) => numbers.len(),
-        Third::File(file) => file.len(),
-    };
-    let counts = [held.len(), lines.len(), third_count].map(|count| count as i64);
-    let head = [&[*kind as i64, *b, *t, *number, *difference], &counts[..]].concat();
-    let mut bytes: Vec<u8> = vec![];
+    let Request { kind, book: Lent { b, t, held, lines }, number, difference, more } = request;
+    let mut head = vec![*kind as i64, *b, *t, *number, *difference];
+    head.extend([held.len(), lines.len()].map(|count| count as i64));
+    head.extend(more.counts().map(|count| count as i64));
+    let mut bytes = vec![];
     for numbers in [&head, *held, *lines] {
-        bytes.extend(numbers.iter().flat_map(|number| number.to_le_bytes()));
+        put(&mut bytes, numbers);
     }
-    match third {
-        Third::Numbers(numbers) => {
-            bytes.extend(numbers.iter().flat_map(|number| number.to_le_bytes()));
-        }
-        Third::File(file) => bytes.extend_from_slice(file),
+    match more {
+        More::Numbers(slices) => slices.iter().for_each(|numbers| put(&mut bytes, numbers)),
+        More::File(file) => bytes.extend_from_slice(file),
     }
     bytes
+}
+
+fn put(bytes: &mut Vec<u8>, numbers: &[i64]) {
+    bytes.extend(numbers.iter().flat_map(|number| number.to_le_bytes()));
 }
 
 fn receive(output: &mut ChildStdout, count: usize) -> io::Result<Vec<i64>> {
@@ -176,8 +197,8 @@ fn listed([number, place, entries, ..]: [i64; 6]) -> Listed {
 impl Level for Bridge {
     fn read(&mut self, file: &[u8], held: &mut [i64], lines: &mut [i64]) -> ReadAnswer {
         let book = Lent { b: 0, t: 0, held, lines: &*lines };
-        let third = Third::File(file);
-        let reply = self.ask(&Request { kind: Kind::Read, book, number: 0, difference: 0, third });
+        let more = More::File(file);
+        let reply = self.ask(&Request { kind: Kind::Read, book, number: 0, difference: 0, more });
         held.copy_from_slice(&reply.held);
         lines.copy_from_slice(&reply.lines);
         let [number, place, b, t, h, n] = reply.answer;
@@ -200,6 +221,23 @@ impl Level for Bridge {
         listed(self.fill(Kind::NotChecked, book, 0, out))
     }
 
+    fn sketch(
+        &mut self,
+        book: Lent,
+        links: &mut [i64],
+        spurs: &mut [i64],
+        loops: &mut [i64],
+        run: &mut [i64],
+    ) -> Sketched {
+        let more = More::Numbers([links, spurs, loops, run]);
+        let reply = self.ask(&Request { kind: Kind::Sketch, book, number: 0, difference: 0, more });
+        for (out, after) in [links, spurs, loops, run].into_iter().zip(&reply.more) {
+            out.copy_from_slice(after);
+        }
+        let [number, place, links, spurs, loops, run] = reply.answer;
+        Sketched { number, place, links, spurs, loops, run }
+    }
+
     fn rerun(&mut self, book: LentMut, report: &mut [i64], line: i64, difference: i64) -> Answer {
         answer(self.correct(Kind::Rerun, book, report, line, difference))
     }
@@ -214,8 +252,8 @@ impl Level for Bridge {
     }
 
     fn rate(&mut self, book: Lent, heights: &[i64], line: i64) -> Rated {
-        let third = Third::Numbers(heights);
-        let request = Request { kind: Kind::Rate, book, number: line, difference: 0, third };
+        let more = More::one(heights);
+        let request = Request { kind: Kind::Rate, book, number: line, difference: 0, more };
         let [number, place, line, correction, withdrawn, rate] = self.ask(&request).answer;
         Rated { number, place, line, correction, withdrawn, rate: f64::from_bits(rate as u64) }
     }

@@ -1,13 +1,15 @@
-//! The calls on a book in memory: survey, listings, re-run and withdrawal.
+//! The calls on a book in memory: survey, listings, sketch, re-run and withdrawal.
 
 use crate::answers::{refuse, Refusal};
 use crate::book::{self, within};
 use crate::network::Network;
+use crate::sketch::Sketch;
 use crate::*;
 
 /// The reference implementation: room for the work of one call.
 pub struct Reference {
     pub(crate) network: Box<Network>,
+    sketch: Box<Sketch>,
     /// Rows that have the line of a re-run, each with the sense in which they run it.
     touched: Vec<(usize, i64)>,
     /// The lines of all loops, one loop after the other.
@@ -27,6 +29,7 @@ impl Reference {
     pub fn new() -> Self {
         Reference {
             network: Box::new(Network::new()),
+            sketch: Box::new(Sketch::new()),
             touched: Vec::with_capacity(MAX_LINES),
             listed: Vec::with_capacity(MAX_LISTED),
         }
@@ -168,6 +171,11 @@ impl Reference {
         text::report(&mut self.network, file)
     }
 
+    /// The sketch program's text for a file; at most 16,384 bytes of it count.
+    pub fn sketch_text(&mut self, file: &[u8]) -> Vec<u8> {
+        text::sketch(&mut self.sketch, file)
+    }
+
     /// Tree lines of a good book in their order of entry; of a refused one none.
     pub fn tree(&mut self, book: Lent) -> Vec<i64> {
         if book.test().is_err() {
@@ -225,6 +233,23 @@ impl Level for Reference {
 
     fn not_checked(&mut self, book: Lent, out: &mut [i64]) -> Listed {
         listed(self.try_not_checked(book, out))
+    }
+
+    fn sketch(
+        &mut self,
+        book: Lent,
+        links: &mut [i64],
+        spurs: &mut [i64],
+        loops: &mut [i64],
+        run: &mut [i64],
+    ) -> Sketched {
+        match sketch::sketch(&mut self.sketch, book, [links, spurs, loops, run]) {
+            Ok(counts) => {
+                let [links, spurs, loops, run] = counts.map(|count| count as i64);
+                Sketched { number: 0, place: 0, links, spurs, loops, run }
+            }
+            Err(Refusal { number, place }) => Sketched { number, place, ..Sketched::default() },
+        }
     }
 
     /// Sets the line's difference, and mends the rows of the kept report that have the line.

@@ -1,6 +1,6 @@
 //! The C functions of `include/level.h`, written once for all that name, declare or define them.
 
-/// Gives the nine functions to a macro: of each the arguments, the answer and the call of `Level` that
+/// Gives the functions to a macro: of each the arguments, the answer and the call of `Level` that
 /// it is. Where they are defined, `lent` makes a slice of its start and its count.
 #[macro_export]
 macro_rules! header {
@@ -20,6 +20,14 @@ macro_rules! header {
                 = listings(out.lent(out_count));
             level_not_checked(const lines; out: *mut i64, out_count: usize) -> Listed
                 = not_checked(out.lent(out_count));
+            level_sketch(
+                const lines; links: *mut i64, links_count: usize, spurs: *mut i64, spurs_count: usize,
+                loops: *mut i64, loops_count: usize, run: *mut i64, run_count: usize
+            ) -> Sketched
+                = sketch(
+                    links.lent(links_count), spurs.lent(spurs_count),
+                    loops.lent(loops_count), run.lent(run_count)
+                );
             level_rerun(
                 mut lines; report: *mut i64, report_count: usize, line: i64, difference: i64
             ) -> Answer

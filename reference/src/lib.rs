@@ -1,4 +1,5 @@
-//! Document 01 in plain Rust: a reference to test `liblevel.a` against and to time it beside.
+//! Document 01 and what document 02 adds, in plain Rust: a reference to test `liblevel.a` against and to
+//! time it beside.
 //!
 //! [`Reference`] answers the calls of [`Level`]. It is lent the whole book with every call, tests
 //! all of it and works everything out anew; only its scratch room is kept from one call to the next.
@@ -14,10 +15,11 @@ mod calls;
 mod header;
 mod network;
 mod paths;
+mod sketch;
 mod text;
 pub mod trial;
 
-pub use answers::{Adjusted, Answer, Kind, Level, Listed, Rated, ReadAnswer};
+pub use answers::{Adjusted, Answer, Kind, Level, Listed, Rated, ReadAnswer, Sketched};
 pub use book::{write, Lent, LentMut};
 pub use calls::Reference;
 pub use network::verdict;
@@ -40,7 +42,7 @@ pub const HEAD_BYTES: usize = 13;
 pub const HELD_BYTES: usize = 10;
 pub const LINE_BYTES: usize = 12;
 
-/// Bytes that the report program reads.
+/// Bytes that the programs read.
 pub const MAX_READ: usize = 16_384;
 
 /// Numbers of one line in memory: from, to, difference, length, standing.
@@ -49,3 +51,6 @@ pub const LINE: usize = 5;
 pub const HELD: usize = 2;
 /// Numbers of one report row: closing line, count of lines, length, misclosure, verdict.
 pub const ROW: usize = 5;
+/// Numbers of one link, spur or loop of the sketch: first mark, last mark, count of lines, length,
+/// difference.
+pub const ENTRY: usize = 5;

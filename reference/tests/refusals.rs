@@ -187,6 +187,40 @@ fn longest_listings() {
     assert_eq!(out[MAX_LISTED - 2..], [254, 255]);
 }
 
+/// The ring with a tail at mark 3: a spur of one line and a loop of three.
+#[test]
+fn sketches_refused() {
+    let mut book = ring();
+    book.b = 4;
+    book.lines.extend([4, 3, 700, 60, 1]);
+    let sketch = |book: &Book, places: [usize; 4]| {
+        let mut out = places.map(|places| vec![9; places]);
+        let [links, spurs, loops, run] = &mut out;
+        let answer = Reference::new().sketch(book.lent(), links, spurs, loops, run);
+        if answer.number != 0 {
+            assert_eq!([answer.links, answer.spurs, answer.loops, answer.run], [0; 4]);
+            assert!(out.concat().iter().all(|&number| number == 9));
+        }
+        (answer.number, answer.place, out)
+    };
+    let refused = |book: &Book, places| (sketch(book, places).0, sketch(book, places).1);
+    let wanted = [&[9][..], &[4, 3, 1, 60, 700, 9], &[3, 3, 3, 300, 500, 9], &[5, 1, 2, 3, 9]];
+    assert_eq!(sketch(&book, [1, 6, 6, 5]), (0, 0, wanted.map(<[i64]>::to_vec)));
+    assert_eq!(refused(&book, [0, 5, 5, 4]), (0, 0));
+    for short in [[0, 4, 5, 4], [0, 5, 4, 4], [0, 5, 5, 3], [0, 0, 0, 0], [9, 9, 9, 3]] {
+        assert_eq!(refused(&book, short), (10, 0));
+    }
+    book.lines.extend([4, 2, 0, 10, 1, 4, 1, 0, 10, 1]);
+    assert_eq!(refused(&book, [30, 0, 0, 6]), (0, 0), "six links");
+    assert_eq!(refused(&book, [29, 0, 0, 6]), (10, 0));
+    book.lines[0] = 5;
+    assert_eq!(refused(&book, [0; 4]), (7, 1), "before 10");
+    book.held[0] = 5;
+    assert_eq!(refused(&book, [0; 4]), (6, 1));
+    book.t = 0;
+    assert_eq!(refused(&book, [0; 4]), (4, 0));
+}
+
 #[test]
 fn outputs_too_short() {
     let mut book = ring();
@@ -353,11 +387,14 @@ fn never_panics() {
         let mut out = any_numbers(random);
         let file: Vec<u8> = (0..random.below(30)).map(|_| random.bits() as u8).collect();
         reference.report(&file);
+        reference.sketch_text(&file);
         reference.read(&file, &mut any_numbers(random), &mut out);
         reference.survey(book.lent(), &mut out);
         reference.listing(book.lent(), number, &mut out);
         reference.listings(book.lent(), &mut out);
         reference.not_checked(book.lent(), &mut out);
+        let [mut links, mut spurs, mut loops] = [(); 3].map(|_| any_numbers(random));
+        reference.sketch(book.lent(), &mut links, &mut spurs, &mut loops, &mut out);
         reference.rate(book.lent(), &out, number);
         reference.adjust(book.lent(), &mut out);
         reference.rerun(book.lent_mut(), &mut out, number, difference);

@@ -169,6 +169,122 @@ fn slow_on_no_circuit(lines: &[Line]) -> Vec<i64> {
     lines.iter().filter(apart).map(|l| l.number).collect()
 }
 
+/// A link, spur or loop: its first mark, its last mark, and its lines, negative where one is run from
+/// its to to its from.
+type Walk = (i64, i64, Vec<i64>);
+
+fn lowest_line(walk: &Walk) -> i64 {
+    walk.2.iter().map(|number| number.abs()).min().expect("a walk has lines")
+}
+
+fn read_from(mark: i64, (first, last, run): Walk) -> Walk {
+    if first == mark {
+        (first, last, run)
+    } else {
+        (last, first, run.iter().rev().map(|number| -number).collect())
+    }
+}
+
+/// The places of the links that end at a mark, one for each end.
+fn ends_at(links: &[Walk], mark: i64) -> Vec<usize> {
+    let ends = links.iter().enumerate().flat_map(|(i, link)| [(i, link.0), (i, link.1)]);
+    ends.filter(|&(_, end)| end == mark).map(|(i, _)| i).collect()
+}
+
+/// A self-closing loop begun with its lowest line, positive.
+fn begun_with_lowest((mark, _, mut run): Walk) -> Walk {
+    let lowest = run.iter().map(|number| number.abs()).min().expect("a loop has lines");
+    if run.contains(&-lowest) {
+        run = run.iter().rev().map(|number| -number).collect();
+    }
+    while run[0] != lowest {
+        run.rotate_left(1);
+    }
+    (mark, mark, run)
+}
+
+/// Links, spurs and loops.
+#[derive(Default)]
+struct SlowSketch {
+    links: Vec<Walk>,
+    spurs: Vec<Walk>,
+    loops: Vec<Walk>,
+}
+
+/// Takes the first step there is: the spur of lowest mark; else the self-closing loop of lowest line;
+/// else the merge at the lowest mark that has exactly two link ends, of two different links.
+fn slow_step(b: i64, sketch: &mut SlowSketch) -> bool {
+    let SlowSketch { links, spurs, loops } = sketch;
+    for mark in 1..=b {
+        if let [only] = ends_at(links, mark)[..] {
+            spurs.push(read_from(mark, links.remove(only)));
+            return true;
+        }
+    }
+    let closing = (0..links.len()).filter(|&i| links[i].0 == links[i].1);
+    if let Some(lowest) = closing.min_by_key(|&i| lowest_line(&links[i])) {
+        loops.push(begun_with_lowest(links.remove(lowest)));
+        return true;
+    }
+    for mark in 1..=b {
+        match ends_at(links, mark)[..] {
+            [one, other] if one != other => {
+                let (_, last, after) = read_from(mark, links.remove(one.max(other)));
+                let (_, first, before) = read_from(mark, links.remove(one.min(other)));
+                let to_mark = before.iter().rev().map(|number| -number);
+                links.push((first, last, to_mark.chain(after).collect()));
+                return true;
+            }
+            _ => {}
+        }
+    }
+    false
+}
+
+/// "What remains are the links, listed by lowest line, each from its lower junction to its higher."
+fn slow_sketch(b: i64, lines: &[Line]) -> SlowSketch {
+    let links = lines.iter().map(|l| (l.from, l.to, vec![l.number])).collect();
+    let mut sketch = SlowSketch { links, ..SlowSketch::default() };
+    while slow_step(b, &mut sketch) {}
+    for link in &mut sketch.links {
+        *link = read_from(link.0.min(link.1), link.clone());
+    }
+    sketch.links.sort_by_key(lowest_line);
+    sketch
+}
+
+/// The five numbers of each entry of a list.
+fn entries(list: &[Walk], lines: &[Line]) -> Vec<i64> {
+    let mut entries = vec![];
+    for (first, last, run) in list {
+        let (mut length, mut difference) = (0, 0);
+        for number in run {
+            let l = lines.iter().find(|l| l.number == number.abs()).expect("a standing line");
+            length += l.length;
+            difference += number.signum() * l.difference;
+        }
+        entries.extend([*first, *last, run.len() as i64, length, difference]);
+    }
+    entries
+}
+
+/// The sketch is the slow one, in outputs that just hold it.
+fn same_sketch(reference: &mut Reference, book: &Book) {
+    let lines = standing(book);
+    let slow = slow_sketch(book.b, &lines);
+    let lists = [&slow.links, &slow.spurs, &slow.loops];
+    let want = lists.map(|list| entries(list, &lines));
+    let want_run: Vec<i64> = lists.into_iter().flatten().flat_map(|walk| walk.2.clone()).collect();
+    let [mut links, mut spurs, mut loops] = want.clone().map(|list| vec![0; list.len()]);
+    let mut run = vec![0; lines.len()];
+    let got = reference.sketch(book.lent(), &mut links, &mut spurs, &mut loops, &mut run);
+    let counts = lists.map(|list| list.len() as i64);
+    assert_eq!([got.number, got.place], [0; 2], "{book:?}");
+    assert_eq!([got.links, got.spurs, got.loops], counts, "{book:?}");
+    assert_eq!((got.run as usize, run), (lines.len(), want_run), "{book:?}");
+    assert_eq!([links, spurs, loops], want, "{book:?}");
+}
+
 /// The heights before the first sweep; or the lowest mark of the first piece without a held mark.
 fn slow_start(book: &Book, tree: &[Line]) -> Result<Vec<i64>, i64> {
     let roots = roots(book.b, &book.lines);
@@ -306,6 +422,7 @@ fn small_books() {
     for _ in 0..20_000 {
         let book = small_book(&mut random);
         same_as_slow(&mut reference, &book, &mut random);
+        same_sketch(&mut reference, &book);
     }
 }
 
@@ -328,5 +445,15 @@ fn corrections_of_large_books() {
         let book = good_book(&mut random);
         let rows = own_report(&mut reference, &book);
         corrections(&mut reference, &book, &rows, &mut random);
+    }
+}
+
+/// On books of every size: the sketch is the slow one.
+#[test]
+fn sketches_of_large_books() {
+    let mut random = Random::new(4);
+    let mut reference = Reference::new();
+    for _ in 0..1000 {
+        same_sketch(&mut reference, &good_book(&mut random));
     }
 }

@@ -5,7 +5,7 @@
 //! S is how long each call is timed on each book, 1 unless given. The reference finds paths by
 //! Dijkstra with a heap and an early stop, and its sweeps visit every free mark. Prints the best ns per
 //! call and the ratio archive / reference for each call and book, and for each call the geometric mean of
-//! its ratios and the worst.
+//! its ratios and the worst. On three more books the sketch alone is timed.
 
 use reference::archive::Archive;
 use reference::trial::call::own_report;
@@ -23,13 +23,18 @@ const PASSES: usize = 10;
 const TURN_SECONDS: f64 = 0.0005;
 const FEWEST_TURNS: usize = 3;
 
-/// The calls in words.
-const CALLS: [(Kind, &str); 9] = [
+/// A call in words.
+type Named = (Kind, &'static str);
+
+const SKETCH: Named = (Kind::Sketch, "sketch");
+
+const CALLS: [Named; 10] = [
     (Kind::Read, "read"),
     (Kind::Survey, "survey"),
     (Kind::Listing, "listing"),
     (Kind::Listings, "listings"),
     (Kind::NotChecked, "not-checked"),
+    SKETCH,
     (Kind::Rerun, "re-run"),
     (Kind::Withdraw, "withdrawal"),
     (Kind::Adjust, "adjustment"),
@@ -62,8 +67,8 @@ fn rings() -> Shape {
     rings
 }
 
-fn books() -> Vec<(&'static str, Book)> {
-    let random = &mut Random::new(1);
+/// The books on which every call is timed.
+fn books(random: &mut Random) -> Vec<(&'static str, Book)> {
     let random_lengths = random_shape(random);
     let equal_lengths = random_shape(random);
     let grid = Shape::grid(16, 16).mixed(random);
@@ -75,6 +80,17 @@ fn books() -> Vec<(&'static str, Book)> {
         ("dense 33/512", surveyed(random, Shape::dense(33), 500, 3000)),
         ("two rings with rungs", surveyed(random, rings(), 500, 3000)),
         ("doubled ring", surveyed(random, Shape::ring(256).doubled(), 500, 3000)),
+    ]
+}
+
+/// Books on which the sketch alone is timed: for many merges, many loops and many spurs.
+fn sketched_books(random: &mut Random) -> Vec<(&'static str, Book)> {
+    let ring = Shape::ring(256).mixed(random);
+    let tree = Shape::tree(random, 256).mixed(random);
+    vec![
+        ("ring of 256 marks", surveyed(random, ring, 500, 3000)),
+        ("255 pairs at mark 1", surveyed(random, Shape::star(256).doubled(), 500, 3000)),
+        ("tree of 255 lines", surveyed(random, tree, 500, 3000)),
     ]
 }
 
@@ -91,6 +107,8 @@ struct Desk {
     held_out: Vec<i64>,
     lines_out: Vec<i64>,
     out: Vec<i64>,
+    /// Links, spurs, loops and run of the sketch.
+    sketched: [Vec<i64>; 4],
     turn: usize,
 }
 
@@ -107,6 +125,7 @@ impl Desk {
             held_out: vec![0; HELD * MAX_HELD],
             lines_out: vec![0; LINE * MAX_LINES],
             out: vec![0; MAX_LISTED],
+            sketched: std::array::from_fn(|_| vec![0; ENTRY * MAX_LINES]),
             turn: 0,
             report,
             heights,
@@ -135,6 +154,7 @@ impl Desk {
             Kind::Listing => listed(level.listing(book, last, &mut self.out)),
             Kind::Listings => listed(level.listings(book, &mut self.out)),
             Kind::NotChecked => listed(level.not_checked(book, &mut self.out)),
+            Kind::Sketch => self.sketch(level),
             Kind::Rerun => {
                 let now = self.corrected.lines[LINE * self.turn + 2];
                 let new = if now == MAX_DIFFERENCE { now - 1 } else { now + 1 };
@@ -154,6 +174,12 @@ impl Desk {
                 [a.number, a.correction, a.rate.to_bits() as i64]
             }
         }
+    }
+
+    fn sketch(&mut self, level: &mut impl Level) -> [i64; 3] {
+        let [links, spurs, loops, run] = &mut self.sketched;
+        let a = level.sketch(self.book.lent(), links, spurs, loops, run);
+        [a.links, a.spurs, a.loops]
     }
 
     /// Seconds that one of so many calls takes.
@@ -190,8 +216,8 @@ impl Race {
     fn same(&mut self, reference: &mut Reference) -> bool {
         let (ours, theirs) = (&mut self.ours, &mut self.theirs);
         ours.call(&mut Archive, self.kind) == theirs.call(reference, self.kind)
-            && (&ours.out, &ours.corrected, &ours.kept)
-                == (&theirs.out, &theirs.corrected, &theirs.kept)
+            && (&ours.out, &ours.sketched, &ours.corrected, &ours.kept)
+                == (&theirs.out, &theirs.sketched, &theirs.corrected, &theirs.kept)
     }
 
     /// Times both by turns.
@@ -240,14 +266,28 @@ fn print_means(books: &[(&str, Vec<Race>)]) {
     }
 }
 
+/// Every call on the books for all, and the sketch on those for it alone.
+fn every_race() -> Vec<(&'static str, Vec<Race>)> {
+    let random = &mut Random::new(1);
+    let mut races = vec![];
+    for (name, book) in books(random) {
+        races.push((name, races_of(book, &CALLS)));
+    }
+    for (name, book) in sketched_books(random) {
+        races.push((name, races_of(book, &[SKETCH])));
+    }
+    races
+}
+
+fn races_of(book: Book, calls: &[Named]) -> Vec<Race> {
+    let desk = Desk::new(book);
+    calls.iter().map(|&(kind, name)| Race::new(&desk, kind, name)).collect()
+}
+
 fn main() -> ExitCode {
     let seconds = seconds();
     let mut reference = Reference::new();
-    let mut races: Vec<(&str, Vec<Race>)> = vec![];
-    for (book, content) in books() {
-        let desk = Desk::new(content);
-        races.push((book, CALLS.map(|(kind, name)| Race::new(&desk, kind, name)).into()));
-    }
+    let mut races = every_race();
     for (book, of_book) in &mut races {
         for race in of_book {
             if !race.same(&mut reference) {

@@ -1,20 +1,20 @@
 //! Drives every call of `liblevel.a` and the reference with the same inputs and compares every answer
 //! and every lent buffer.
 //!
-//!     differential [--seed N] [--calls N] [--report COMMAND] [--files N] [--through COMMAND]
-//!                  [--only NAME,NAME..]
+//!     differential [--seed N] [--calls N] [--report COMMAND] [--sketch COMMAND] [--files N]
+//!                  [--through COMMAND] [--only NAME,NAME..]
 //!
-//! With `--report`, the program that the command starts is given files on standard input, one for every
-//! fifty calls or as many as `--files` says, and what it writes is compared with the reference's text.
-//! With `--through`, the archive is reached through the server that the command starts. With `--only`,
-//! calls of these names alone are compared, and what the report program writes if one is named. Prints
-//! the seed and what was compared; on a difference prints the call, both answers and the smallest such
-//! call that it finds, and exits with 1.
+//! With `--report` and `--sketch`, the program that the command starts is given files on standard input,
+//! one for every fifty calls or as many as `--files` says, and what it writes is compared with the
+//! reference's text. With `--through`, the archive is reached through the server that the command
+//! starts. With `--only`, calls of these names alone are compared, and what the programs write that are
+//! named. Prints the seed and what was compared; on a difference prints the call, both answers and the
+//! smallest such call that it finds, and exits with 1.
 
 use reference::bridge::Bridge;
 use reference::trial::asks::{every_ask, new_difference, room};
-use reference::trial::call::{lay_out, make, own_report, KINDS};
-use reference::trial::call::{Ask, Buffer, Call, Given, Kept, Outcome};
+use reference::trial::call::{lay_out, make, own_report, CALLS, KINDS, PROGRAMS};
+use reference::trial::call::{Ask, Buffer, Call, Given, Kept, Outcome, Program};
 use reference::trial::damage::{damage_book, damage_file, long_file};
 use reference::trial::random::Random;
 use reference::trial::shapes::good_book;
@@ -32,15 +32,18 @@ const LONG_CHAIN: usize = 12;
 struct Options {
     seed: u64,
     calls: usize,
-    report: Option<String>,
+    /// The commands of the programs that are compared.
+    programs: [Option<String>; PROGRAMS.len()],
+    /// How many files each of them is given.
     files: usize,
     through: Option<String>,
     only: Option<Vec<String>>,
 }
 
 fn options() -> Result<Options, String> {
+    let programs = [None, None];
     let mut options =
-        Options { seed: 1, calls: 20_000, report: None, files: 0, through: None, only: None };
+        Options { seed: 1, calls: 20_000, programs, files: 0, through: None, only: None };
     let mut files = None;
     let mut words = std::env::args().skip(1);
     while let Some(word) = words.next() {
@@ -49,7 +52,8 @@ fn options() -> Result<Options, String> {
         match word.as_str() {
             "--seed" => options.seed = number()?,
             "--calls" => options.calls = number()? as usize,
-            "--report" => options.report = Some(value),
+            "--report" => options.programs[Program::Report as usize] = Some(value),
+            "--sketch" => options.programs[Program::Sketch as usize] = Some(value),
             "--files" => files = Some(number()? as usize),
             "--through" => options.through = Some(value),
             "--only" => options.only = Some(call_names(&value)?),
@@ -62,7 +66,7 @@ fn options() -> Result<Options, String> {
 
 /// Names of calls with commas between them.
 fn call_names(names: &str) -> Result<Vec<String>, String> {
-    let calls = &KINDS[..KINDS.len() - 1];
+    let calls = &KINDS[..CALLS];
     match names.split(',').find(|name| !calls.contains(name)) {
         Some(name) => Err(format!("there is no call {name}; there are {}", calls.join(", "))),
         None => Ok(names.split(',').map(String::from).collect()),
@@ -197,19 +201,22 @@ impl Test {
                 _ => {}
             }
             let (held_room, lines_room) = (room(random), room(random));
-            if self.report_is_due() {
-                self.compare(Call::Report { file: file.clone() })?;
+            for program in PROGRAMS {
+                if self.is_due(program) {
+                    self.compare(Call::Text { program, file: file.clone() })?;
+                }
             }
             self.compare(Call::Read { file, held_room, lines_room })?;
         }
         Ok(())
     }
 
-    /// Whether the report program has had fewer files than its share of the calls so far.
-    fn report_is_due(&self) -> bool {
-        let had: usize = self.counts[KINDS.len() - 1].iter().sum();
+    /// Whether a program has had fewer files than its share of the calls so far.
+    fn is_due(&self, program: Program) -> bool {
+        let had: usize = self.counts[program.kind()].iter().sum();
         let share = self.options.files * self.compared() / self.options.calls.max(1);
-        self.options.report.is_some() && had <= share && had < self.options.files
+        let named = self.options.programs[program as usize].is_some();
+        named && had <= share && had < self.options.files
     }
 
     /// Corrections one after the other with the kept report, as a rule until no line stands.
@@ -237,15 +244,15 @@ impl Test {
         self.every_call(book)
     }
 
-    /// Whether calls of this name are to be compared. The report program is asked only where one is named.
-    fn wanted(&self, name: &str) -> bool {
-        name == KINDS[KINDS.len() - 1]
-            || self.options.only.as_ref().is_none_or(|only| only.iter().any(|one| one == name))
+    /// Whether calls of this kind are to be compared. A program is asked only where it is named.
+    fn wanted(&self, kind: usize) -> bool {
+        let named = |only: &Vec<String>| only.iter().any(|one| one == KINDS[kind]);
+        kind >= CALLS || self.options.only.as_ref().is_none_or(named)
     }
 
     /// Makes a call on both, compares and counts it; one that is not wanted on the reference alone.
     fn compare(&mut self, call: Call) -> Result<Outcome, Different> {
-        if !self.wanted(KINDS[call.kind()]) {
+        if !self.wanted(call.kind()) {
             let lent = lay_out(&mut self.reference, &call);
             return Ok(make(&mut self.reference, &call, &lent));
         }
@@ -261,9 +268,10 @@ impl Test {
     fn both(&mut self, call: &Call) -> Both {
         let lent = lay_out(&mut self.reference, call);
         let (archive, reference) = match call {
-            Call::Report { file } => {
-                let command = self.options.report.as_deref().unwrap_or_default();
-                (text(&program::run(command, file)), text(&self.reference.report(file)))
+            Call::Text { program, file } => {
+                let command = self.options.programs[*program as usize].as_deref();
+                let written = program::run(command.unwrap_or_default(), file);
+                (text(&written), text(&self.reference_text(*program, file)))
             }
             _ => {
                 let archive = make(self.archive.as_mut(), call, &lent);
@@ -271,6 +279,13 @@ impl Test {
             }
         };
         Both { lent, archive, reference }
+    }
+
+    fn reference_text(&mut self, program: Program, file: &[u8]) -> Vec<u8> {
+        match program {
+            Program::Report => self.reference.report(file),
+            Program::Sketch => self.reference.sketch_text(file),
+        }
     }
 
     fn print_counts(&self) {
@@ -292,7 +307,7 @@ impl Test {
         let both = self.both(call);
         println!("{} {}", KINDS[call.kind()], arguments(call));
         match call {
-            Call::Read { file, .. } | Call::Report { file } => print_file(file),
+            Call::Read { file, .. } | Call::Text { file, .. } => print_file(file),
             Call::Ask { book, .. } => print_book(book),
         }
         for buffer in &both.lent {

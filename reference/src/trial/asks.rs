@@ -17,6 +17,17 @@ pub fn room(random: &mut Random) -> Room {
     }
 }
 
+/// The rooms of a sketch's four outputs: all exact, or one that is not, or each as it comes.
+fn rooms(random: &mut Random) -> [Room; 4] {
+    let mut rooms = [0; 4];
+    match random.below(4) {
+        0 => rooms.iter_mut().for_each(|one| *one = room(random)),
+        1 => {}
+        _ => rooms[random.below(4)] = random.pick(&[-1, -1, 1, 7]),
+    }
+    rooms
+}
+
 /// A line of the book as a rule, withdrawn ones too; else none.
 fn line_number(random: &mut Random, book: &Book) -> i64 {
     let count = book.lines_count() as i64;
@@ -99,6 +110,7 @@ pub fn every_ask(random: &mut Random, reference: &mut Reference, book: &Book) ->
         Ask::Listing { number: rows, room: room(random) },
         Ask::Listings { room: room(random) },
         Ask::NotChecked { room: room(random) },
+        Ask::Sketch { rooms: rooms(random) },
         Ask::Rerun {
             kept: kept(random, reference, book),
             line,

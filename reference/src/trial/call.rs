@@ -17,13 +17,14 @@ pub struct Kept {
     pub off: Option<(usize, i64)>,
 }
 
-/// What is asked of a book.
+/// What is asked of a book. The rooms of a sketch are those of links, spurs, loops and run.
 #[derive(Clone, Debug)]
 pub enum Ask {
     Survey { room: Room },
     Listing { number: i64, room: Room },
     Listings { room: Room },
     NotChecked { room: Room },
+    Sketch { rooms: [Room; 4] },
     Rerun { kept: Kept, line: i64, difference: i64 },
     Withdraw { kept: Kept, line: i64 },
     Adjust { room: Room },
@@ -42,19 +43,38 @@ pub enum Call {
         book: Book,
         ask: Ask,
     },
-    /// The report program, on a file.
-    Report {
+    /// A program, on a file.
+    Text {
+        program: Program,
         file: Vec<u8>,
     },
 }
 
+/// A program that writes a text for a file, in the order of `KINDS`.
+#[derive(Clone, Copy, Debug, PartialEq, Eq)]
+pub enum Program {
+    Report,
+    Sketch,
+}
+
+pub const PROGRAMS: [Program; 2] = [Program::Report, Program::Sketch];
+
 macro_rules! names {
     ($($name:ident $arguments:tt -> $answer:ident = $call:ident $lent:tt;)*) => {
-        [$(stringify!($name),)* "report program"]
+        [$(stringify!($name),)* "report program", "sketch program"]
     };
 }
 
-pub const KINDS: [&str; 10] = header!(names);
+/// What is compared, by name: the calls, then the programs.
+pub const KINDS: [&str; 12] = header!(names);
+pub const CALLS: usize = KINDS.len() - PROGRAMS.len();
+
+impl Program {
+    /// The place of the program's name in `KINDS`.
+    pub fn kind(self) -> usize {
+        CALLS + self as usize
+    }
+}
 
 impl Call {
     /// The place of the call's name in `KINDS`.
@@ -65,11 +85,12 @@ impl Call {
             Call::Ask { ask: Ask::Listing { .. }, .. } => 2,
             Call::Ask { ask: Ask::Listings { .. }, .. } => 3,
             Call::Ask { ask: Ask::NotChecked { .. }, .. } => 4,
-            Call::Ask { ask: Ask::Rerun { .. }, .. } => 5,
-            Call::Ask { ask: Ask::Withdraw { .. }, .. } => 6,
-            Call::Ask { ask: Ask::Adjust { .. }, .. } => 7,
-            Call::Ask { ask: Ask::Rate { .. }, .. } => 8,
-            Call::Report { .. } => 9,
+            Call::Ask { ask: Ask::Sketch { .. }, .. } => 5,
+            Call::Ask { ask: Ask::Rerun { .. }, .. } => 6,
+            Call::Ask { ask: Ask::Withdraw { .. }, .. } => 7,
+            Call::Ask { ask: Ask::Adjust { .. }, .. } => 8,
+            Call::Ask { ask: Ask::Rate { .. }, .. } => 9,
+            Call::Text { program, .. } => program.kind(),
         }
     }
 }
@@ -80,9 +101,10 @@ pub enum Given {
     Read(ReadAnswer),
     Answer(Answer),
     Listed(Listed),
+    Sketched(Sketched),
     Adjusted(Adjusted),
     Rated(Rated),
-    /// What the report program writes.
+    /// What a program writes.
     Text(String),
 }
 
@@ -93,6 +115,7 @@ impl Given {
             Given::Read(answer) => answer.number,
             Given::Answer(answer) => answer.number,
             Given::Listed(answer) => answer.number,
+            Given::Sketched(answer) => answer.number,
             Given::Adjusted(answer) => answer.number,
             Given::Rated(answer) => answer.number,
             Given::Text(text) => {
@@ -169,7 +192,8 @@ pub fn own_report(reference: &mut Reference, book: &Book) -> Vec<i64> {
     rows
 }
 
-/// How many places the whole answer of a call needs; none if it is refused for another reason.
+/// How many places the whole answer of a call with one output needs; none if it is refused for another
+/// reason.
 fn need(reference: &mut Reference, book: &Book, ask: &Ask) -> usize {
     let mut out = [0; MAX_LINES];
     let entries = match *ask {
@@ -195,25 +219,45 @@ fn kept_report(reference: &mut Reference, book: &Book, kept: &Kept) -> Buffer {
     buffer
 }
 
-/// The buffer that is lent with a book.
-fn third(reference: &mut Reference, book: &Book, ask: &Ask) -> Buffer {
-    let need = need(reference, book, ask);
+/// Links, spurs, loops and run of a sketch.
+fn sketch_outputs(reference: &mut Reference, book: &Book, rooms: &[Room; 4]) -> Vec<Buffer> {
+    let [mut links, mut spurs, mut loops] = [[0; ENTRY * MAX_LINES]; 3];
+    let mut run = [0; MAX_LINES];
+    let answer = reference.sketch(book.lent(), &mut links, &mut spurs, &mut loops, &mut run);
+    let entries = |count: i64| ENTRY * count as usize;
+    vec![
+        Buffer::output("links", places(entries(answer.links), rooms[0])),
+        Buffer::output("spurs", places(entries(answer.spurs), rooms[1])),
+        Buffer::output("loops", places(entries(answer.loops), rooms[2])),
+        Buffer::output("run", places(answer.run as usize, rooms[3])),
+    ]
+}
+
+/// The buffers that are lent with a book: one as a rule, of a sketch four.
+fn more(reference: &mut Reference, book: &Book, ask: &Ask) -> Vec<Buffer> {
+    let mut output = |name: &'static str, room: Room| {
+        let need = need(reference, book, ask);
+        vec![Buffer::output(name, places(need, room))]
+    };
     match ask {
-        Ask::Survey { room } => Buffer::output("rows", places(need, *room)),
-        Ask::Listing { room, .. } => Buffer::output("out", places(need, *room)),
-        Ask::Listings { room } => Buffer::output("out", places(need, *room)),
-        Ask::NotChecked { room } => Buffer::output("out", places(need, *room)),
-        Ask::Adjust { room } => Buffer::output("heights", places(need, *room)),
-        Ask::Rerun { kept, .. } | Ask::Withdraw { kept, .. } => kept_report(reference, book, kept),
-        Ask::Rate { heights, .. } => Buffer::of("heights", heights),
+        Ask::Survey { room } => output("rows", *room),
+        Ask::Listing { room, .. } => output("out", *room),
+        Ask::Listings { room } => output("out", *room),
+        Ask::NotChecked { room } => output("out", *room),
+        Ask::Adjust { room } => output("heights", *room),
+        Ask::Sketch { rooms } => sketch_outputs(reference, book, rooms),
+        Ask::Rerun { kept, .. } | Ask::Withdraw { kept, .. } => {
+            vec![kept_report(reference, book, kept)]
+        }
+        Ask::Rate { heights, .. } => vec![Buffer::of("heights", heights)],
     }
 }
 
-/// Lays out the buffers that a call is lent: held entries, lines and, with a book, one more. Lengths and
-/// reports follow the book by the reference.
+/// Lays out the buffers that a call is lent: held entries, lines and, with a book, those after them.
+/// Lengths and reports follow the book by the reference.
 pub fn lay_out(reference: &mut Reference, call: &Call) -> Vec<Buffer> {
     match call {
-        Call::Report { .. } => vec![],
+        Call::Text { .. } => vec![],
         Call::Read { file, held_room, lines_room } => {
             let (mut held, mut lines) = (vec![0; HELD * MAX_HELD], vec![0; LINE * MAX_LINES]);
             let answer = reference.read(file, &mut held, &mut lines);
@@ -222,8 +266,9 @@ pub fn lay_out(reference: &mut Reference, call: &Call) -> Vec<Buffer> {
             vec![Buffer::output("held", held), Buffer::output("lines", lines)]
         }
         Call::Ask { book, ask } => {
-            let (held, lines) = (Buffer::of("held", &book.held), Buffer::of("lines", &book.lines));
-            vec![held, lines, third(reference, book, ask)]
+            let mut lent = vec![Buffer::of("held", &book.held), Buffer::of("lines", &book.lines)];
+            lent.extend(more(reference, book, ask));
+            lent
         }
     }
 }
@@ -235,27 +280,38 @@ pub fn make(level: &mut dyn Level, call: &Call, lent: &[Buffer]) -> Outcome {
         (Call::Read { file, .. }, [held, lines]) => {
             Given::Read(level.read(file, held.lent_mut(), lines.lent_mut()))
         }
-        (Call::Ask { book: Book { b, t, .. }, ask }, [held, lines, third]) => {
+        (Call::Ask { book: Book { b, t, .. }, ask }, [held, lines, more @ ..]) => {
             let book = Lent { b: *b, t: *t, held: held.lent(), lines: lines.lent_mut() };
-            make_ask(level, ask, book, third.lent_mut())
+            let mut more: Vec<&mut [i64]> = more.iter_mut().map(Buffer::lent_mut).collect();
+            make_ask(level, ask, book, &mut more)
         }
         _ => Given::Text(String::new()),
     };
     Outcome { given, buffers }
 }
 
-/// Asks a book; `third` is the slice that is lent with it.
-fn make_ask(level: &mut dyn Level, ask: &Ask, book: LentMut, third: &mut [i64]) -> Given {
-    match *ask {
-        Ask::Survey { .. } => Given::Answer(level.survey(book.lent(), third)),
-        Ask::Listing { number, .. } => Given::Listed(level.listing(book.lent(), number, third)),
-        Ask::Listings { .. } => Given::Listed(level.listings(book.lent(), third)),
-        Ask::NotChecked { .. } => Given::Listed(level.not_checked(book.lent(), third)),
-        Ask::Rerun { line, difference, .. } => {
-            Given::Answer(level.rerun(book, third, line, difference))
+/// Asks a book; `more` are the slices that are lent with it.
+fn make_ask(level: &mut dyn Level, ask: &Ask, book: LentMut, more: &mut [&mut [i64]]) -> Given {
+    match (ask, more) {
+        (Ask::Survey { .. }, [rows]) => Given::Answer(level.survey(book.lent(), rows)),
+        (&Ask::Listing { number, .. }, [out]) => {
+            Given::Listed(level.listing(book.lent(), number, out))
         }
-        Ask::Withdraw { line, .. } => Given::Answer(level.withdraw(book, third, line)),
-        Ask::Adjust { .. } => Given::Adjusted(level.adjust(book.lent(), third)),
-        Ask::Rate { line, .. } => Given::Rated(level.rate(book.lent(), third, line)),
+        (Ask::Listings { .. }, [out]) => Given::Listed(level.listings(book.lent(), out)),
+        (Ask::NotChecked { .. }, [out]) => Given::Listed(level.not_checked(book.lent(), out)),
+        (Ask::Sketch { .. }, [links, spurs, loops, run]) => {
+            Given::Sketched(level.sketch(book.lent(), links, spurs, loops, run))
+        }
+        (&Ask::Rerun { line, difference, .. }, [report]) => {
+            Given::Answer(level.rerun(book, report, line, difference))
+        }
+        (&Ask::Withdraw { line, .. }, [report]) => {
+            Given::Answer(level.withdraw(book, report, line))
+        }
+        (Ask::Adjust { .. }, [heights]) => Given::Adjusted(level.adjust(book.lent(), heights)),
+        (&Ask::Rate { line, .. }, [heights]) => {
+            Given::Rated(level.rate(book.lent(), heights, line))
+        }
+        _ => Given::Text(String::new()),
     }
 }

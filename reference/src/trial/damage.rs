@@ -148,7 +148,7 @@ pub fn damage_file(random: &mut Random, file: &mut Vec<u8>) {
     }
 }
 
-/// Input longer than any book, about as long as the report program reads.
+/// Input longer than any book, about as long as the programs read.
 pub fn long_file(random: &mut Random, mut file: Vec<u8>) -> Vec<u8> {
     let length = MAX_READ + random.below(3) - 1;
     file.resize(length, 0);

@@ -1,10 +1,10 @@
-//! The report program as a process.
+//! The report program or the sketch program as a process.
 
 use std::io::{self, Write};
 use std::process::{Command, Stdio};
 use std::time::Duration;
 
-/// What the report program writes for a file, and how it ended if not well.
+/// What a program writes for a file, and how it ended if not well.
 pub fn run(program: &str, file: &[u8]) -> Vec<u8> {
     try_run(program, file).unwrap_or_else(|e| format!("{program}: {e}\n").into_bytes())
 }

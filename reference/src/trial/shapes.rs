@@ -85,6 +85,39 @@ impl Shape {
         self
     }
 
+    /// So many more marks, each set into a line.
+    pub fn with_marks(mut self, random: &mut Random, marks: i64) -> Self {
+        for _ in 0..if self.pairs.is_empty() { 0 } else { marks } {
+            let line = random.below(self.pairs.len());
+            self.marks += 1;
+            let to = std::mem::replace(&mut self.pairs[line].1, self.marks);
+            self.pairs.push((self.marks, to));
+        }
+        self
+    }
+
+    /// So many junctions with links between them, and marks set into the links until there are so many.
+    pub fn links(random: &mut Random, junctions: i64, marks: i64) -> Self {
+        let links = Shape::apart(junctions).with_lines(random, 3 * junctions as usize);
+        links.with_marks(random, marks - junctions)
+    }
+
+    /// Rings and tails, each hung at a mark that is there before it.
+    pub fn hung(random: &mut Random, marks: i64) -> Self {
+        let mut shape = Shape::apart(1);
+        while shape.marks < marks {
+            let at = random.within(1, shape.marks);
+            let (first, last) = (shape.marks + 1, marks.min(shape.marks + random.within(1, 3)));
+            shape.pairs.push((at, first));
+            shape.pairs.extend((first..last).map(|mark| (mark, mark + 1)));
+            if !random.once_in(3) {
+                shape.pairs.push((last, at));
+            }
+            shape.marks = last;
+        }
+        shape
+    }
+
     /// Another shape beside this one, as further pieces.
     pub fn beside(mut self, other: Shape) -> Self {
         let first = self.marks;
@@ -119,7 +152,7 @@ impl Shape {
 /// A shape of about so many marks.
 fn one_shape(random: &mut Random, marks: i64) -> Shape {
     let lines = 2 * marks as usize;
-    match random.below(13) {
+    match random.below(16) {
         0 => Shape::apart(marks),
         1 => Shape::chain(marks),
         2 => Shape::star(marks),
@@ -131,6 +164,9 @@ fn one_shape(random: &mut Random, marks: i64) -> Shape {
         8 => Shape::parallel(random.below(lines + 1)),
         9 => Shape::dense(marks.min(33)),
         10 => Shape::tree(random, marks).with_lines(random, marks as usize / 2),
+        11 => Shape::star(marks).doubled(),
+        12 => Shape::hung(random, marks),
+        13 => Shape::links(random, (marks + 2) / 3, marks),
         _ => {
             let count = random.below(lines + 2);
             Shape::apart(marks).with_lines(random, count)
@@ -155,12 +191,15 @@ fn any_shape(random: &mut Random) -> Shape {
 
 /// As large as a book can be.
 fn full_shape(random: &mut Random) -> Shape {
-    match random.below(6) {
+    match random.below(9) {
         0 => Shape::tree(random, 256).with_lines(random, 257),
         1 => Shape::ring(256).doubled(),
         2 => Shape::rings_with_rungs(128, 128).with_lines(random, 128),
         3 => Shape::grid(16, 16).with_lines(random, 32),
         4 => Shape::dense(33),
+        5 => Shape::star(256).doubled(),
+        6 => Shape::hung(random, 256),
+        7 => Shape::links(random, 128, 256),
         _ => Shape::parallel(512).beside(Shape::apart(254)),
     }
     .mixed(random)

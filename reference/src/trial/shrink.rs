@@ -5,7 +5,11 @@ use super::call::{Ask, Call, Kept, Room};
 use super::Book;
 use crate::*;
 use std::ops::Range;
+use std::slice::from_mut;
 use std::time::{Duration, Instant};
+
+/// A call has no more outputs.
+const MOST_OUTPUTS: usize = 4;
 
 /// A way to make a call smaller.
 enum Step {
@@ -19,7 +23,8 @@ enum Step {
     Plain(usize, usize, i64),
     PlainTolerance,
     PlainReport,
-    PlainRoom,
+    /// The room of an output, by its place among them.
+    PlainRoom(usize),
     PlainHeight(usize),
 }
 
@@ -46,7 +51,8 @@ pub fn shrink(call: Call, mut differs: impl FnMut(&Call) -> bool) -> Call {
 /// Every step that may be tried, the largest first and, so that places stay good, from the end.
 fn steps(call: &Call) -> Vec<Step> {
     let (marks, held, lines) = sizes(call);
-    let mut steps = vec![Step::PlainReport, Step::PlainRoom];
+    let mut steps = vec![Step::PlainReport];
+    steps.extend((0..MOST_OUTPUTS).map(Step::PlainRoom));
     for range in ranges(lines) {
         steps.extend([Step::DropLines(range.clone()), Step::DropLoops(range)]);
     }
@@ -84,7 +90,7 @@ fn sizes(call: &Call) -> (i64, usize, usize) {
             let marks = if book.b > MAX_MARKS as i64 { 0 } else { book.b.max(0) };
             (marks, book.held_count(), book.lines_count())
         }
-        Call::Read { file, .. } | Call::Report { file } => match file_counts(file) {
+        Call::Read { file, .. } | Call::Text { file, .. } => match file_counts(file) {
             Some((held, lines)) => (0, held, lines),
             None => (0, 0, 0),
         },
@@ -109,7 +115,9 @@ fn apply(call: &Call, step: &Step) -> Option<Call> {
             let file = apply_to_file(file, step)?;
             Some(Call::Read { file, held_room: *held_room, lines_room: *lines_room })
         }
-        Call::Report { file } => Some(Call::Report { file: apply_to_file(file, step)? }),
+        Call::Text { program, file } => {
+            Some(Call::Text { program: *program, file: apply_to_file(file, step)? })
+        }
     }
 }
 
@@ -148,10 +156,7 @@ fn apply_to_book(book: &mut Book, ask: &mut Ask, step: &Step) -> Option<()> {
             Ask::Rerun { kept, .. } | Ask::Withdraw { kept, .. } => plain_report(kept)?,
             _ => return None,
         },
-        Step::PlainRoom => {
-            let room = room(ask)?;
-            change(room, room.signum())?;
-        }
+        Step::PlainRoom(i) => plain_room(rooms(ask).get_mut(*i)?)?,
         Step::PlainHeight(mark) => match ask {
             Ask::Rate { heights, .. } => change(heights.get_mut(*mark)?, 0)?,
             _ => return None,
@@ -169,13 +174,20 @@ fn plain_report(kept: &mut Kept) -> Option<()> {
     kept.rows.take().map(|_| ())
 }
 
-/// The room of a call's output beyond the answer.
-fn room(ask: &mut Ask) -> Option<&mut Room> {
+/// Off by one place, or exact if it is so already.
+fn plain_room(room: &mut Room) -> Option<()> {
+    let off_by_one = room.signum();
+    change(room, if *room == off_by_one { 0 } else { off_by_one })
+}
+
+/// The rooms of a call's outputs beyond the answer.
+fn rooms(ask: &mut Ask) -> &mut [Room] {
     match ask {
-        Ask::Survey { room } | Ask::Listings { room } | Ask::NotChecked { room } => Some(room),
-        Ask::Listing { room, .. } | Ask::Adjust { room } => Some(room),
-        Ask::Rerun { kept, .. } | Ask::Withdraw { kept, .. } => Some(&mut kept.beyond),
-        Ask::Rate { .. } => None,
+        Ask::Survey { room } | Ask::Listings { room } | Ask::NotChecked { room } => from_mut(room),
+        Ask::Listing { room, .. } | Ask::Adjust { room } => from_mut(room),
+        Ask::Rerun { kept, .. } | Ask::Withdraw { kept, .. } => from_mut(&mut kept.beyond),
+        Ask::Sketch { rooms } => rooms,
+        Ask::Rate { .. } => &mut [],
     }
 }
 

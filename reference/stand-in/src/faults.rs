@@ -65,6 +65,42 @@ fn turned(lines: &[i64]) -> Vec<i64> {
     lines.chunks_exact(LINE).rev().flatten().copied().collect()
 }
 
+/// The book with its withdrawn lines standing.
+fn all_standing(book: Lent) -> Book {
+    let mut standing = Book::of(book);
+    for line in standing.lines.chunks_exact_mut(LINE).filter(|line| line[4] == 0) {
+        line[4] = 1;
+    }
+    standing
+}
+
+/// Sorts the links of a sketch by their junctions, and their lines with them.
+fn sort_by_junctions(links: &mut [i64], run: &mut [i64]) {
+    let mut sorted: Vec<(Vec<i64>, Vec<i64>)> = vec![];
+    let mut begin = 0;
+    for entry in links.chunks(ENTRY) {
+        let end = begin + entry[2] as usize;
+        sorted.push((entry.to_vec(), run[begin..end].to_vec()));
+        begin = end;
+    }
+    sorted.sort_by_key(|(entry, _)| (entry[0], entry[1]));
+    let (entries, lines): (Vec<_>, Vec<_>) = sorted.into_iter().unzip();
+    links.copy_from_slice(&entries.concat());
+    run[..begin].copy_from_slice(&lines.concat());
+}
+
+/// Begins the last loop of a sketch with the line that leaves its mark.
+fn begin_at_mark(entry: &[i64], run: &mut [i64], lines: &[i64]) {
+    let own = run.len() - entry[2] as usize;
+    let leaves = |&signed: &i64| {
+        let line = &lines[LINE * (signed.unsigned_abs() as usize - 1)..];
+        entry[0] == if signed > 0 { line[0] } else { line[1] }
+    };
+    if let Some(first) = run[own..].iter().position(leaves) {
+        run[own..].rotate_left(first);
+    }
+}
+
 impl Level for Faulty {
     fn read(&mut self, file: &[u8], held: &mut [i64], lines: &mut [i64]) -> ReadAnswer {
         let right = self.0.read(file, held, lines);
@@ -169,17 +205,43 @@ impl Level for Faulty {
                 let right = self.0.not_checked(book, &mut [0; MAX_LINES]);
                 Listed { entries: 0, ..right }
             }
-            "not-checked-with-withdrawn" => {
-                let mut standing = book.lines.to_vec();
-                for line in standing.chunks_exact_mut(LINE) {
-                    if line[4] == 0 {
-                        line[4] = 1;
-                    }
-                }
-                self.0.not_checked(Lent { lines: &standing, ..book }, out)
-            }
+            "not-checked-with-withdrawn" => self.0.not_checked(all_standing(book).lent(), out),
             _ => self.0.not_checked(book, out),
         }
+    }
+
+    fn sketch(
+        &mut self,
+        book: Lent,
+        links: &mut [i64],
+        spurs: &mut [i64],
+        loops: &mut [i64],
+        run: &mut [i64],
+    ) -> Sketched {
+        if Faulty::named("sketch-with-withdrawn") {
+            return self.0.sketch(all_standing(book).lent(), links, spurs, loops, run);
+        }
+        let mut right = self.0.sketch(book, links, spurs, loops, run);
+        let [links_end, loops_end] = [right.links, right.loops].map(|count| ENTRY * count as usize);
+        match fault() {
+            "sketch-links-by-junctions" => sort_by_junctions(&mut links[..links_end], run),
+            "sketch-spur-read-to-its-mark" if right.spurs > 0 => spurs[4] *= -1,
+            "sketch-loop-begins-at-its-mark" if right.loops > 0 => {
+                let last = &loops[loops_end - ENTRY..loops_end];
+                begin_at_mark(last, &mut run[..right.run as usize], book.lines);
+            }
+            "sketch-clears-the-rest" if right.number == 0 => loops[loops_end..].fill(0),
+            "sketch-writes-what-fits" if right.number == 10 => links.fill(0),
+            "sketch-takes-a-short-run" if right.number == 10 => {
+                let mut roomy = [0; MAX_LINES];
+                right = self.0.sketch(book, links, spurs, loops, &mut roomy);
+                if right.number == 0 {
+                    run.copy_from_slice(&roomy[..run.len()]);
+                }
+            }
+            _ => {}
+        }
+        right
     }
 
     fn rerun(

@@ -5,3 +5,4 @@
 
 mod exports;
 pub mod faults;
+pub mod program;
