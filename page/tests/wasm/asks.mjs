@@ -2,8 +2,8 @@
 
 import { damageFile, fileOf } from './files.mjs';
 import {
-  EXTREMES, HELD_NUMBERS, LINE_NUMBERS, MOST_DIFFERENCE, MOST_HEIGHT, MOST_HELD, MOST_LINES, MOST_LISTED, MOST_MARKS,
-  ROW_NUMBERS, aroundLimits,
+  ENTRY_NUMBERS, EXTREMES, HELD_NUMBERS, LINE_NUMBERS, MOST_DIFFERENCE, MOST_HEIGHT, MOST_HELD, MOST_LINES, MOST_LISTED,
+  MOST_MARKS, ROW_NUMBERS, aroundLimits,
 } from './limits.mjs';
 
 // The place in a report's row of the count of the loop's lines.
@@ -14,6 +14,7 @@ const NO_ANSWER = 0x5c5c5c5c5c5c5c5cn;
 export async function askAll(comparison, random, book) {
   const report = await survey(comparison, random, book);
   await list(comparison, random, book, report);
+  await sketch(comparison, random, book);
   await adjust(comparison, random, book);
   await correct(comparison, random, book, report);
   await read(comparison, random, fileOf(book));
@@ -31,9 +32,9 @@ function placesFor(random, need) {
 
 /** Surveys with room for any report, then with about as much as this one takes. Gives the report. */
 async function survey(comparison, random, book) {
-  const surveyed = await comparison.ask('level_survey', book, output(ROW_NUMBERS * MOST_LINES));
+  const surveyed = await comparison.ask('level_survey', book, [output(ROW_NUMBERS * MOST_LINES)]);
   const report = surveyed.third().subarray(0, ROW_NUMBERS * Number(surveyed.numbers[2]));
-  await comparison.ask('level_survey', book, output(placesFor(random, report.length)));
+  await comparison.ask('level_survey', book, [output(placesFor(random, report.length))]);
   return report;
 }
 
@@ -42,25 +43,38 @@ async function list(comparison, random, book, report) {
   const counts = Array.from(report).filter((_, place) => place % ROW_NUMBERS === COUNT_IN_ROW).map(Number);
   const all = counts.reduce((sum, count) => sum + count, 0);
   const loop = oneOf(random, counts.length);
-  await comparison.ask('level_listing', book, output(MOST_LINES), loop);
-  await comparison.ask('level_listing', book, output(placesFor(random, counts[loop - 1n] ?? 0)), loop);
+  await comparison.ask('level_listing', book, [output(MOST_LINES)], loop);
+  await comparison.ask('level_listing', book, [output(placesFor(random, counts[loop - 1n] ?? 0))], loop);
   const places = random.onceIn(20) ? MOST_LISTED : placesFor(random, all);
-  await comparison.ask('level_listings', book, output(places));
-  const { numbers } = await comparison.ask('level_not_checked', book, output(MOST_LINES));
-  await comparison.ask('level_not_checked', book, output(placesFor(random, Number(numbers[2]))));
+  await comparison.ask('level_listings', book, [output(places)]);
+  const { numbers } = await comparison.ask('level_not_checked', book, [output(MOST_LINES)]);
+  await comparison.ask('level_not_checked', book, [output(placesFor(random, Number(numbers[2])))]);
+}
+
+/**
+ * Sketches with room for any sketch, then with as much as this one takes in its links, spurs, loops and run, and in one
+ * of the four with about as much.
+ */
+async function sketch(comparison, random, book) {
+  const most = [ENTRY_NUMBERS, ENTRY_NUMBERS, ENTRY_NUMBERS, 1].map((numbers) => numbers * MOST_LINES);
+  const { numbers: [, , links, spurs, loops, run] } = await comparison.ask('level_sketch', book, most.map(output));
+  const need = [...[links, spurs, loops].map((entries) => ENTRY_NUMBERS * Number(entries)), Number(run)];
+  const other = random.below(need.length);
+  const lent = need.map((places, slice) => (slice === other ? placesFor(random, places) : places));
+  await comparison.ask('level_sketch', book, lent.map(output));
 }
 
 /** Adjusts, and asks the rate of a line by the adjusted heights or by any. */
 async function adjust(comparison, random, book) {
   const marks = Number(BigInt.asUintN(9, book.b));
   const places = random.onceIn(8) ? random.pick([marks - 1, 0]) : random.pick([MOST_MARKS, marks, marks + 3]);
-  const adjusted = await comparison.ask('level_adjust', book, output(places));
+  const adjusted = await comparison.ask('level_adjust', book, [output(places)]);
   const heights = adjusted.numbers[0] === 0n
     ? adjusted.third().subarray(0, marks)
     : BigInt64Array.from({ length: marks }, () => BigInt(random.within(-MOST_HEIGHT, MOST_HEIGHT)));
   if (random.onceIn(6)) random.replaceOne(heights, [aroundLimits(-MOST_HEIGHT, MOST_HEIGHT)]);
   const lent = random.onceIn(15) ? heights.subarray(1) : heights;
-  await comparison.ask('level_rate', book, lent, lineNumber(random, book));
+  await comparison.ask('level_rate', book, [lent], lineNumber(random, book));
 }
 
 /** Corrections one after the other, each on the book and the kept report that the one before it left. */
@@ -70,7 +84,7 @@ async function correct(comparison, random, book, report) {
   for (let left = random.pick([2, 2, 2, 8]); left > 0; left--) {
     const name = random.pick(['level_rerun', 'level_withdraw']);
     const [line, difference] = [lineNumber(random, book), newDifference(random)];
-    const corrected = await comparison.ask(name, { ...book, lines }, kept, line, difference);
+    const corrected = await comparison.ask(name, { ...book, lines }, [kept], line, difference);
     lines = corrected.lines();
     kept = corrected.third();
   }
@@ -106,6 +120,6 @@ async function read(comparison, random, file) {
   for (const one of [file, damageFile(random, file)]) {
     const held = output(random.onceIn(8) ? random.below(8) : HELD_NUMBERS * MOST_HELD);
     const lines = output(random.onceIn(8) ? random.below(20) : LINE_NUMBERS * MOST_LINES);
-    await comparison.ask('level_read', { b: 0n, t: 0n, held, lines }, one);
+    await comparison.ask('level_read', { b: 0n, t: 0n, held, lines }, [one]);
   }
 }

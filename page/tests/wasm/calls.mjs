@@ -1,61 +1,70 @@
 // The requests of reference/server/server.c and their answers, as bytes.
 //
-// A request is eight numbers (the call, b, t, loop or line, difference, and the counts of three slices), then the
-// slices: held, lines, and the one that is left. Of level_read that one is the file, in bytes; all else is 64-bit
-// numbers, lowest byte first, as this processor and the module have them. An answer is eight numbers (up to six of the
-// call's answer, and 1 if the call touched nothing but its outputs), then the slices as they are after the call.
+// A request is eleven numbers (the call, b, t, loop or line, difference, and the counts of six slices), then the
+// slices: held, lines, and those that are left in the order of the call, one to four of them; the others have no
+// elements. Of level_read the third is the file, in bytes; all else is 64-bit numbers, lowest byte first, as this
+// processor and the module have them. An answer is eleven numbers (up to six of the call's answer, 1 if the call
+// touched nothing but its outputs, and four zeros), then the slices as they are after the call.
 
 export const NUMBER_BYTES = 8;
-export const HEAD_BYTES = 8 * NUMBER_BYTES;
+export const SLICE_NAMES = ['held', 'lines', 'third', 'fourth', 'fifth', 'sixth'];
+export const SLICES = SLICE_NAMES.length;
+// Where the counts of the slices begin in a request, and how many numbers a request or an answer begins with.
+const COUNTS = 5;
+const HEAD_NUMBERS = COUNTS + SLICES;
+export const HEAD_BYTES = HEAD_NUMBERS * NUMBER_BYTES;
 export const MOST_SLICE_BYTES = 1 << 20;
-export const MOST_REQUEST_BYTES = HEAD_BYTES + 3 * MOST_SLICE_BYTES;
+export const MOST_REQUEST_BYTES = HEAD_BYTES + SLICES * MOST_SLICE_BYTES;
 
-const HELD = 0;
-const LINES = 1;
-const THIRD = 2;
+const [HELD, LINES, THIRD, FOURTH, FIFTH, SIXTH] = SLICE_NAMES.keys();
 export const READ = 0;
 
 // The place in an answer's head of the 1 that says: nothing but the outputs was touched.
 export const UNTOUCHED = 6;
 
 // By their numbers in a request: how many numbers each call answers, which slices it may write, and its arguments in
-// the order of include/level.h. There `book` is b, t, held and lines, and a slice is its address and its count.
+// the order of include/level.h. There `book` is b, t, held and lines, `more` the slices after them, and a slice is its
+// address and its count.
 export const CALLS = [
   {
     name: 'level_read', numbers: 6, writes: [HELD, LINES],
-    argumentsOf: ({ held, lines, third }) => [...third, ...held, ...lines],
+    argumentsOf: ({ held, lines, more: [third] }) => [...third, ...held, ...lines],
   },
   {
     name: 'level_survey', numbers: 4, writes: [THIRD],
-    argumentsOf: ({ book, third }) => [...book, ...third],
+    argumentsOf: ({ book, more: [third] }) => [...book, ...third],
   },
   {
     name: 'level_listing', numbers: 3, writes: [THIRD],
-    argumentsOf: ({ book, third, number }) => [...book, number, ...third],
+    argumentsOf: ({ book, more: [third], number }) => [...book, number, ...third],
   },
   {
     name: 'level_listings', numbers: 3, writes: [THIRD],
-    argumentsOf: ({ book, third }) => [...book, ...third],
+    argumentsOf: ({ book, more: [third] }) => [...book, ...third],
   },
   {
     name: 'level_not_checked', numbers: 3, writes: [THIRD],
-    argumentsOf: ({ book, third }) => [...book, ...third],
+    argumentsOf: ({ book, more: [third] }) => [...book, ...third],
+  },
+  {
+    name: 'level_sketch', numbers: 6, writes: [THIRD, FOURTH, FIFTH, SIXTH],
+    argumentsOf: ({ book, more }) => [...book, ...more.flat()],
   },
   {
     name: 'level_rerun', numbers: 4, writes: [LINES, THIRD],
-    argumentsOf: ({ book, third, number, difference }) => [...book, ...third, number, difference],
+    argumentsOf: ({ book, more: [third], number, difference }) => [...book, ...third, number, difference],
   },
   {
     name: 'level_withdraw', numbers: 4, writes: [LINES, THIRD],
-    argumentsOf: ({ book, third, number }) => [...book, ...third, number],
+    argumentsOf: ({ book, more: [third], number }) => [...book, ...third, number],
   },
   {
     name: 'level_adjust', numbers: 3, writes: [THIRD],
-    argumentsOf: ({ book, third }) => [...book, ...third],
+    argumentsOf: ({ book, more: [third] }) => [...book, ...third],
   },
   {
     name: 'level_rate', numbers: 6, writes: [],
-    argumentsOf: ({ book, third, number }) => [...book, ...third, number],
+    argumentsOf: ({ book, more: [third], number }) => [...book, ...third, number],
   },
 ];
 
@@ -64,15 +73,20 @@ export function callNumber(name) {
   return CALLS.findIndex((call) => call.name === name);
 }
 
-/** The eight numbers at the start of a request or an answer. */
+/** The numbers at the start of a request or an answer. */
 export function headOf(bytes) {
-  return Array.from({ length: 8 }, (_, place) => bytes.readBigInt64LE(NUMBER_BYTES * place));
+  return Array.from({ length: HEAD_NUMBERS }, (_, place) => bytes.readBigInt64LE(NUMBER_BYTES * place));
 }
 
-/** Where the three slices of a request lie, and its answer's too: [start, end] of each, in bytes. */
+/** The counts of the slices, of a request's head. */
+export function countsOf(head) {
+  return head.slice(COUNTS);
+}
+
+/** Where the slices of a request lie, and its answer's too: [start, end] of each, in bytes. */
 export function slicesOf(head) {
   let end = HEAD_BYTES;
-  return head.slice(5).map((count, slice) => {
+  return countsOf(head).map((count, slice) => {
     const size = slice === THIRD && head[0] === BigInt(READ) ? 1 : NUMBER_BYTES;
     if (count < 0n || count > BigInt(MOST_SLICE_BYTES / size)) throw new Error(`a slice of ${count} is asked for`);
     const start = end;
@@ -81,11 +95,12 @@ export function slicesOf(head) {
   });
 }
 
-/** The request that lends a book and a third slice to a call; held, lines and third are typed arrays. */
-export function requestOf(call, { b, t, held, lines }, third, number = 0n, difference = 0n) {
-  const counts = [held, lines, third].map((slice) => BigInt(slice.length));
+/** The request that lends a book and the slices after it to a call; held, lines and those are typed arrays. */
+export function requestOf(call, { b, t, held, lines }, more, number = 0n, difference = 0n) {
+  const lent = [held, lines, ...more];
+  const counts = Array.from({ length: SLICES }, (_, slice) => BigInt(lent[slice]?.length ?? 0));
   const head = BigInt64Array.of(BigInt(call), b, t, number, difference, ...counts);
-  return Buffer.concat([head, held, lines, third].map(bytesOf));
+  return Buffer.concat([head, ...lent].map(bytesOf));
 }
 
 function bytesOf(numbers) {

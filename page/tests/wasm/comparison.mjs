@@ -14,18 +14,18 @@ export class Comparison {
   }
 
   /** Makes a call on both. Gives the core's answer: its numbers, and lines and the third slice after the call. */
-  async ask(name, book, third, number, difference) {
+  async ask(name, book, more, number, difference) {
     const call = callNumber(name);
-    const request = requestOf(call, book, third, number, difference);
+    const request = requestOf(call, book, more, number, difference);
     const answer = this.answer(request);
     await this.native.compare(request, answer);
     const numbers = headOf(answer);
     this.count(call, numbers[0]);
-    const [, lines, after] = slicesOf(headOf(request));
+    const [, lines, third] = slicesOf(headOf(request));
     return {
       numbers,
       lines: () => numbersOf(answer.subarray(...lines)),
-      third: () => numbersOf(answer.subarray(...after)),
+      third: () => numbersOf(answer.subarray(...third)),
     };
   }
 

@@ -2,7 +2,9 @@
 // between guards, and slices that are lent to be read are compared afterwards.
 
 import { readFileSync } from 'node:fs';
-import { CALLS, HEAD_BYTES, MOST_SLICE_BYTES, NUMBER_BYTES, UNTOUCHED, headOf, slicesOf } from './calls.mjs';
+import {
+  CALLS, HEAD_BYTES, MOST_SLICE_BYTES, NUMBER_BYTES, SLICES, UNTOUCHED, countsOf, headOf, slicesOf,
+} from './calls.mjs';
 
 const GUARD_BYTES = 64;
 const GUARD_BYTE = 0xa5;
@@ -65,13 +67,13 @@ function layOutRooms(exports, sizes) {
 export class Core {
   constructor(exports) {
     this.exports = exports;
-    const [answer, ...slices] = layOutRooms(exports, [HEAD_BYTES, ...Array(3).fill(MOST_SLICE_BYTES)]);
+    const [answer, ...slices] = layOutRooms(exports, [HEAD_BYTES, ...Array(SLICES).fill(MOST_SLICE_BYTES)]);
     this.answerRoom = answer;
     this.sliceRooms = slices;
     this.head = Buffer.alloc(HEAD_BYTES);
   }
 
-  /** Answers a request in parts: head, held, lines, third. They are the answer's until the next request. */
+  /** Answers a request in parts: its head and the slices. They are the answer's until the next request. */
   answer(request) {
     const head = headOf(request);
     const call = CALLS[head[0]];
@@ -88,10 +90,11 @@ export class Core {
     return [this.head, ...this.sliceRooms.map((room) => room.bytes())];
   }
 
-  make(call, [, b, t, number, difference, ...counts]) {
-    const [held, lines, third] = this.sliceRooms.map((room, slice) => [room.start, counts[slice]]);
+  make(call, head) {
+    const [, b, t, number, difference] = head;
+    const [held, lines, ...more] = countsOf(head).map((count, slice) => [this.sliceRooms[slice].start, count]);
     const book = [b, t, ...held, ...lines];
-    const lent = call.argumentsOf({ book, held, lines, third, number, difference });
+    const lent = call.argumentsOf({ book, held, lines, more, number, difference });
     try {
       this.exports[call.name](this.answerRoom.start, ...lent);
     } catch (trap) {

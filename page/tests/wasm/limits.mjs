@@ -11,10 +11,11 @@ export const MOST_LENGTH = 100_000;
 export const MOST_HELD_HEIGHT = 10_000_000_000;
 export const MOST_HEIGHT = 50_000_000_000;
 
-// How many numbers a held entry, a line and a report's row have.
+// How many numbers a held entry, a line, a report's row and an entry of a sketch have.
 export const HELD_NUMBERS = 2;
 export const LINE_NUMBERS = 5;
 export const ROW_NUMBERS = 5;
+export const ENTRY_NUMBERS = 5;
 
 // The least and the most that 64 bits hold, and two that often stand for nothing.
 export const EXTREMES = [-(2n ** 63n), 2n ** 63n - 1n, -1n, 0n];

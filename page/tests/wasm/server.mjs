@@ -23,7 +23,7 @@ class Requests {
     this.filled -= this.taken;
     this.taken = 0;
     if (!this.fill(HEAD_BYTES)) return null;
-    const [, , [, end]] = slicesOf(headOf(this.block));
+    const [, end] = slicesOf(headOf(this.block)).at(-1);
     this.fill(end);
     this.taken = end;
     return this.block.subarray(0, end);

@@ -1,6 +1,6 @@
 // A call and its two answers in words, for people.
 
-import { CALLS, NUMBER_BYTES, READ, headOf, numbersOf, slicesOf } from './calls.mjs';
+import { CALLS, NUMBER_BYTES, READ, SLICE_NAMES, headOf, numbersOf, slicesOf } from './calls.mjs';
 import { HELD_NUMBERS, LINE_NUMBERS } from './limits.mjs';
 
 const MOST_PLACES = 8;
@@ -9,13 +9,20 @@ const MOST_PLACES = 8;
 export function callInWords(request) {
   const head = headOf(request);
   const [call, b, t, number, difference] = head;
-  const [held, lines, third] = slicesOf(head).map(([start, end]) => request.subarray(start, end));
+  const [held, lines, ...more] = slicesOf(head).map(([start, end]) => request.subarray(start, end));
   return [
     `${CALLS[call].name}: b ${b}, t ${t}, loop or line ${number}, difference ${difference}`,
     ...numbersInWords('held', numbersOf(held), HELD_NUMBERS),
     ...numbersInWords('lines', numbersOf(lines), LINE_NUMBERS),
-    ...(call === BigInt(READ) ? bytesInWords(third) : numbersInWords('third', numbersOf(third), LINE_NUMBERS)),
+    ...(call === BigInt(READ) ? bytesInWords(more[0]) : moreInWords(more)),
   ].join('\n');
+}
+
+/** The slices after held and lines; one without elements is not named. */
+function moreInWords(more) {
+  const names = SLICE_NAMES.slice(-more.length);
+  return more.flatMap((slice, place) => (
+    slice.length > 0 ? numbersInWords(names[place], numbersOf(slice), LINE_NUMBERS) : []));
 }
 
 /** The call on which core and archive differ, both answers, and the first places where they do. */
@@ -48,12 +55,11 @@ function bytesInWords(file) {
 
 /** The first bytes that are not the same, each with the slice and the number that it is in. */
 function placesThatDiffer(answer, native, slices) {
-  const names = ['held', 'lines', 'third'];
   const rows = [];
   for (let byte = 0; byte < answer.length && rows.length < MOST_PLACES; byte++) {
     if (answer[byte] === native[byte]) continue;
     const slice = slices.findIndex(([start, end]) => byte >= start && byte < end);
-    const [name, start] = slice < 0 ? ['answer', 0] : [names[slice], slices[slice][0]];
+    const [name, start] = slice < 0 ? ['answer', 0] : [SLICE_NAMES[slice], slices[slice][0]];
     const place = `${name}, byte ${byte - start} (number ${Math.floor((byte - start) / NUMBER_BYTES) + 1})`;
     rows.push(`  ${place}: wasm ${answer[byte]}, archive ${native[byte]}`);
   }
