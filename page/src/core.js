@@ -2,7 +2,10 @@
 // out as they are: nothing is worked out here, and nothing is tested.
 
 // How much of each the core is lent, in numbers: as much as the largest book needs.
-const ROOM = { answer: 8, file: 16_384 / 8, held: 512, lines: 2_560, rows: 2_560, entries: 65_792, heights: 256 };
+const ROOM = {
+  answer: 8, file: 16_384 / 8, held: 512, lines: 2_560, rows: 2_560, entries: 65_792, heights: 256,
+  links: 2_560, spurs: 2_560, loops: 2_560, run: 512,
+};
 const NUMBER = 8;
 const PAGE = 65_536;
 
@@ -120,6 +123,29 @@ class Core {
   listed([number, place, entries]) {
     const list = Array.from(this.given('entries', count(entries)), count);
     return { number: count(number), place: count(place), list };
+  }
+
+  /** The junction sketch: links, spurs and loops, each entry with its lines as they are run. */
+  sketch(book) {
+    const outs = ['links', 'spurs', 'loops', 'run'].flatMap(name => this.out(name));
+    const [number, place, links, spurs, loops, run] = this.call('level_sketch', [...this.lendBook(book), ...outs], 6);
+    // The run has the lines of all links, then of all spurs, then of all loops, and so they are taken from it.
+    const left = Array.from(this.given('run', count(run)), count);
+    return {
+      number: count(number),
+      place: count(place),
+      links: this.sketched('links', links, left),
+      spurs: this.sketched('spurs', spurs, left),
+      loops: this.sketched('loops', loops, left),
+    };
+  }
+
+  sketched(name, entries, left) {
+    const numbers = this.given(name, 5 * count(entries));
+    return Array.from({ length: count(entries) }, (_, i) => {
+      const [first, last, lines, length, difference] = numbers.subarray(5 * i);
+      return { first: count(first), last: count(last), count: count(lines), length, difference, lines: left.splice(0, count(lines)) };
+    });
   }
 
   adjust(book) {

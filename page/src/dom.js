@@ -34,13 +34,25 @@ export const chip = (meaning, words) => make('span', { class: `chip ${meaning}` 
 
 export const dim = words => make('span', { class: 'dim' }, words);
 
+/** Words where there is nothing to show. */
+export const none = words => make('p', { class: 'none' }, words);
+
+/** A number with its last three decimals paler. */
+export const paler = text => [text.slice(0, -3), make('span', { class: 'fine' }, text.slice(-3))];
+
 export const fill = (parent, ...children) => parent.replaceChildren(...children.flat(Infinity).filter(isThere));
+
+/** Whether an element does not show this yet, told by a text that says all it shows. From now on it does. */
+function isNew(element, shown) {
+  const signature = JSON.stringify(shown, (_, each) => (typeof each === 'bigint' ? String(each) : each));
+  if (element.signature === signature) return false;
+  element.signature = signature;
+  return true;
+}
 
 /** Fills an element with what is made, unless it already shows the same: that would be laid out and painted again for nothing. */
 export function refill(parent, shown, made) {
-  const signature = JSON.stringify(shown);
-  if (parent.signature === signature) return false;
-  parent.signature = signature;
+  if (!isNew(parent, shown)) return false;
   fill(parent, made());
   return true;
 }
@@ -60,16 +72,14 @@ export function setText(element, text) {
 }
 
 /**
- * Writes rows into a table's body, and only those that differ from what was written there before: each has a signature, a text that
- * says all that it shows. Rows are copies of a blank one, which is quicker than making each anew.
+ * Writes rows into a table's body, of all that each shows, and only those that differ from what was written there before. Rows are
+ * copies of a blank one, which is quicker than making each anew.
  */
-export function writeRows(body, signatures, blank, write) {
-  while (body.rows.length > signatures.length) body.lastElementChild.remove();
-  signatures.forEach((signature, i) => {
+export function writeRows(body, shown, blank, write) {
+  while (body.rows.length > shown.length) body.lastElementChild.remove();
+  shown.forEach((each, i) => {
     const row = body.rows[i] || body.appendChild(blank.cloneNode(true));
-    if (row.signature === signature) return;
-    row.signature = signature;
-    write(row, i);
+    if (isNew(row, each)) write(row, i);
   });
 }
 

@@ -47,12 +47,11 @@ export function bowsOf({ lines, places, unit }) {
   return bows;
 }
 
-/** What is known of each line: whether it is withdrawn, not checked, wrong or chosen, and in which sense a chosen loop runs it. */
-export function lineLooks({ book, results, chosen }) {
+/** What is known of each line: whether it is withdrawn, not checked, wrong or chosen, and in which sense a chosen run has it. */
+export function lineLooks({ book, results, chosen, run }) {
   const open = new Set(results.done ? results.notChecked : []);
   const wrong = new Set(wrongCells(results).filter(cell => cell.table === 'lines').map(cell => cell.row));
-  const loop = results.done && results.loops[chosen.loop];
-  const sense = new Map(loop ? loop.lines.map(line => [rowOf(line), line]) : []);
+  const sense = new Map(run.map(line => [rowOf(line), line]));
   return row => ({
     isWithdrawn: !book.lines[row].standing,
     isOpen: open.has(row + 1),
@@ -69,7 +68,7 @@ function drawBow({ row, bow }, { isWithdrawn, isOpen, isWrong, isHot }) {
   return [line((isWithdrawn ? ' withdrawn' : isWrong ? ' wrong' : '') + (isHot ? ' hot' : ''))];
 }
 
-/** The sense of levelling; in a chosen loop, the sense in which it is run. */
+/** The sense of levelling; in what is chosen, the sense in which it is run. */
 function drawArrow({ unit }, { bow, length, group }, { isWithdrawn, isOpen, isHot, isBack }) {
   if (length < 3.2 * RADIUS * unit || group) return [];
   const u = isBack ? 0.28 : 0.72;

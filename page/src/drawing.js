@@ -40,7 +40,7 @@ const group = parts => draw('g', {}, parts);
 
 /**
  * The picture of a scene: book and results, the comparison with the start; lines [{ row, from, to }] and the places of their marks,
- * both from 0; what is chosen; what the labels say; and the unit, how large signs and words are.
+ * both from 0; what is chosen, and the lines that it runs; what the labels say; and the unit, how large signs and words are.
  */
 export function pictureOf(given) {
   const scene = { ...given, bows: bowsOf(given) };

@@ -1,20 +1,14 @@
-// The panel of the adjusted heights, corrections and rates. It is written when it comes into sight: numbers of a large book come
-// sooner without it.
+// The panel of the adjusted heights, corrections and rates.
 import { cellOf, groups } from './book.js';
 import { goTo } from './cells.js';
 import { count } from './core.js';
 import { edit, present, sinceStart } from './desk.js';
-import { button, byId, chip, fill, make, tableHead } from './dom.js';
+import { button, byId, chip, fill, make, none, paler, tableHead } from './dom.js';
+import { whenSeen } from './insight.js';
 import { strong } from './notice.js';
 import { heightsWords } from './refusals.js';
 import { metres, millimetres, plural, rateText } from './text.js';
 
-const NEAR = '300px';
-let isSeen = false;
-let isStale = true;
-
-/** Metres with the last three decimals paler. */
-const paler = text => [text.slice(0, -3), make('span', { class: 'fine' }, text.slice(-3))];
 const cell = (title, ...parts) => make('td', { 'data-title': title }, parts);
 
 /** Adds an entry for the lowest mark of a piece that has no held mark; its height is the user's to type. */
@@ -74,14 +68,10 @@ function linesTable({ numbers, rates }) {
   return make('table', { class: rates ? 'stacked' : 'stacked paper-only' }, head, make('tbody', {}, rows));
 }
 
-/** Writes the panel, if it is not up to date. */
-export function writeHeights() {
-  if (!isStale) return;
-  isStale = false;
-  const step = present();
+function writeHeights(step) {
   const { results } = step;
   if (!results.done) {
-    fill(byId('heights-box'), make('p', { class: 'none' }, 'No heights are shown while something in the book is wrong.'));
+    fill(byId('heights-box'), none('No heights are shown while something in the book is wrong.'));
     return;
   }
   const comparison = sinceStart();
@@ -90,15 +80,6 @@ export function writeHeights() {
     make('div', { class: 'beside' }, !isRefused && marksTable(step, comparison), linesTable(results)));
 }
 
-export function showHeights() {
-  isStale = true;
-  if (isSeen) writeHeights();
-}
-
-export function wireHeights() {
-  const watcher = new IntersectionObserver(entries => {
-    isSeen = entries[entries.length - 1].isIntersecting;
-    if (isSeen) writeHeights();
-  }, { rootMargin: NEAR });
-  watcher.observe(byId('heights'));
-}
+const panel = whenSeen('heights', writeHeights);
+export const showHeights = panel.show;
+export const wireHeights = panel.wire;

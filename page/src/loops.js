@@ -1,7 +1,7 @@
 // The panel of the loops: verdicts, misclosures and lines, and beside a start what still stands.
-import { choose, chosen, onChoice } from './choice.js';
-import { makeStart, present, sinceStart } from './desk.js';
-import { byId, chip, dim, draw, fill, make, refill, setText, tableHead, writeRows } from './dom.js';
+import { choosableRows } from './choosable.js';
+import { makeStart, sinceStart } from './desk.js';
+import { byId, chip, dim, draw, fill, make, none, refill, setText, tableHead, writeRows } from './dom.js';
 import { marksOf } from './results.js';
 import { changes, tally } from './since.js';
 import { millimetres, named, signedLine, size } from './text.js';
@@ -9,6 +9,8 @@ import { millimetres, named, signedLine, size } from './text.js';
 const MANY_OPEN = 14;
 const SIGNS = { stands: '= stands', changed: '≠ changed', new: '+ new', gone: '− gone' };
 const BAR = { width: 86, allowed: 40 };
+
+const chosenLoop = choosableRows('loops-box', 'loop');
 
 const COLUMNS = [
   ['loop', 'Loop'], ['verdict', ''], ['since', ''], ['misclosure', 'Misclosure mm'], ['allowed', 'Allowed ± mm'], ['bar', ''],
@@ -72,7 +74,9 @@ function writeLoopRow(step, comparison, row, i) {
 function writeGoneRow({ start }, row, i) {
   const loop = start.loops[i];
   delete row.dataset.loop;
-  row.classList.add('gone');
+  // It may have been a loop that was chosen.
+  row.removeAttribute('tabindex');
+  row.className = 'gone';
   const cellOf = writeLoop(row, loop, `was loop ${i + 1}`);
   setText(cellOf('loop').firstElementChild, '');
   refill(cellOf('verdict'), `was ${loop.over}`, () => (loop.over ? 'was OVER' : 'was within'));
@@ -80,19 +84,6 @@ function writeGoneRow({ start }, row, i) {
   writeBar(row.querySelector('svg'), null);
   fill(cellOf('since'), chip('gone', SIGNS.gone));
 }
-
-/** The row that the tab key reaches, and the one that is chosen. */
-function markChosen() {
-  const rows = byId('loops-box').querySelectorAll('tr[data-loop]');
-  const reached = rows[chosen.loop] || rows[0];
-  for (const row of rows) {
-    const wanted = row === reached ? 0 : -1;
-    if (row.getAttribute('tabindex') !== String(wanted)) row.tabIndex = wanted;
-    row.classList.toggle('chosen', row === rows[chosen.loop]);
-  }
-}
-
-const signature = shown => JSON.stringify(shown, (_, each) => (typeof each === 'bigint' ? String(each) : each));
 
 /** The table's body, under a head that fits. */
 function tableFor(comparison) {
@@ -110,21 +101,19 @@ function showTable(step, comparison) {
   const { loops, numbers } = step.results;
   const { start } = step;
   const gone = comparison ? comparison.gone : [];
-  const signatures = [
+  const shown = [
     ...loops.map((loop, i) => {
       const since = comparison && comparison.loops[i];
-      return signature([i, loop, marksOf(numbers, loop.lines), since, since && start.loops[since.was]]);
+      return [i, loop, marksOf(numbers, loop.lines), since, since && start.loops[since.was]];
     }),
-    ...gone.map(i => signature(['gone', i, start.loops[i]])),
+    ...gone.map(i => ['gone', i, start.loops[i]]),
   ];
-  writeRows(tableFor(comparison), signatures, blankRow(comparison !== null), (row, i) => {
+  writeRows(tableFor(comparison), shown, blankRow(comparison !== null), (row, i) => {
     if (i < loops.length) writeLoopRow(step, comparison, row, i);
     else writeGoneRow(step, row, gone[i - loops.length]);
   });
-  markChosen();
+  chosenLoop.mark();
 }
-
-const none = words => make('p', { class: 'none' }, words);
 
 /** The corrections since the start, and how many loops stand. */
 function startParts({ log, results }, counts) {
@@ -157,30 +146,7 @@ export function showLoops(step) {
   } else showTable(step, comparison);
 }
 
-/** Chooses a loop; once more, none. */
-export const toggleLoop = i => choose({ loop: i === chosen.loop ? -1 : i, line: -1 });
-
-const arrows = { ArrowDown: 1, ArrowUp: -1 };
-
-function onKey(event) {
-  const row = event.target.closest('tr[data-loop]');
-  if (!row) return;
-  const i = [...row.parentNode.children].indexOf(row);
-  const next = i + (arrows[event.key] || 0);
-  if (event.key === 'Enter' || event.key === ' ') toggleLoop(i);
-  else if (next !== i && next >= 0 && next < present().results.loops.length) choose({ loop: next, line: -1 });
-  else return;
-  event.preventDefault();
-  byId('loops-box').querySelector('tr[tabindex="0"]').focus();
-}
-
 export function wireLoops() {
-  const box = byId('loops-box');
   byId('restart').addEventListener('click', makeStart);
-  box.addEventListener('keydown', onKey);
-  box.addEventListener('click', event => {
-    const row = event.target.closest('tr[data-loop]');
-    if (row) toggleLoop([...row.parentNode.children].indexOf(row));
-  });
-  onChoice(markChosen);
+  chosenLoop.wire();
 }

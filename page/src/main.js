@@ -11,16 +11,23 @@ import { wireFiles } from './files.js';
 import { keepFocus, wireFocus } from './focus.js';
 import { showGlance } from './glance.js';
 import { showHeights, wireHeights } from './heights.js';
+import { wireInsight } from './insight.js';
 import { wireKeys } from './keys.js';
 import { showLoops, wireLoops } from './loops.js';
 import { showNetwork, wireNetwork } from './network.js';
 import { strong } from './notice.js';
 import { wirePaper } from './paper.js';
 import { showSheet, wireSheet } from './sheet.js';
+import { showSketch, wireSketch } from './sketch.js';
 import { showTrouble } from './trouble.js';
 
-const SHOWN = [showBar, showCorrection, showTrouble, showGlance, showEntry, showLoops, showNetwork, showHeights, showSheet, keepFocus];
-const WIRED = [wireFocus, wireBar, wireEntry, wireFiles, wireKeys, wireLoops, wireNetwork, wireHeights, wireSheet, wirePaper, wireDrafts];
+const SHOWN = [
+  showBar, showCorrection, showTrouble, showGlance, showEntry, showLoops, showNetwork, showSketch, showHeights, showSheet, keepFocus,
+];
+const WIRED = [
+  wireFocus, wireBar, wireEntry, wireFiles, wireKeys, wireLoops, wireNetwork, wireSketch, wireHeights, wireSheet, wirePaper,
+  wireDrafts, wireInsight,
+];
 
 /** Bytes that the page was built with. */
 const inside = text => Uint8Array.from(atob(text), letter => letter.charCodeAt(0));

@@ -2,14 +2,14 @@
 // of a large book waits until nothing has changed for a while.
 import { goTo } from './cells.js';
 import { cellOf } from './book.js';
-import { choose, chosen, onChoice } from './choice.js';
+import { NOTHING, choose, chosen, onChoice, toggle } from './choice.js';
 import { present, sinceStart } from './desk.js';
 import { byId, draw, fill, make, refill } from './dom.js';
 import { MARGIN, pictureOf } from './drawing.js';
 import { drawable } from './drawing-lines.js';
 import { boxAround } from './geometry.js';
+import { entriesOf, sketchOf } from './junctions.js';
 import { placeMarks } from './layout.js';
-import { toggleLoop } from './loops.js';
 import { marksOf } from './results.js';
 
 const MOST_MARKS = 256;
@@ -79,7 +79,14 @@ const panel = () => ({
   height: Math.max(380, Math.min(620, innerHeight * 0.58)),
 });
 
-function drawInto(size) {
+/** The lines of the loop or of the entry of the sketch that is chosen, as it runs them. */
+function chosenRun({ results }, { loop, entry }) {
+  if (!results.done) return [];
+  const run = entry < 0 ? results.loops[loop] : entriesOf(sketchOf(results))[entry];
+  return run ? run.lines : [];
+}
+
+function drawInto(size, seen) {
   clearTimeout(timer);
   timer = 0;
   const step = present();
@@ -92,13 +99,14 @@ function drawInto(size) {
   // Marks and labels keep a readable size, however far apart they stand.
   const unit = Math.max(0.5, Math.min(1.1, view.fit.scale ** 0.55));
   const places = view.places.map(toPoint);
-  fill(byId('svgbox'), pictureOf({ book, results, comparison: sinceStart(), lines, places, chosen, labels, unit }));
+  const run = chosenRun(step, seen);
+  fill(byId('svgbox'), pictureOf({ book, results, comparison: sinceStart(), lines, places, chosen: seen, run, labels, unit }));
 }
 
-export const drawPicture = () => drawInto(panel());
+export const drawPicture = () => drawInto(panel(), chosen);
 
-/** At the width of a sheet. */
-export const drawForPaper = () => drawInto(PAPER);
+/** At the width of a sheet. What is chosen is not seen there: it would lie over the dashes of a line that is not checked. */
+export const drawForPaper = () => drawInto(PAPER, NOTHING);
 
 function drawSoon() {
   const { marks, lines } = drawable(present().results, MOST_MARKS);
@@ -193,7 +201,7 @@ function onKey(event) {
 function onClick({ target }) {
   const { line, loop } = target.dataset;
   if (line !== undefined) goTo(cellOf('lines', Number(line), 'difference'));
-  else if (loop !== undefined) toggleLoop(Number(loop));
+  else if (loop !== undefined) toggle('loop', Number(loop));
 }
 
 function zoom(by) {

@@ -2,7 +2,7 @@
 import { count } from './core.js';
 import { present } from './desk.js';
 import { byId, fill, make, tableHead } from './dom.js';
-import { writeHeights } from './heights.js';
+import { writeUnseen } from './insight.js';
 import { drawForPaper, drawPicture } from './network.js';
 import { named, plural } from './text.js';
 
@@ -43,7 +43,7 @@ function fieldSheet({ name, book, results }) {
 
 export function wirePaper() {
   addEventListener('beforeprint', () => {
-    writeHeights();
+    writeUnseen();
     drawForPaper();
     fill(byId('paper'), head(present()));
     fill(byId('field-sheet'), fieldSheet(present()));

@@ -1,18 +1,21 @@
-// The report as text: what the report program and the heights program print for this book. They cannot be told of withdrawn lines;
-// the page shows those too.
+// The report as text: what the report program, the sketch program and the heights program print for this book. They cannot be told of
+// withdrawn lines; the page shows those too.
 import { groups } from './book.js';
 import { count } from './core.js';
 import { present } from './desk.js';
 import { byId } from './dom.js';
+import { sketchOf } from './junctions.js';
 import { metres, millimetres, rateText } from './text.js';
 
 const COPIED_FOR = 1_500;
 
 const right = (text, width) => String(text).padStart(width);
 
+const STOPPED = 'THE CORE STOPPED\n';
+
 /** What the report program prints. */
 function reportText({ done, faults, stopped, refusal, numbers, pieces, loops, notChecked }) {
-  if (stopped) return 'THE CORE STOPPED\n';
+  if (stopped) return STOPPED;
   if (!done) return faults.length > 0 ? 'CANNOT BE READ\n' : `REFUSED ${refusal.number} AT ${refusal.place}\n`;
   return [
     'LEVEL BOOK 1',
@@ -20,6 +23,24 @@ function reportText({ done, faults, stopped, refusal, numbers, pieces, loops, no
     ...loops.map(({ length, misclosure, over, lines }, i) =>
       `LOOP ${i + 1} LENGTH ${length} MISCLOSURE ${misclosure} ${over ? 'OVER' : 'WITHIN'}: ${lines.join(' ')}`),
     `NOT CHECKED ${notChecked.length}:${notChecked.map(line => ` ${line}`).join('')}`,
+    '',
+  ].join('\n');
+}
+
+/** What the sketch program prints. */
+function sketchText(results) {
+  if (!results.done) return '';
+  const sketch = sketchOf(results);
+  if (!sketch) return STOPPED;
+  const { numbers } = results;
+  const { links, spurs, loops } = sketch;
+  const rest = (word, { length, difference, lines }) => `LENGTH ${length} ${word} ${difference}: ${lines.join(' ')}`;
+  return [
+    'JUNCTION SKETCH',
+    `MARKS ${numbers.marks} LINES ${numbers.lines.length / 5} LINKS ${links.length} SPURS ${spurs.length} LOOPS ${loops.length}`,
+    ...links.map(link => `LINK ${link.first} ${link.last} ${rest('DIFFERENCE', link)}`),
+    ...spurs.map(spur => `SPUR ${spur.first} ${rest('DIFFERENCE', spur)}`),
+    ...loops.map(loop => `LOOP ${loop.first} ${rest('MISCLOSURE', loop)}`),
     '',
   ].join('\n');
 }
@@ -49,7 +70,8 @@ function heightsText({ done, numbers, adjusted, rates }) {
 const details = () => byId('text').querySelector('details');
 
 export function showSheet({ results }) {
-  if (details().open) byId('textbox').textContent = [reportText(results), heightsText(results)].filter(Boolean).join('\n');
+  if (!details().open) return;
+  byId('textbox').textContent = [reportText(results), sketchText(results), heightsText(results)].filter(Boolean).join('\n');
 }
 
 async function copy() {

@@ -5,7 +5,10 @@ import { bytesOf } from './book-file.mjs';
 import { Chance } from './chance.mjs';
 import { TOP } from './tools.mjs';
 
-const STORED = ['worked', 'memorandum_figure', 'past_the_last_junction', 'two_pieces', 'parallel_lines', 'damaged'];
+const STORED = [
+  'worked', 'memorandum_figure', 'memorandum_network', 'past_the_last_junction', 'two_pieces', 'parallel_lines',
+  'damaged',
+];
 const MOST_MARKS = 256;
 const MOST_LINES = 512;
 
@@ -33,7 +36,8 @@ const MADE = {
   parallel512: () => parallel(MOST_LINES),
   chain20: () => levelled(20, pairs(19, line => [line, line + 1]), 17),
   star15: () => levelled(15, pairs(14, line => [1, line + 1]), 19),
-  ring12: () => levelled(12, pairs(12, line => [line, (line % 12) + 1]), 23),
+  ring12: () => ring(12),
+  ring256: () => ring(MOST_MARKS),
   free_tails: freeTails,
   city256: city,
 };
@@ -122,6 +126,10 @@ function randomNetwork() {
 
 function parallel(lines) {
   return levelled(2, pairs(lines, line => (line % 3 === 0 ? [2, 1] : [1, 2])), 41);
+}
+
+function ring(marks) {
+  return levelled(marks, pairs(marks, line => [line, (line % marks) + 1]), 23);
 }
 
 /** A ring of six with a tail of one, of two and of five lines: 8 lines that nothing checks. */

@@ -153,8 +153,8 @@ export class Desk {
     await this.evaluate(seen.correct, line, null);
   }
 
-  undo() {
-    return this.press('#undo');
+  undo(times = 1) {
+    return this.evaluate(seen.pressTimes, '#undo', times);
   }
 
   redo() {
@@ -191,15 +191,15 @@ export class Desk {
     return this.evaluate(seen.tiles);
   }
 
-  /** The report as text: [what the report program prints, what the heights program prints]. */
+  /** The report as text: what the report program, the sketch program and the heights program print. */
   async texts() {
     const text = await this.evaluate(seen.reportText);
-    const end = text.indexOf('\n\n');
-    return end < 0 ? [text, ''] : [text.slice(0, end + 1), text.slice(end + 2)];
+    const [report, sketch = '', heights = ''] = text.split(/(?<=\n)\n/);
+    return { report, sketch, heights };
   }
 
   async report() {
-    return (await this.texts())[0];
+    return (await this.texts()).report;
   }
 
   loops() {
@@ -211,9 +211,25 @@ export class Desk {
   }
 
   /** The heights panel is written when it comes into sight. */
-  async heightsPanel() {
-    await this.evaluate(seen.scrollTo, '#heights');
-    return until(() => this.text('#heights-box'), { good: text => text !== '' });
+  heightsPanel() {
+    return this.panelInSight('#heights');
+  }
+
+  /** And the panel of the sketch. */
+  sketchPanel() {
+    return this.panelInSight('#sketch');
+  }
+
+  /** Brings a panel into sight; the text in its box. */
+  async panelInSight(panel) {
+    await this.evaluate(seen.scrollTo, panel);
+    return until(() => this.text(`${panel}-box`), { good: text => text !== '' });
+  }
+
+  /** The rows of the sketch's panel, once it is in sight: { links, spurs, loops }. */
+  async sketchRows() {
+    await this.sketchPanel();
+    return this.evaluate(seen.sketchRows);
   }
 
   wrongCells() {

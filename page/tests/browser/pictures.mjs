@@ -36,6 +36,11 @@ const STATES = {
   'no-held-mark': desk => desk.press('#held .remove'),
   'empty': desk => desk.newBook(),
   'help': desk => desk.press('#help'),
+  'sketch': async desk => {
+    await desk.openBook(book('memorandum_network'), 'memorandum.book');
+    await desk.sketchPanel();
+    await desk.press('#sketch-box tr[data-entry="2"]');
+  },
   'two-pieces': opened('two_pieces'),
   'parallel-lines': opened('parallel_lines'),
   'free-tails': opened('free_tails'),
@@ -76,7 +81,7 @@ async function showWhole(desk, screen) {
 }
 
 async function takePaper(browser, file, folder) {
-  for (const name of ['first', 'withdrawn', 'not-checked', 'town-60', 'empty']) {
+  for (const name of ['first', 'withdrawn', 'not-checked', 'sketch', 'town-60', 'empty']) {
     const desk = await openDesk(browser, { file, before: 'window.print = () => {};' });
     await STATES[name](desk);
     drawPaper(await desk.page.pdf(), path.join(folder, `paper-${name}`));

@@ -1,4 +1,4 @@
-// The report and heights programs of this repository: what they print for the bytes of a book.
+// The report, sketch and heights programs of this repository: what they print for the bytes of a book.
 import { spawn } from 'node:child_process';
 import fs from 'node:fs';
 import os from 'node:os';
@@ -8,17 +8,23 @@ import { findProgram, isProgram, TOP } from './tools.mjs';
 
 const AT_ONCE = 3;
 
+const PROGRAMS = ['report', 'sketch', 'heights'];
+
 export const report = bytes => printed('report', bytes);
+export const sketch = bytes => printed('sketch', bytes);
 export const heights = bytes => printed('heights', bytes);
 
-/** Both texts, as the page shows them one under the other. */
-export const bothTexts = bytes => Promise.all([report(bytes), heights(bytes)]);
+/** The texts by their programs, as the page shows them one under the other. */
+export async function allTexts(bytes) {
+  const texts = await Promise.all(PROGRAMS.map(program => printed(program, bytes)));
+  return Object.fromEntries(PROGRAMS.map((program, place) => [program, texts[place]]));
+}
 
 const file = program => path.join(TOP, 'target', 'bin', program);
 
 const isThere = program => isProgram(file(program)) && command(program) !== null;
 
-export const programsAreThere = () => isThere('report') && isThere('heights');
+export const programsAreThere = () => PROGRAMS.every(isThere);
 
 /** The programs are for x86-64; elsewhere they run in the toolchain's emulator, as the script `report` does it. */
 function command(program) {
@@ -71,13 +77,13 @@ function run(program, bytes) {
 }
 
 /**
- * The programs cannot be told of withdrawn lines, but loops, paths and heights go by the order of the lines that
- * stand, not by their numbers. So the report of a book with withdrawn lines is that of the book without them, with the
- * old numbers put back. table: as in book-file.mjs; standing: true or false for each line
+ * The programs cannot be told of withdrawn lines, but loops, paths, sketch and heights go by marks and by the order of
+ * the lines that stand, not by their numbers. So what is printed of a book with withdrawn lines is that of the book
+ * without them, with the old numbers put back. table: as in book-file.mjs; standing: true or false for each line
  */
-export async function reportWithdrawn(table, standing) {
+async function withOldNumbers(program, table, standing) {
   const numbers = table.lines.map((_, row) => row + 1).filter(line => standing[line - 1]);
-  const text = await report(bytesOf({ ...table, lines: numbers.map(line => table.lines[line - 1]) }));
+  const text = await program(bytesOf({ ...table, lines: numbers.map(line => table.lines[line - 1]) }));
   const old = line => line.replace(/\d+/, number => numbers[Number(number) - 1]);
   return text.split('\n').map(line => {
     const [head, list] = line.split(':');
@@ -85,6 +91,9 @@ export async function reportWithdrawn(table, standing) {
     return list === undefined ? line : `${head}:${list.split(' ').map(old).join(' ')}`;
   }).join('\n');
 }
+
+export const reportWithdrawn = (table, standing) => withOldNumbers(report, table, standing);
+export const sketchWithdrawn = (table, standing) => withOldNumbers(sketch, table, standing);
 
 /** And the sheet of heights likewise; a withdrawn line's row says so. */
 export async function heightsWithdrawn(table, standing) {

@@ -20,7 +20,7 @@ const BROWSERS = {
 
 // What a case may need beside a browser.
 const NEEDS = {
-  programs: { isThere: programsAreThere(), words: 'target/bin/report and target/bin/heights are not built' },
+  programs: { isThere: programsAreThere(), words: 'report, sketch and heights are not built in target/bin' },
   pdftotext: { isThere: paperToolsAreThere(), words: 'pdftotext, pdfinfo and pdftoppm are not there' },
 };
 

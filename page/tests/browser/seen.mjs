@@ -11,15 +11,26 @@ export function press(selector) {
   button.click();
 }
 
+export function pressTimes(selector, times) {
+  const button = document.querySelector(selector);
+  button.focus();
+  for (let pressed = 0; pressed < times; pressed += 1) button.click();
+}
+
 export function pressIfThere(selector) {
   document.querySelector(selector)?.click();
 }
 
 /** The middle of an element once it is in sight, and what lies over it there, if anything does. */
-export function placeOf(selector) {
+export async function placeOf(selector) {
   const element = document.querySelector(selector);
   if (!element) throw new Error(`there is no ${selector}`);
-  element.scrollIntoView({ block: 'center', inline: 'nearest' });
+  const bringIntoSight = () => element.scrollIntoView({ block: 'center', inline: 'nearest' });
+  bringIntoSight();
+  // Rows are laid out when they come into sight, and move what is below them.
+  const frame = () => new Promise(resolve => requestAnimationFrame(resolve));
+  await Promise.race([frame().then(frame), new Promise(resolve => setTimeout(resolve, 300))]);
+  bringIntoSight();
   const box = element.getBoundingClientRect();
   const place = [box.x + box.width / 2, box.y + box.height / 2];
   const top = document.elementFromPoint(...place);
@@ -143,12 +154,29 @@ export function goneLoops() {
   return [...document.querySelectorAll('#loops-box tbody tr.gone')].map(row => row.textContent.trim());
 }
 
-/** Brings a part into sight, and waits until the page can know of it. */
+/** The lists of the sketch, each row with its numbers as they are written, its lines and the marks that it passes. */
+export function sketchRows() {
+  const row = ({ cells }) => {
+    const texts = Array.from(cells, cell => cell.textContent.trim());
+    const [lines, marks] = [...cells].at(-1).children;
+    return { numbers: texts.slice(0, -1), lines: lines.textContent, marks: marks.textContent };
+  };
+  const rows = list => [...document.querySelectorAll(`#sketch-box .of-${list} tbody tr`)].map(row);
+  return { links: rows('links'), spurs: rows('spurs'), loops: rows('loops') };
+}
+
+/** Brings a part into sight, and waits until the page knows: its watchers were there first, and are told first. */
 export async function scrollTo(selector) {
-  document.querySelector(selector).scrollIntoView();
-  const frame = () => new Promise(resolve => requestAnimationFrame(resolve));
-  const late = new Promise(resolve => setTimeout(resolve, 300));
-  await Promise.race([frame().then(frame).then(() => new Promise(resolve => setTimeout(resolve, 20))), late]);
+  const part = document.querySelector(selector);
+  part.scrollIntoView();
+  let watcher;
+  const told = new Promise(resolve => {
+    watcher = new IntersectionObserver(entries => entries.at(-1).isIntersecting && resolve());
+    watcher.observe(part);
+  });
+  const late = new Promise(resolve => setTimeout(resolve, 1000));
+  await Promise.race([told, late]);
+  watcher.disconnect();
 }
 
 export function wrongCells() {

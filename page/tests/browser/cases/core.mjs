@@ -2,10 +2,12 @@
 import { book } from '../books.mjs';
 import { holds, includes, same } from '../check.mjs';
 import { lineCell } from '../desk.mjs';
+import { scrollTo } from '../seen.mjs';
 import { sleep } from '../tools.mjs';
 
 export const cases = [
   { name: 'core-trap-keeps-the-book', run: coreTrapKeepsTheBook, window: { before: `(${setTraps})()` } },
+  { name: 'core-trap-in-the-sketch', run: coreTrapInTheSketch, window: { before: `(${setTraps})()` } },
 ];
 
 /** Run before the page's own script: a call of the core, by its name, throws once on demand, as a trap does. */
@@ -81,6 +83,59 @@ async function trapInACorrection(desk, call, correct) {
   await sleep(20);
   await correct();
   includes(await desk.glance(), 'After 1 correction', `${call}: works again`);
+}
+
+/** All that is shown beside the sketch. */
+const besideTheSketch = desk => Promise.all([desk.shownBook(), desk.tiles(), desk.loops(), desk.heightsPanel()]);
+
+/** The sketch is asked for where it is seen, not in an edit. If the core stops then, all but the sketch stays. */
+async function coreTrapInTheSketch(desk) {
+  await desk.openBook(book('town60'), 'town.book');
+  await setTrap(desk, 'level_sketch');
+  await desk.write(lineCell(1, 'length'), '1700');
+  same((await traps(desk)).sprung, 0, 'an edit does not ask for a sketch that is out of sight');
+  includes(await desk.sketchPanel(), 'The core stopped. Please report this book.', 'the panel');
+  const shown = await besideTheSketch(desk);
+  await goesOn(desk, 1);
+  await desk.undo();
+  same(await besideTheSketch(desk), shown, 'all else stayed');
+  await trapInTheText(desk);
+  await trapInThePicture(desk);
+  same((await traps(desk)).sprung, 3, 'traps that were sprung');
+}
+
+/** The next edit has a sketch again, of a new core. */
+async function goesOn(desk, stopped) {
+  same((await traps(desk)).cores, 1 + stopped, 'a new core');
+  same(await desk.trouble(), '', 'no trouble');
+  await desk.write(lineCell(1, 'length'), '1600');
+  includes(await desk.sketchPanel(), 'junctions', 'the next edit has a sketch');
+}
+
+async function trapInTheText(desk) {
+  await desk.evaluate(scrollTo, '#glance');
+  await desk.write(lineCell(1, 'length'), '1800');
+  await setTrap(desk, 'level_sketch');
+  const { report, sketch, heights } = await desk.texts();
+  same(sketch, 'THE CORE STOPPED\n', 'the text');
+  includes(report, 'MARKS 60', 'the report');
+  includes(heights, 'ADJUSTED HEIGHTS', 'the heights');
+  await goesOn(desk, 2);
+  includes((await desk.texts()).sketch, 'JUNCTION SKETCH', 'the text of the next edit');
+}
+
+/** A row that is chosen is asked for by the picture first. */
+async function trapInThePicture(desk) {
+  await desk.openBook(book('worked'), 'worked.book');
+  await desk.sketchPanel();
+  await desk.press('#sketch-box tr[data-entry="0"]');
+  await setTrap(desk, 'level_sketch');
+  await desk.write('#tolerance', '5.0');
+  const { lines, marks } = await desk.picture();
+  same([marks.length, lines.filter(line => line.kinds.includes('hot')).length], [5, 0], 'marks and chosen lines');
+  includes(await desk.sketchPanel(), 'The core stopped.', 'the panel');
+  await desk.write('#tolerance', '6.0');
+  includes(await desk.sketchPanel(), '6 links', 'the next edit has a sketch');
 }
 
 async function trapInOpening(desk) {

@@ -3,7 +3,7 @@ import { bytesOf, tableOf } from '../book-file.mjs';
 import { book } from '../books.mjs';
 import { holds, includes, lacks, same } from '../check.mjs';
 import { heldCell, lineCell } from '../desk.mjs';
-import { heightsWithdrawn, report, reportWithdrawn } from '../programs.mjs';
+import { heightsWithdrawn, report, reportWithdrawn, sketchWithdrawn } from '../programs.mjs';
 
 const BOTH = ['chromium', 'firefox'];
 
@@ -46,16 +46,18 @@ async function rerunSix(desk) {
 
 async function withdrawSix(desk) {
   await desk.withdraw(6);
-  const [text, sheet] = await desk.texts();
-  same(text.split('\n').slice(1, 5), [
+  const texts = await desk.texts();
+  same(texts.report.split('\n').slice(1, 5), [
     'MARKS 5 LINES 7 PIECES 1 LOOPS 2',
     'LOOP 1 LENGTH 7600 MISCLOSURE -5000 WITHIN: 4 5 -7',
     'LOOP 2 LENGTH 8700 MISCLOSURE 25000 WITHIN: 3 2 -1 5 -7',
     'NOT CHECKED 0:',
   ], 'the text');
   const standing = [true, true, true, true, true, false, true];
-  same(text, await reportWithdrawn(tableOf(book('worked')), standing), 'the report program');
-  same(sheet, await heightsWithdrawn(tableOf(book('worked')), standing), 'the heights program');
+  const worked = tableOf(book('worked'));
+  same(texts.report, await reportWithdrawn(worked, standing), 'the report program');
+  same(texts.sketch, await sketchWithdrawn(worked, standing), 'the sketch program');
+  same(texts.heights, await heightsWithdrawn(worked, standing), 'the heights program');
   const loops = await desk.loops();
   same(sinceWords(loops), ['stands', 'changed'], 'since the start');
   includes(loops[1].since, 'was OVER; misclosure was 65.000; lines were 3 2 −6 −7', 'loop 2');
@@ -84,7 +86,9 @@ async function keptReportEqualsFresh(desk) {
     if (step % 3 === 0) await desk.rerun(line, `${step / 2}`);
     else await desk.withdraw(line);
     const { table, standing } = await desk.shownTable();
-    same(await desk.report(), await reportWithdrawn(table, standing), `the report program after correction ${step}`);
+    const { report: text, sketch } = await desk.texts();
+    same(text, await reportWithdrawn(table, standing), `the report program after correction ${step}`);
+    same(sketch, await sketchWithdrawn(table, standing), `the sketch program after correction ${step}`);
   }
   const kept = await desk.texts();
   const tolerance = await desk.value('#tolerance');
@@ -92,7 +96,7 @@ async function keptReportEqualsFresh(desk) {
   await desk.write('#tolerance', tolerance);
   same(await desk.texts(), kept, 'surveyed afresh');
   const { table, standing } = await desk.shownTable();
-  same(kept[1], await heightsWithdrawn(table, standing), 'the heights program');
+  same(kept.heights, await heightsWithdrawn(table, standing), 'the heights program');
 }
 
 async function correctionRefused(desk) {
@@ -237,7 +241,7 @@ async function stepsBack(desk, before, what) {
   }
   for (let step = 0; step < steps; step += 1) await desk.redo();
   same(await desk.state(), after, `${what}, redone`);
-  for (let step = 0; step < steps; step += 1) await desk.undo();
+  await desk.undo(steps);
   return steps;
 }
 
@@ -248,7 +252,7 @@ async function emptyLineIsBroughtBack(desk) {
   for (const column of ['from', 'to', 'difference', 'length']) await desk.write(lineCell(3, column), '');
   await desk.press('#drop');
   includes(await desk.report(), 'LINES 6', 'the line is deleted');
-  for (let step = 0; step < 5; step += 1) await desk.undo();
+  await desk.undo(5);
   same(await desk.state(), before, 'a deleted line, undone');
 }
 

@@ -32,6 +32,7 @@ function wrongIds() {
 async function namesForAssistiveTechnology(desk) {
   await desk.withdraw(3);
   await desk.openCorrection(1);
+  await desk.sketchPanel();
   await desk.heightsPanel();
   same(await desk.evaluate(nameless), [], 'without a name');
   same(await desk.evaluate(wrongIds), [], 'ids');
@@ -66,10 +67,15 @@ async function contrast(desk) {
     'a refused book': () => desk.write(lineCell(1, 'length'), '5'),
     'an unreadable book': () => desk.write(lineCell(1, 'length'), 'abc'),
     'lines not checked': () => desk.openBook(book('past_the_last_junction')),
+    'a spur that is chosen': async () => {
+      await desk.sketchPanel();
+      await desk.press('#sketch-box tr[data-entry="0"]');
+    },
     'no held mark': () => desk.press('#held .remove'),
   };
   for (const [what, reach] of Object.entries(states)) {
     await reach();
+    await desk.sketchPanel();
     await desk.heightsPanel();
     same(await desk.evaluate(lowContrasts, 'body'), [], what);
     await desk.evaluate(() => document.querySelector('#svgbox').scrollIntoView({ block: 'center' }));
@@ -140,6 +146,13 @@ const TAKING = {
   'a message is closed': async desk => {
     await desk.openBook(book('worked'), 'worked.book');
     await desk.click('#shut');
+  },
+  'a row of the sketch goes': async desk => {
+    await desk.openBook(book('memorandum_network'), 'memorandum.book');
+    await desk.sketchPanel();
+    await desk.focus('#sketch-box tr[data-entry="0"]');
+    await desk.keys('Enter', ...Array(11).fill('ArrowDown'));
+    await desk.page.press('z', { control: true });
   },
   'a line is deleted': async desk => {
     for (const column of ['from', 'to', 'difference', 'length']) await desk.write(lineCell(2, column), '');

@@ -48,7 +48,7 @@ async function damagedFiles(desk) {
   for (const bytes of files) {
     const what = bytes.toString('hex').slice(0, 80);
     const message = await desk.openBook(bytes, 'x.book');
-    const wanted = await report(bytes);
+    const [text, wanted] = await Promise.all([desk.report(), report(bytes)]);
     const refusal = /^REFUSED (\d+) AT (\d+)/.exec(wanted);
     if (refusal) {
       const [, number, place] = refusal;
@@ -59,7 +59,7 @@ async function damagedFiles(desk) {
       includes(message, 'Opened x', what);
       shown = wanted;
     }
-    same(await desk.report(), shown, what);
+    same(text, shown, what);
   }
   return `${files.length} files, ${refused} refused`;
 }

@@ -3,11 +3,14 @@ import { book } from '../books.mjs';
 import { Chance } from '../chance.mjs';
 import { same } from '../check.mjs';
 import { heldCell, lineCell } from '../desk.mjs';
-import { heightsWithdrawn, reportWithdrawn } from '../programs.mjs';
+import { heightsWithdrawn, reportWithdrawn, sketchWithdrawn } from '../programs.mjs';
 import { RUBBISH } from '../rubbish.mjs';
 
 const STEPS = 400;
-const HEIGHTS_EACH = 4;
+
+/** The texts that are held to their programs, one in each step by turns. */
+const TURNS = ['report', 'sketch', 'report', 'heights'];
+const PROGRAMS = { report: reportWithdrawn, sketch: sketchWithdrawn, heights: heightsWithdrawn };
 
 export const cases = [
   { name: 'monkey', run: monkey, needs: ['programs'] },
@@ -30,7 +33,7 @@ const LINE_ACTS = [
 
 /** What else can happen. */
 const OTHER_ACTS = [
-  ({ desk, chance }) => undoSome(desk, 1 + chance.below(4)),
+  ({ desk, chance }) => desk.undo(1 + chance.below(4)),
   ({ desk }) => desk.redo(),
   ({ desk, chance }) => desk.write('#tolerance', `${chance.from(1, 30)}.${chance.below(10)}`),
   ({ desk, chance }) => desk.write(heldCell(1, chance.pick(['mark', 'height'])), String(chance.from(1, 13))),
@@ -49,10 +52,6 @@ function act(desk, chance, lines) {
   return chance.pick(acts)({ desk, chance, line });
 }
 
-async function undoSome(desk, times) {
-  for (let each = 0; each < times; each += 1) await desk.undo();
-}
-
 async function correct(desk, chance, line) {
   if (await desk.count(`#lines tr[data-row="${line - 1}"] .correct`) === 0) return;
   if (chance.below(2) === 0) await desk.withdraw(line);
@@ -65,7 +64,7 @@ async function monkey(desk) {
   await desk.openBook(book('town12'), 'town12.book');
   for (let step = 1; step <= STEPS; step += 1) {
     await act(desk, chance, (await desk.shownBook()).lines);
-    if ((await desk.glance()).includes('No results')) await undoSome(desk, 3);
+    if ((await desk.glance()).includes('No results')) await desk.undo(3);
     else compared.push(await promised(desk, step));
     same(desk.page.errors, [], `errors in step ${step}`);
   }
@@ -74,11 +73,11 @@ async function monkey(desk) {
   return `${compared.length} books compared with the programs`;
 }
 
-/** A text that the page shows, at times that of heights, and the promise of what the program prints for that book. */
+/** One of the texts that the page shows, and the promise of what its program prints for that book. */
 async function promised(desk, step) {
-  const [[report, heights], { table, standing }] = await Promise.all([desk.texts(), desk.shownTable()]);
-  const isHeights = step % HEIGHTS_EACH === 0;
-  const wanted = isHeights ? heightsWithdrawn(table, standing) : reportWithdrawn(table, standing);
+  const [texts, { table, standing }] = await Promise.all([desk.texts(), desk.shownTable()]);
+  const program = TURNS[step % TURNS.length];
+  const wanted = PROGRAMS[program](table, standing);
   wanted.catch(() => {});
-  return { step, text: isHeights ? heights : report, wanted };
+  return { step, text: texts[program], wanted };
 }

@@ -5,20 +5,23 @@ import net from 'node:net';
 import path from 'node:path';
 import { book } from '../books.mjs';
 import { includes, same } from '../check.mjs';
-import { bothTexts } from '../programs.mjs';
+import * as programs from '../programs.mjs';
 import { sleep, TOP, until } from '../tools.mjs';
 
 const BOTH = ['chromium', 'firefox'];
 const BOOKS = [
   'worked', 'memorandum_figure', 'parallel_lines', 'past_the_last_junction', 'two_pieces', 'town12', 'town25',
-  'town40', 'town60', 'grid6', 'chain20', 'star15', 'ring12', 'free_tails',
+  'town40', 'town60', 'grid6', 'chain20', 'star15', 'ring12', 'free_tails', 'memorandum_network',
 ];
 const LARGEST_BOOKS = ['full', 'slowest', 'random256', 'parallel512', 'city256'];
-const FEW_BOOKS = ['memorandum_figure', 'past_the_last_junction', 'two_pieces', 'town60', 'random256'];
+const FEW_BOOKS = [
+  'memorandum_figure', 'memorandum_network', 'past_the_last_junction', 'two_pieces', 'town60', 'random256',
+];
 
 export const cases = [
   { name: 'worked-network-opens', run: workedNetworkOpens, browsers: BOTH, needs: ['programs'] },
   { name: 'text-equals-report-program', run: textEqualsReportProgram, browsers: BOTH, needs: ['programs'] },
+  { name: 'text-equals-sketch-program', run: textEqualsSketchProgram, browsers: BOTH, needs: ['programs'] },
   { name: 'heights-equal-program', run: heightsEqualProgram, browsers: BOTH, needs: ['programs'] },
   { name: 'nothing-leaves-the-page', run: nothingLeavesThePage, browsers: BOTH },
   { name: 'glance-says-it-in-words', run: glanceSaysItInWords },
@@ -28,7 +31,7 @@ export const cases = [
 ];
 
 async function workedNetworkOpens(desk) {
-  same(await desk.texts(), await bothTexts(book('worked')), 'the texts');
+  same(await desk.texts(), await programs.allTexts(book('worked')), 'the texts');
   same(await desk.tiles(), [
     '2 of 3 loops OVER / 1 within',
     'Every line is checked / 7 lines, 5 marks, 1 piece',
@@ -45,23 +48,27 @@ async function workedNetworkOpens(desk) {
   includes(await desk.heightsPanel(), '102.123536', 'the heights');
 }
 
-/** Opens each book and holds one of its texts, 0 the report and 1 the heights, to what the programs print. */
-async function holdTexts(desk, which, names) {
+/** Opens each book and holds one of its texts to what that program prints. */
+async function holdTexts(desk, program, names) {
   // All are asked at once, since the programs may run in an emulator.
-  names.forEach(name => bothTexts(book(name)));
+  names.forEach(name => programs[program](book(name)));
   for (const name of names) {
     includes(await desk.openBook(book(name), `${name}.book`), `Opened ${name}`, 'the message');
-    same((await desk.texts())[which], (await bothTexts(book(name)))[which], name);
+    same((await desk.texts())[program], await programs[program](book(name)), name);
   }
   return `${names.length} books`;
 }
 
 function textEqualsReportProgram(desk, { browser }) {
-  return holdTexts(desk, 0, browser === 'firefox' ? FEW_BOOKS : [...BOOKS, ...LARGEST_BOOKS]);
+  return holdTexts(desk, 'report', browser === 'firefox' ? FEW_BOOKS : [...BOOKS, ...LARGEST_BOOKS]);
+}
+
+function textEqualsSketchProgram(desk, { browser }) {
+  return holdTexts(desk, 'sketch', browser === 'firefox' ? FEW_BOOKS : [...BOOKS, ...LARGEST_BOOKS]);
 }
 
 function heightsEqualProgram(desk, { browser }) {
-  return holdTexts(desk, 1, browser === 'firefox' ? FEW_BOOKS : [...BOOKS, 'slowest']);
+  return holdTexts(desk, 'heights', browser === 'firefox' ? FEW_BOOKS : [...BOOKS, 'slowest']);
 }
 
 /** Inside the page: every way out by script that a policy can shut. What is stopped at once throws. */
@@ -186,7 +193,7 @@ function denyClipboard() {
 }
 
 async function textIsCopied(desk) {
-  const text = (await desk.texts()).join('\n');
+  const text = Object.values(await desk.texts()).join('\n');
   await desk.click('#copy');
   same(await until(() => desk.text('#copy'), { good: words => words === 'Copied' }), 'Copied', 'the button');
   same((await desk.evaluate(() => globalThis.copied)).trim(), text.trim(), 'what was copied');

@@ -276,6 +276,10 @@ async function loopChosenByKey(desk) {
   same(await hotLines(desk), [4, 5, 7], 'loop 2');
   await desk.page.press('Enter');
   same(await hotLines(desk), [], 'none');
+  same(await desk.evaluate(() => document.activeElement.dataset.loop), '1', 'and the focus stays');
+  await desk.keys('Enter', 'ArrowDown');
+  await desk.withdraw(3);
+  same(await desk.count('#loops-box tr.gone:is(.chosen, [tabindex])'), 0, 'a loop that is gone is not chosen');
 }
 
 async function loopChosenByClick(desk) {

@@ -33,6 +33,7 @@ const WORKED_WORDS = [
   'Level book: worked', '5 marks, 7 lines, 1 piece, 3 loops (2 over)', 'Tolerance 12.0 mm per √km', 'Printed',
   'Every standing line is checked by a loop.', 'The network', 'Not to scale: a book has no coordinates.',
   'Loops', '✗ OVER', '✓ within', '−40.000', '25.314', '4450', '6 −1 5', 'marks 4–3–1–4', '65.000', '3 2 −6 −7',
+  'Junction sketch', '4 junctions, 6 links, 0 spurs, 0 self-closing loops.', 'marks 3–2–5', 'No spurs.',
   'Adjusted heights', '102.123536', '106.335770', '103.907', '99.072', '100.000000', 'held',
   'Observed', 'Correction', 'Rate', '−9.230', '−5.769',
 ];
@@ -94,7 +95,7 @@ async function printWithoutHeights(desk) {
   for (const words of ['6.345000', '1600', 'Observed']) includes(paper, words, 'the lines are there all the same');
 }
 
-const HEADS = ['Misclosure', 'Height m', 'Observed'];
+const HEADS = ['Lines, as run', 'Height m', 'Observed'];
 
 async function printOfManySheets(desk) {
   await desk.openBook(book('random256'), 'random256.book');

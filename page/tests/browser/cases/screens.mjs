@@ -30,9 +30,10 @@ async function noSidewaysScroll(desk) {
     await desk.page.resize({ width, height, mobile: width < 700 });
     const fits = async what => same(await desk.evaluate(sideways, width), [], `${width} px, ${what}`);
     const large = width === 320 ? ['random256'] : [];
-    for (const name of ['worked', 'past_the_last_junction', 'town25', ...large]) {
+    for (const name of ['worked', 'past_the_last_junction', 'memorandum_network', 'town25', ...large]) {
       await desk.openBook(book(name), `${name}.book`);
       await desk.picture();
+      await desk.sketchPanel();
       await desk.heightsPanel();
       await fits(name);
     }
@@ -47,6 +48,7 @@ async function holdStates(desk, fits) {
   await desk.withdraw(1);
   await desk.rerun(6, '2.428');
   await desk.openCorrection(2);
+  await desk.sketchPanel();
   await desk.heightsPanel();
   await fits('corrections');
   await desk.write(lineCell(2, 'difference'), 'a rather long text that is no number at all');
@@ -111,7 +113,7 @@ async function holdLinks(desk) {
 
 /** Inside the page: where the panels are, the book's first. */
 function panels() {
-  return ['#lines', '#svgbox', '#loops-box', '#heights-box'].map(part => {
+  return ['#lines', '#svgbox', '#loops-box', '#sketch-box', '#heights-box'].map(part => {
     const { left, top, right } = document.querySelector(part).closest('section').getBoundingClientRect();
     return { left, top, right };
   });

@@ -41,6 +41,7 @@ async function typedByKeyboardAlone(desk) {
   await page.press('z', { control: true });
   await page.press('F1');
   holds(await desk.evaluate(() => document.getElementById('help-box').open), 'F1 opens the help');
+  same(await desk.evaluate(() => document.getElementById('help-box').scrollTop), 0, 'at its beginning');
   await page.press('Escape');
   holds(!await desk.evaluate(() => document.getElementById('help-box').open), 'Escape closes it');
   await withdrawByKeys(desk);
@@ -130,6 +131,7 @@ function focusable() {
 
 /** All that can have the focus has it once in a round of Tab; what Tab passes over has a key of its own in its row. */
 async function everyControlByTab(desk) {
+  await desk.sketchPanel();
   await desk.focus('#name');
   const wanted = await desk.evaluate(focusable);
   const reached = new Set(['name']);
@@ -143,6 +145,7 @@ async function everyControlByTab(desk) {
   same([...wanted, ...CONTROLS].filter(name => !reached.has(name)), [], 'not reached by Tab');
   same(await desk.count('button[tabindex="-1"]:not(.correct, .remove)'), 0, 'buttons that no key reaches');
   same(await desk.count('#loops-box tr[tabindex="0"]'), 1, 'the loops are one stop');
+  same(await desk.count('#sketch-box tr[tabindex="0"]'), 1, 'the sketch is one stop');
 }
 
 async function incompleteLastLine(desk) {

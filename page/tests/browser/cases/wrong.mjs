@@ -165,34 +165,44 @@ const FIELDS = [
 ];
 const FEW_FIELDS = ['#tolerance', heldCell(1, 'height'), lineCell(3, 'difference'), '#name'];
 
-/** Inside the page: puts a text into a field, looks, and undoes until all is as before. */
-function tryText(selector, text) {
+/** Inside the page: puts each text into a field, looks, and undoes until all is as before. */
+function tryTexts(selector, texts) {
   const shown = part => document.querySelector(part).textContent.trim();
   const field = () => document.querySelector(selector);
-  const read = () => [field().value, shown('#textbox'), document.querySelector('#name').value];
-  const before = read().join('\n');
-  field().focus();
-  field().value = text;
-  const typed = field().value;
-  field().dispatchEvent(new Event('input', { bubbles: true }));
-  field().dispatchEvent(new Event('change', { bubbles: true }));
-  const answer = { typed, value: field().value, glance: shown('#glance'), trouble: shown('#trouble') };
-  document.querySelector('#undo').focus();
-  for (let tries = 0; tries < 3 && read().join('\n') !== before; tries += 1) document.querySelector('#undo').click();
-  return { ...answer, isBack: read().join('\n') === before };
+  const undo = document.querySelector('#undo');
+  const read = () => [field().value, shown('#textbox'), document.querySelector('#name').value].join('\n');
+  return texts.map(text => {
+    const before = read();
+    field().focus();
+    field().value = text;
+    const typed = field().value;
+    field().dispatchEvent(new Event('input', { bubbles: true }));
+    field().dispatchEvent(new Event('change', { bubbles: true }));
+    const answer = { text, typed, value: field().value, glance: shown('#glance'), trouble: shown('#trouble') };
+    undo.focus();
+    for (let tries = 0; tries < 3 && read() !== before; tries += 1) undo.click();
+    return { ...answer, isBack: read() === before };
+  });
 }
+
+function holdAnswer(field, { text, typed, value, glance, trouble, isBack }) {
+  const what = `${field} ${text.slice(0, 40)}`;
+  same(glance.includes('No results'), trouble !== '', `${what}: either results or a reason: ${glance} ${trouble}`);
+  if (trouble.startsWith('Cannot be read')) same(value, typed.trim(), `${what} stays as it was typed`);
+  holds(isBack, `${what} is not undone`);
+}
+
+/** So many texts are tried before the page may draw: drawing takes the most time. */
+const AT_ONCE = 8;
 
 async function rubbishInEveryField(desk, { browser }) {
   await desk.openBook(bytesOf(TRIANGLE), 'triangle.book');
   await desk.report();
   const fields = browser === 'firefox' ? FEW_FIELDS : FIELDS;
   for (const field of fields) {
-    for (const text of RUBBISH) {
-      const what = `${field} ${text.slice(0, 40)}`;
-      const { typed, value, glance, trouble, isBack } = await desk.evaluate(tryText, field, text);
-      same(glance.includes('No results'), trouble !== '', `${what}: either results or a reason: ${glance} ${trouble}`);
-      if (trouble.startsWith('Cannot be read')) same(value, typed.trim(), `${what} stays as it was typed`);
-      holds(isBack, `${what} is not undone`);
+    for (let first = 0; first < RUBBISH.length; first += AT_ONCE) {
+      const answers = await desk.evaluate(tryTexts, field, RUBBISH.slice(first, first + AT_ONCE));
+      answers.forEach(answer => holdAnswer(field, answer));
     }
   }
   same(await desk.evaluate(() => globalThis.wasRun), undefined, 'what was typed ran');
