@@ -15,7 +15,8 @@ import { findProgram, TOP } from './tools.mjs';
 
 const BROWSERS = {
   chromium: { names: CHROMIUM_NAMES, launch: launchChromium },
-  firefox: { names: FIREFOX_NAMES, launch: launchFirefox },
+  // Its tabs disturb each other: one opens beside the tab in front, which may be going, and a tab behind another waits.
+  firefox: { names: FIREFOX_NAMES, launch: launchFirefox, mostLanes: 1 },
 };
 
 // What a case may need beside a browser.
@@ -102,7 +103,7 @@ async function runBrowser(name, cases) {
   const stop = () => browser.close().finally(() => process.exit(1));
   SIGNALS.forEach(signal => process.once(signal, stop));
   try {
-    const failed = await runLanes(browser, chosen);
+    const failed = await runLanes(browser, chosen, Math.min(Number(options.lanes), BROWSERS[name].mostLanes ?? Infinity));
     if (options.pictures && name === 'chromium') await takePictures(browser, file, options.pictures);
     return { done: chosen.length, failed };
   } finally {
@@ -112,7 +113,7 @@ async function runBrowser(name, cases) {
 }
 
 /** Cases that measure time run alone, before the others; those run in several lanes. Gives how many failed. */
-async function runLanes(browser, cases) {
+async function runLanes(browser, cases, lanes) {
   let failed = 0;
   const lane = async queue => {
     for (let each = queue.shift(); each; each = queue.shift()) {
@@ -121,7 +122,7 @@ async function runLanes(browser, cases) {
   };
   await lane(cases.filter(each => each.isAlone));
   const others = cases.filter(each => !each.isAlone);
-  await Promise.all(Array.from({ length: Number(options.lanes) }, () => lane(others)));
+  await Promise.all(Array.from({ length: lanes }, () => lane(others)));
   return failed;
 }
 
