@@ -1,11 +1,11 @@
 -- Request 01, the junction sketch: of a lent book that passes the test, sentence by sentence. Assumes nothing.
-use mathlib.Core.Path.{_≡_, refl, sym, _∙_, ap, subst}
+use mathlib.Core.Path.{_≡_, refl, ap}
 use mathlib.Core.Logic.{_↔_}
 use mathlib.Core.Bool.{false}
 use mathlib.Core.List.{List, [], _∷_, _++_, map, append-assoc, List·Memᴰ}
 use Prim.Native.Nat.{ℕ, suc, _+_, _*_, _≤_, _<_}
 use native.Mathlib.Omega.{arith}
-use lib.IntN.{ℤ, pos, natAbs}
+use lib.IntN.{ℤ}
 use lib.ListN.{length, take, drop, length-map}
 use lib.Seq.{take-at, drop-append-add, drop-append-seam}
 use Rattle.book.specs.Lent.{Lent}
@@ -16,25 +16,24 @@ use Rattle.book.proofs.Goods.{tested-good}
 use Rattle.network.specs.Standing.{Line, standing}
 use Rattle.network.specs.Sound.{Sound}
 use Rattle.network.specs.Pairwise.{Pairwise}
-use Rattle.network.specs.Redone.{newDifference, redone, redonePass}
+use Rattle.network.specs.Redone.{redonePass}
 use Rattle.network.specs.Walk.{Pass}
-use Rattle.network.specs.Path.{wayLength}
-use Rattle.loops.specs.Row.{listed, listings, misclosure}
+use Rattle.loops.specs.Row.{listed, listings}
 use Rattle.loops.proofs.Rerun.{rerun-keeps-listing, rerun-keeps-length}
 use Rattle.loops.proofs.Sounding.{good-sound}
 use Rattle.links.specs.Link.{Link}
 use Rattle.links.specs.Ends.{endsAt}
 use Rattle.links.specs.Sketch.{Sketch, sketchOf, inAll, entryWords, entry, entries, runOf}
 use Rattle.links.specs.Steps.{NoneLeft, IsSketch}
-use Rattle.links.specs.Shape.{IsWay, IsLink, IsLoop, timesIn, linesIn, ByLowest, Along}
+use Rattle.links.specs.Shape.{IsWay, IsLink, IsLoop, timesIn, linesIn, ByLowest, Along, Combined}
 use Rattle.links.proofs.EachLine as each-line
 use Rattle.links.proofs.OneSketch.{is-sketch, only-sketch}
 use Rattle.links.proofs.Order as order
 use Rattle.links.proofs.Shapes as shapes
-use Rattle.links.proofs.Again.{redoneSketch, rerun-keeps-sketch, rerun-keeps-run}
-use Rattle.links.proofs.Combined.{Combined, loop-combined, circuit-combined}
+use Rattle.links.proofs.Again.{rerun-keeps-sketch, rerun-keeps-run}
+use Rattle.links.proofs.Combined.{loop-combined, circuit-combined}
 use Rattle.junctions.specs.Call as junctions
-use Rattle.junctions.specs.Call.{Lists, Drawing, drawing, drawn, listsOf, short, anyShort, over, allOver}
+use Rattle.junctions.specs.Call.{Lists, Drawing, drawing, anyShort, inFirstPlaces}
 use Rattle.junctions.specs.Call.{sketchIn, drawnInto, sketchGood, sketchCall}
 use Rattle.junctions.proofs.Writing.{entries-append, entries-length}
 use Rattle.survey.specs.Correction.{rerunLines}
@@ -42,9 +41,9 @@ use Rattle.demands.specs.Rules.{LowestGiven, rule}
 use Rattle.demands.specs.Tables.{sketchLists, sketchRules}
 use Rattle.demands.specs.Calls.{sketchDone, SketchKeepsToTable}
 use Rattle.demands.specs.Corrections.{Stands}
-use Rattle.demands.specs.TheSketch.{SameButDifference, AllSame, none-left, each, DifferencesOnly}
+use Rattle.demands.specs.TheSketch.{AllSame, none-left, each, DifferencesOnly}
 use Rattle.demands.proofs.Rules.{byRules, keeps-to-table, lowest-is-given}
-use Rattle.demands.proofs.BookRules.{None, none-in, none-and, first-of, rest-of, passes-if, passes-only-if, by-the-test}
+use Rattle.demands.proofs.BookRules.{none-in, none-and, first-of, rest-of, passes-if, passes-only-if, by-the-test}
 use Rattle.demands.proofs.CorrectedBook.{rerun-is-redone}
 
 -- ---- the call
@@ -89,20 +88,16 @@ module _ (book : Lent) (out : Lists) where
 
 -- ---- what the outputs then hold
 
--- the numbers of an entry: marks, count of lines, and "length and difference are its sums"
-abbrev numbersOf : Link → List ℤ
-numbersOf x = pos (x .first) ∷ pos (x .last) ∷ pos (length (x .way)) ∷ pos (wayLength (x .way)) ∷ misclosure (x .way) ∷ []
-
 entry-after-those : (before after : List Link) (x : Link) (rest : List ℤ)
-    → take entryWords (drop (length before * entryWords) (entries (before ++ x ∷ after) ++ rest)) ≡ numbersOf x
+    → take entryWords (drop (length before * entryWords) (entries (before ++ x ∷ after) ++ rest)) ≡ entry x
 unfolding entries entry
 entry-after-those before after x rest =
     rw (← entries-length before, entries-append before (x ∷ after), append-assoc (entries before) (entries (x ∷ after)) rest)
     (ap (take entryWords) (drop-append-seam (entries before) (entries (x ∷ after) ++ rest)))
 
--- the entry of a link stands after those of the links before it
+-- the entry of a link stands after those of the links before it: marks, count of lines, and "length and difference are its sums"
 pub entry-in-its-place : (before after : List Link) (x : Link) (out : List ℤ)
-    → take entryWords (drop (length before * entryWords) (over (entries (before ++ x ∷ after)) out)) ≡ numbersOf x
+    → take entryWords (drop (length before * entryWords) (inFirstPlaces (entries (before ++ x ∷ after)) out)) ≡ entry x
 entry-in-its-place before after x out = entry-after-those before after x _
 
 -- "`run` has the signed line numbers of all links, then all spurs, then all loops, in the order of the lists"
@@ -120,7 +115,7 @@ listed-after-those (b ∷ before) after x rest =
     (listed-after-those before after x rest)
 
 pub run-in-its-place : (s : Sketch) (before after : List Link) (x : Link) (out : List ℤ) → inAll s ≡ before ++ x ∷ after
-    → take (length (x .way)) (drop (linesIn before) (over (runOf s) out)) ≡ map listed (x .way)
+    → take (length (x .way)) (drop (linesIn before) (inFirstPlaces (runOf s) out)) ≡ map listed (x .way)
 unfolding runOf
 run-in-its-place s before after x out e = rw e (listed-after-those before after x _)
 

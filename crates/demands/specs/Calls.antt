@@ -24,7 +24,7 @@ use Rattle.lists.specs.Listing as lists
 use Rattle.lists.specs.Listing.{Listing, listing, listingOf, listingsOf, entered}
 use Rattle.lists.specs.NotChecked.{uncheckedOf, notCheckedOf}
 use Rattle.junctions.specs.Call as junctions
-use Rattle.junctions.specs.Call.{Lists, Drawing, drawing, drawn, allOver, sketchIn, sketchCall}
+use Rattle.junctions.specs.Call.{Lists, Drawing, drawing, drawn, allInFirstPlaces, sketchIn, sketchCall}
 use Rattle.survey.specs.Correction.{Corrected, corrected, updated, rerunLines, withdrawLines, rerunOf, withdrawOf}
 use Rattle.rates.specs.Rates as rates
 use Rattle.rates.specs.Rates.{rateAnswer}
@@ -67,7 +67,7 @@ NotCheckedKeepsToTable book out given = ListKeepsToTable (notCheckedRules book o
 
 -- the junction sketch: its counts, and its lists in the first places of the outputs
 abbrev pub sketchDone : Lent → Lists → Drawing
-sketchDone book out = drawing (drawn (sketchIn (natAbs (book .b)) (book .lines))) (allOver (sketchLists book) out)
+sketchDone book out = drawing (drawn (sketchIn (natAbs (book .b)) (book .lines))) (allInFirstPlaces (sketchLists book) out)
 
 abbrev pub SketchKeepsToTable : Lent → Lists → Drawing → Type 0
 SketchKeepsToTable book out given =

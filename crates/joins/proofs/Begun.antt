@@ -1,21 +1,19 @@
 -- A run begun with its lowest line, positive, is that of the way so begun. Assumes nothing.
-use Prim.Native.Nat.{ℕ, zero, suc, _+_, _-_, _/_, _%_, _≤_, _<_}
+use Prim.Native.Nat.{ℕ, zero, suc, _-_, _/_, _%_, _≤_, _<_}
 use native.Mathlib.Omega.{arith}
 use mathlib.Core.Path.{_≡_, refl, sym, _∙_, ap, ap₂, subst}
 use mathlib.Core.Bool.{Bool, true, false, cond}
 use mathlib.Core.List.{List, [], _∷_, _++_, append-nil, append-assoc, List·Memᴰ, List·Memᴰ·head, List·Memᴰ·tail}
-use lib.Dec.{eqb}
-use lib.ListN.{length, getD, take, drop, length-append, List·getD-append}
-use lib.Seq.{take-at, drop-at, getD-at, getD-append-add}
+use lib.ListN.{length, getD, length-append, List·getD-append}
+use lib.Seq.{take-at, drop-at, getD-at}
 use borrow.Author.Tests.{eq-eqb, ne-eqb}
 use Rattle.network.specs.Walk.{Pass, flip}
 use Rattle.network.specs.Codes.{codes}
 use Rattle.links.specs.Link.{turnedWay, positive, lowestLine, begunWith}
 use Rattle.links.proofs.Among.{it-is-in}
 use Rattle.links.proofs.Turning.{turned-append, turned-count}
-use Rattle.links.proofs.Lowest.{IsLowest, one-lowest, lowest-is}
-use Rattle.joins.specs.Code.{flipCode, turnedCodes, rotated, LowestAt}
-use Rattle.joins.proofs.Turned.{turned-length}
+use Rattle.links.proofs.Lowest.{one-lowest, lowest-is}
+use Rattle.joins.specs.Code.{turnedCodes, rotated, LowestAt}
 use Rattle.joins.proofs.Codes.{codes-append, codes-length, codes-turned, codeOfPass, code-line, even-forward, odd-back}
 
 -- ---- a way at its place k

@@ -1,12 +1,11 @@
 -- The first element moved behind the others, one place after the other. Assumes nothing.
-use Prim.Native.Nat.{ℕ, zero, suc, _+_, _-_, _≤_, _<_}
+use Prim.Native.Nat.{ℕ, suc, _+_, _≤_, _<_}
 use native.Mathlib.Omega.{arith}
-use native.Mathlib.Numerals.{add-one}
 use native.Mathlib.Decide.{ℕ-discrete}
 use mathlib.Core.Path.{_≡_, refl, sym, _∙_, ap}
 use mathlib.Core.List.{List, [], _∷_, _++_}
-use lib.ListN.{length, getD, set, take, drop, length-append, length-set, length-drop, length-take, List·getD-append}
-use lib.Seq.{ext-getD, getD-set-same, getD-set-other, getD-at, getD-drop}
+use lib.ListN.{length, getD, set, length-append, length-set, List·getD-append}
+use lib.Seq.{ext-getD, getD-set-same, getD-set-other, getD-at}
 use Rattle.joins.specs.Code.{rotated}
 
 -- the first i places have what stood one place further on

@@ -8,14 +8,14 @@ use lib.Dec.{eqb}
 use lib.ListN.{length, take, drop, length-append, drop-of-length-le}
 use lib.Seq.{length-take-le, take-all, take-at, drop-at}
 use borrow.Author.Tests.{eq-eqb, ne-eqb}
-use borrow.Rule.Slice.PartMut.{midOf, postOf, putMid}
+use borrow.Rule.Slice.PartMut.{midOf, putMid}
 use Rattle.network.specs.Walk.{Pass, flip}
 use Rattle.network.specs.Codes.{codeOf, codes}
 use Rattle.links.specs.Link.{Link, turnedWay}
 use Rattle.joins.specs.Code.{flipCode, turnedCodes, rotated, codesIn}
 use Rattle.joins.proofs.Turned.{turned-length}
 
-pub flip-flip : (c : ℕ) → flipCode (flipCode c) ≡ c
+flip-flip : (c : ℕ) → flipCode (flipCode c) ≡ c
 flip-flip c = omega arith
 
 pub turned-append : (a b : List ℕ) → turnedCodes (a ++ b) ≡ turnedCodes b ++ turnedCodes a
@@ -30,7 +30,7 @@ turned-twice [] = refl
 turned-twice (c ∷ a) = turned-append (turnedCodes a) (flipCode c ∷ []) ∙ ap₂ _∷_ (flip-flip c) (turned-twice a)
 
 -- two runs turned each by itself, and then as one, have changed places
-pub turned-parts : (a b : List ℕ) → turnedCodes (turnedCodes a ++ turnedCodes b) ≡ b ++ a
+turned-parts : (a b : List ℕ) → turnedCodes (turnedCodes a ++ turnedCodes b) ≡ b ++ a
 turned-parts a b = turned-append (turnedCodes a) (turnedCodes b) ∙ ap₂ _++_ (turned-twice b) (turned-twice a)
 
 -- a run whose first k codes are turned, then the others, and then all of it

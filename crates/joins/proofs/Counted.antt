@@ -1,13 +1,13 @@
 -- The link ends of every mark, counted row by row. Assumes nothing.
-use Prim.Native.Nat.{ℕ, suc, _+_, _*_, _≤_, _<_}
+use Prim.Native.Nat.{ℕ, _+_, _*_, _≤_, _<_}
 use native.Mathlib.Omega.{arith}
 use native.Mathlib.Numerals.{add-one}
 use native.Mathlib.Decide.{ℕ-discrete}
-use mathlib.Core.Path.{_≡_, refl, sym, _∙_, ap}
+use mathlib.Core.Path.{_≡_, sym, _∙_, ap}
 use mathlib.Core.Bool.{Bool, true, false}
 use mathlib.Core.List.{List, [], _∷_}
 use lib.Dec.{eqb}
-use lib.ListN.{length, getD, set, drop, drop-of-length-le, length-set}
+use lib.ListN.{length, getD, drop, drop-of-length-le, length-set}
 use lib.Seq.{drop-cons, getD-set-same, getD-set-other}
 use borrow.Author.Tests.{eq-eqb, ne-eqb}
 use Rattle.book.specs.Limits.{mostLines}
@@ -27,7 +27,7 @@ bit-few true = omega arith
 bit-few false = omega arith
 
 -- a row has two ends
-pub ends-few : (m : ℕ) (rows : List ℕ) → rowEnds m rows ≤ 2 * length rows
+ends-few : (m : ℕ) (rows : List ℕ) → rowEnds m rows ≤ 2 * length rows
 unfolding rowEnds
 ends-few m [] = omega arith
 ends-few m (row ∷ rows) = omega (arith, ends-few m rows, bit-few (eqb (firstOf row) m), bit-few (eqb (lastOf row) m))

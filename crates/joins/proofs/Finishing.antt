@@ -1,13 +1,13 @@
 -- Each link from its lower junction, link by link. Assumes nothing.
-use Prim.Native.Nat.{ℕ, suc, _+_, _≤_, _<_}
+use Prim.Native.Nat.{ℕ, _+_, _≤_, _<_}
 use native.Mathlib.Omega.{arith}
 use mathlib.Core.Path.{_≡_, refl, sym, _∙_, ap, subst}
 use mathlib.Core.List.{List, [], _∷_, _++_, map, append-assoc, append-nil}
 use lib.ListN.{length, length-append, length-map}
 use Rattle.book.specs.Limits.{mostLines}
 use Rattle.links.specs.Link.{Link, lowerFirst}
-use Rattle.links.specs.Sketch.{Sketch, sketch, inAll, finished}
-use Rattle.joins.specs.Tables.{Held, LinkAt, Becomes}
+use Rattle.links.specs.Sketch.{Sketch, sketch, finished}
+use Rattle.joins.specs.Tables.{Holds, LinkAt, Becomes}
 use Rattle.joins.specs.Step.{Tabled, SketchIn, Finished}
 use Rattle.joins.specs.declared.Counts.{Counts}
 use Rattle.joins.proofs.Moves.{link-at}
@@ -22,7 +22,7 @@ pub record LoweredTo (s : Sketch) (i : ℕ) (rows runs : List ℕ) : Type 0 wher
   pub left : List Link
   pub are : s .links ≡ done ++ left
   pub at : length done ≡ i
-  pub held : Held (map lower done ++ (left ++ (s .spurs ++ s .loops))) rows runs
+  pub held : Holds (map lower done ++ (left ++ (s .spurs ++ s .loops))) rows runs
 
 -- of every sketch that the tables had before, with so many links
 pub record AllLowered (links : ℕ) (rows₀ runs₀ : List ℕ) (i : ℕ) (rows runs : List ℕ) : Type 0 where
@@ -35,7 +35,7 @@ lowered-start links rows runs = record {
     left = s .links;
     are = refl;
     at = refl;
-    held = subst (λ (l : List Link). Held l rows runs) (append-assoc (s .links) (s .spurs) (s .loops)) (t .held);
+    held = subst (λ (l : List Link). Holds l rows runs) (append-assoc (s .links) (s .spurs) (s .loops)) (t .held);
   };
 }
 
@@ -52,7 +52,7 @@ module _ {links : ℕ} {rows₀ runs₀ : List ℕ} {i : ℕ} {rows runs : List 
     pub after : List Link
     pub are : s .links ≡ before ++ its ∷ after
     pub at : length before ≡ i
-    pub held : Held (map lower before ++ its ∷ (after ++ (s .spurs ++ s .loops))) rows runs
+    pub held : Holds (map lower before ++ its ∷ (after ++ (s .spurs ++ s .loops))) rows runs
 
   turn : (c : Counts) → c .links ≡ links → (s : Sketch) → Tabled s rows₀ runs₀ c → Turn s
   turn c n s t = go (w .of c n s t)
@@ -60,7 +60,7 @@ module _ {links : ℕ} {rows₀ runs₀ : List ℕ} {i : ℕ} {rows runs : List 
       go : LoweredTo s i rows runs → Turn s
       go x = by (x .left) (x .are) (x .held)
         where
-          by : (left : List Link) → s .links ≡ x .done ++ left → Held (map lower (x .done) ++ (left ++ (s .spurs ++ s .loops))) rows runs
+          by : (left : List Link) → s .links ≡ x .done ++ left → Holds (map lower (x .done) ++ (left ++ (s .spurs ++ s .loops))) rows runs
               → Turn s
           by [] are held = absurd (omega (arith, t .links-are, ap length are, length-append (x .done) [], x .at))
           by (y ∷ ys) are held = record { before = x .done; its = y; after = ys; are = are; at = x .at; held = held }
@@ -81,7 +81,7 @@ module _ {links : ℕ} {rows₀ runs₀ : List ℕ} {i : ℕ} {rows runs : List 
         left = x .after;
         are = x .are ∙ sym (append-assoc (x .before) (x .its ∷ []) (x .after));
         at = length-append (x .before) (x .its ∷ []) ∙ omega (arith, x .at);
-        held = subst (λ (l : List Link). Held l rows′ runs′)
+        held = subst (λ (l : List Link). Holds l rows′ runs′)
             (sym (ap (λ (l : List Link). l ++ (x .after ++ (s .spurs ++ s .loops))) (map-more (x .before) (x .its))
             ∙ append-assoc (map lower (x .before)) (lower (x .its) ∷ []) (x .after ++ (s .spurs ++ s .loops))))
             (b (map lower (x .before)) (x .its) (x .after ++ (s .spurs ++ s .loops)) (length-map (x .before) lower ∙ x .at) (x .held));
@@ -96,7 +96,7 @@ lowered-end c {i = i} {rows = rows} {runs = runs} w h s t = by (w .of c refl s t
     by (y ∷ ys) x e =
         absurd (omega (arith, t .links-are, ap length (x .are), length-append (x .done) (x .left), ap length e, x .at))
     by [] x e = record {
-      held = subst (λ (l : List Link). Held l rows runs)
+      held = subst (λ (l : List Link). Holds l rows runs)
           (ap (λ (l : List Link). map lower (x .done) ++ (l ++ (s .spurs ++ s .loops))) e
           ∙ ap (λ (l : List Link). map lower l ++ (s .spurs ++ s .loops)) (sym all)
           ∙ sym (append-assoc (map lower (s .links)) (s .spurs) (s .loops))) (x .held);

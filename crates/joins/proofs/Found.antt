@@ -1,5 +1,5 @@
 -- The first link of which a test holds, by its place among the rows. Assumes nothing.
-use Prim.Native.Nat.{ℕ, zero, suc, _+_, _-_, _≤_, _<_}
+use Prim.Native.Nat.{ℕ, zero, suc, _≤_, _<_}
 use native.Mathlib.Omega.{arith}
 use native.Mathlib.Numerals.{add-one}
 use mathlib.Core.Path.{_≡_, refl, sym, _∙_, ap, subst}
@@ -26,7 +26,7 @@ module _ (test : ℕ → Bool) where
       subst (Scanned (at l) (length l)) (add-one i)
       (scan-next (at l) (length l) i (omega arith) (none i (omega arith)) (scanned l i (omega arith) (λ j k. none j (omega arith))))
 
-  pub first-place : (before : List ℕ) (y : ℕ) (after : List ℕ) → ((j : ℕ) → j < length before → at before j ≡ false) → test y ≡ true
+  first-place : (before : List ℕ) (y : ℕ) (after : List ℕ) → ((j : ℕ) → j < length before → at before j ≡ false) → test y ≡ true
       → firstBad (at (before ++ y ∷ after)) (length (before ++ y ∷ after)) ≡ suc (length before)
   first-place before y after none holds =
       let n = length-append before (y ∷ after) in

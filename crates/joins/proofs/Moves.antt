@@ -4,20 +4,20 @@ use native.Mathlib.Omega.{arith}
 use mathlib.Core.Path.{_≡_, refl, sym, _∙_, ap, ap₂, subst}
 use mathlib.Core.Logic.{_⊎_, inl, inr}
 use mathlib.Core.Bool.{Bool, true, false, cond}
-use mathlib.Core.List.{List, [], _∷_, _++_, map, append-assoc, append-nil, List·Memᴰ, List·Memᴰ·head, List·Memᴰ·tail, List·Memᴰ·not-nil}
+use mathlib.Core.List.{List, [], _∷_, _++_, append-assoc, append-nil, List·Memᴰ, List·Memᴰ·head, List·Memᴰ·tail}
 use mathlib.Core.List.{Memᴰ·append-left, Memᴰ·append-right, List·Memᴰ·eq-of-singleton, List·Memᴰ·append-cases}
-use lib.ListN.{length, length-append, length-map, take, drop, getD, set}
+use lib.ListN.{length, length-append, length-map, take, getD, set}
 use lib.Seq.{take-at, drop-at, getD-at, set-at, set-getD}
 use borrow.Rule.Slice.PartMut.{midOf, putMid}
 use Rattle.book.specs.Limits.{mostLines}
 use Rattle.network.specs.Walk.{Pass}
 use Rattle.network.specs.Codes.{codes}
-use Rattle.links.specs.Link.{Link, turned, turnedWay, begun, begunWith, lowestLine, joined}
+use Rattle.links.specs.Link.{Link, turned, begun, begunWith, lowestLine, joined}
 use Rattle.links.proofs.Turning.{turned-count}
 use Rattle.links.proofs.Begun.{begun-count}
 use Rattle.joins.specs.Row.{rowLimit, rowOf, firstOf, lastOf, countOf, linkRow, Small, rowLines}
 use Rattle.joins.specs.Code.{turnedCodes, rotated, codesIn}
-use Rattle.joins.specs.Tables.{Held, LinkAt, Becomes, Behind, Two}
+use Rattle.joins.specs.Tables.{Holds, LinkAt, Becomes, Behind, Two}
 use Rattle.joins.proofs.Codes.{codes-length, codes-append, codes-turned, codes-in-append}
 use Rattle.joins.proofs.Rows.{first-of, last-of, count-of, lines-of}
 use Rattle.joins.proofs.Parts.{mid-at, put-at}
@@ -35,8 +35,8 @@ one-small x s y i = rw (List·Memᴰ·eq-of-singleton i) s
 -- ---- a link at place i
 
 module _ (before : List Link) (x : Link) (after : List Link) (rows runs : List ℕ) (i : ℕ) (at-i : length before ≡ i)
-    (h : Held (before ++ x ∷ after) rows runs) where
-  pub small-at : Small x
+    (h : Holds (before ++ x ∷ after) rows runs) where
+  small-at : Small x
   small-at = small-part before (x ∷ []) after rows runs h x (List·Memᴰ·head refl)
 
   pub row-at : getD rows i 0 ≡ linkRow x
@@ -54,7 +54,7 @@ module _ (before : List Link) (x : Link) (after : List Link) (rows runs : List �
   pub count-at : countOf (getD rows i 0) ≡ length (x .way)
   count-at = ap countOf row-at ∙ count-of x small-at
 
-  pub run-begins : rowLines (take i rows) ≡ length (codesIn before)
+  run-begins : rowLines (take i rows) ≡ length (codesIn before)
   run-begins = begin-at before (x ∷ []) after rows runs h i at-i
 
   run-parts : runs ≡ codesIn before ++ (codes (x .way) ++ runs-later before (x ∷ []) after rows runs h)
@@ -98,7 +98,7 @@ module _ (before : List Link) (x : Link) (after : List Link) (rows runs : List �
     run-at = mid-at (codesIn before) (codes (x .way)) (runs-later before (x ∷ []) after rows runs h) runs run-parts a m run-starts run-count
 
     pub link-put : (row : ℕ) → row ≡ linkRow y → (run : List ℕ) → run ≡ codes (y .way)
-        → Held (before ++ y ∷ after) (set rows i row) (putMid a m runs run)
+        → Holds (before ++ y ∷ after) (set rows i row) (putMid a m runs run)
     link-put row is-row run is-run =
         put-part before (x ∷ []) after rows runs h (y ∷ []) (one-small y s) (h .rows-behind) (set rows i row) (putMid a m runs run)
         (ap (λ (l : List ℕ). set l i row) (rows-parts before (x ∷ []) after rows runs h)
@@ -112,7 +112,7 @@ module _ (before : List Link) (x : Link) (after : List Link) (rows runs : List �
   pub turned-in : (last first a n row : ℕ) → last ≡ lastOf (getD rows i 0) → first ≡ firstOf (getD rows i 0)
       → a ≡ rowLines (take i rows) → n ≡ countOf (getD rows i 0) → row ≡ rowOf last first n
       → (run : List ℕ) → run ≡ turnedCodes (midOf a (a + n - a) runs)
-      → Held (before ++ turned x ∷ after) (set rows i row) (putMid a (a + n - a) runs run)
+      → Holds (before ++ turned x ∷ after) (set rows i row) (putMid a (a + n - a) runs run)
   unfolding linkRow
   turned-in last first a n row is-last is-first is-a is-n is-row run is-run =
       link-put (turned x) small a n is-a is-n row
@@ -129,10 +129,10 @@ module _ (before : List Link) (x : Link) (after : List Link) (rows runs : List �
   -- begun with its lowest line: the row stays
   pub begun-in : (a n : ℕ) → a ≡ rowLines (take i rows) → n ≡ countOf (getD rows i 0)
       → (run : List ℕ) → ((w : List Pass) → midOf a (a + n - a) runs ≡ codes w → run ≡ codes (begunWith (lowestLine w) [] w))
-      → Held (before ++ begun x ∷ after) rows (putMid a (a + n - a) runs run)
+      → Holds (before ++ begun x ∷ after) rows (putMid a (a + n - a) runs run)
   unfolding linkRow
   begun-in a n is-a is-n run is-run =
-      subst (λ (l : List ℕ). Held (before ++ begun x ∷ after) l (putMid a (a + n - a) runs run)) (set-getD rows i 0)
+      subst (λ (l : List ℕ). Holds (before ++ begun x ∷ after) l (putMid a (a + n - a) runs run)) (set-getD rows i 0)
       (link-put (begun x) small a n is-a is-n (getD rows i 0)
       (row-at ∙ ap (rowOf (x .first) (x .last)) (sym as-many)) run
       (is-run (x .way) (run-at (begun x) small a n is-a is-n)))
@@ -148,7 +148,7 @@ module _ (before : List Link) (x : Link) (after : List Link) (rows runs : List �
 -- what a test says of the link at place i
 abbrev Says : (Link → Bool) → Bool → ℕ → List ℕ → List ℕ → Type 0
 Says test t i rows runs =
-    (before : List Link) (x : Link) (after : List Link) → length before ≡ i → Held (before ++ x ∷ after) rows runs → test x ≡ t
+    (before : List Link) (x : Link) (after : List Link) → length before ≡ i → Holds (before ++ x ∷ after) rows runs → test x ≡ t
 
 module _ (test : Link → Bool) (i : ℕ) (rows runs : List ℕ) where
   pub turns-it : Says test false i rows runs → (rows′ runs′ : List ℕ) → Becomes (λ x. turned x) i rows runs rows′ runs′
@@ -161,7 +161,7 @@ module _ (test : Link → Bool) (i : ℕ) (rows runs : List ℕ) where
 -- ---- a link and those behind it
 
 module _ (before : List Link) (x : Link) (after later : List Link) (rows runs : List ℕ) (i end : ℕ) (at-i : length before ≡ i)
-    (up-to : i + suc (length after) ≡ end) (h : Held (before ++ ((x ∷ after) ++ later)) rows runs) where
+    (up-to : i + suc (length after) ≡ end) (h : Holds (before ++ ((x ∷ after) ++ later)) rows runs) where
   part-count : length (rowsOf (x ∷ after)) ≡ end - i
   part-count = rows-in-part before (x ∷ after) later rows runs h ∙ omega arith
 
@@ -215,7 +215,7 @@ module _ (before : List Link) (x : Link) (after later : List Link) (rows runs : 
   pub behind-in : (a n m : ℕ) → a ≡ rowLines (take i rows) → n ≡ countOf (getD rows i 0) → m ≡ rowLines (midOf i (end - i) rows)
       → (row-part : List ℕ) → row-part ≡ rotated 1 (midOf i (end - i) rows)
       → (run-part : List ℕ) → run-part ≡ rotated n (midOf a (a + m - a) runs)
-      → Held (before ++ ((after ++ (x ∷ [])) ++ later)) (putMid i (end - i) rows row-part) (putMid a (a + m - a) runs run-part)
+      → Holds (before ++ ((after ++ (x ∷ [])) ++ later)) (putMid i (end - i) rows row-part) (putMid a (a + m - a) runs run-part)
   unfolding codesIn
   behind-in a n m is-a is-n is-m row-part is-row run-part is-run =
       put-part before (x ∷ after) later rows runs h (after ++ (x ∷ [])) small (h .rows-behind) (putMid i (end - i) rows row-part)
@@ -263,7 +263,7 @@ module _ (before : List Link) (x : Link) (after later : List Link) (rows runs : 
 
 module _ (before : List Link) (x : Link) (between : List Link) (y : Link) (after : List Link) (rows runs : List ℕ) (i j end : ℕ)
     (at-i : length before ≡ i) (at-j : i + suc (length between) ≡ j) (up-to : j + suc (length after) ≡ end)
-    (h : Held (before ++ (x ∷ (between ++ (y ∷ after)))) rows runs) where
+    (h : Holds (before ++ (x ∷ (between ++ (y ∷ after)))) rows runs) where
   small-one : Small x
   small-one = h .small x (Memᴰ·append-right before (List·Memᴰ·head refl))
 
@@ -395,7 +395,7 @@ module _ (before : List Link) (x : Link) (between : List Link) (y : Link) (after
         → a ≡ rowLines (take (i + 1) rows) → b ≡ rowLines (midOf (i + 1) (j - (i + 1)) rows) → row ≡ rowOf first last (one + n)
         → (row-part : List ℕ) → row-part ≡ rotated 1 (midOf j (end - j) (set rows i row))
         → (run-part : List ℕ) → run-part ≡ rotated b (midOf a (a + b + n - a) runs)
-        → Held (before ++ (joined x y ∷ (between ++ after))) (putMid j (end - j) (set rows i row) row-part)
+        → Holds (before ++ (joined x y ∷ (between ++ after))) (putMid j (end - j) (set rows i row) row-part)
         (putMid a (a + b + n - a) runs run-part)
     unfolding codesIn linkRow
     joined-in first last one n a b row is-first is-last is-one is-n is-a is-b is-row row-part is-part run-part is-run = record {

@@ -1,16 +1,13 @@
 -- The rows of links, read back. Assumes nothing.
-use Prim.Native.Nat.{ℕ, _+_, _*_, _/_, _%_, _<_}
+use Prim.Native.Nat.{ℕ, _+_}
 use native.Mathlib.Omega.{arith}
 use mathlib.Core.Path.{_≡_, refl, sym, _∙_, ap, ap₂}
-use mathlib.Core.Bool.{_||_}
-use mathlib.Core.List.{List, [], _∷_, _++_, map, List·Memᴰ, List·Memᴰ·head, List·Memᴰ·tail}
-use lib.Dec.{eqb}
+use mathlib.Core.List.{List, [], _∷_, map, List·Memᴰ, List·Memᴰ·head, List·Memᴰ·tail}
 use lib.ListN.{length, length-append}
-use Rattle.network.specs.Piece.{bit}
 use Rattle.network.specs.Codes.{codes}
 use Rattle.links.specs.Link.{Link, closesOnItself}
-use Rattle.links.specs.Ends.{endsOf, endsAt, hasEnd}
-use Rattle.joins.specs.Row.{rowLimit, rowOf, firstOf, lastOf, countOf, linkRow, Small, rowEnds, rowHasEnd, rowCloses, rowLines}
+use Rattle.links.specs.Ends.{endsAt, hasEnd}
+use Rattle.joins.specs.Row.{firstOf, lastOf, countOf, linkRow, Small, rowEnds, rowHasEnd, rowCloses, rowLines}
 use Rattle.joins.specs.Code.{codesIn}
 use Rattle.joins.proofs.Codes.{codes-length}
 

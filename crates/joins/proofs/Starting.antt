@@ -1,8 +1,7 @@
 -- Every standing line as a link of its own, line by line. Assumes nothing.
 use Prim.Native.Nat.{ℕ, suc, _+_, _*_, _≤_, _<_}
 use native.Mathlib.Omega.{arith}
-use native.Mathlib.Numerals.{add-one}
-use mathlib.Core.Path.{_≡_, refl, sym, _∙_, ap, ap₂, subst}
+use mathlib.Core.Path.{_≡_, refl, sym, _∙_, ap, subst}
 use mathlib.Core.Logic.{_⊎_, inl, inr}
 use mathlib.Core.Bool.{true, false}
 use mathlib.Core.List.{List, [], _∷_, _++_, map, append-assoc, append-nil, List·Memᴰ, List·Memᴰ·append-cases, List·Memᴰ·not-nil}
@@ -11,14 +10,12 @@ use lib.IntN.{ℤ, pos, natAbs}
 use lib.ListN.{length, set, length-append, length-map}
 use lib.Seq.{set-at}
 use Rattle.laws.specs.Tests.{eqZ}
-use Rattle.book.specs.Limits.{mostLines, mostMarks}
-use Rattle.book.specs.Line.{fromAt, toAt, standingAt, lineCount}
+use Rattle.book.specs.Line.{fromAt, toAt, standingAt}
 use Rattle.book.specs.Good.{GoodLines}
 use Rattle.book.specs.declared.Book.{Book}
 use Rattle.book.proofs.Places.{count-of}
 use Rattle.network.specs.Standing.{Line, standing}
-use Rattle.network.specs.Field.{lineAt, standsFrom}
-use Rattle.network.specs.Walk.{pass}
+use Rattle.network.specs.Field.{standsFrom}
 use Rattle.network.specs.Codes.{codes}
 use Rattle.network.proofs.Standing.{stands-all, stands-none}
 use Rattle.links.specs.Link.{Link, ownLink}
@@ -27,20 +24,18 @@ use Rattle.fields.specs.Places.{Place}
 use Rattle.fields.proofs.Stands.{lineHere, place-of, stands-not, stands-here}
 use Rattle.joins.specs.Row.{rowOf, linkRow, Small}
 use Rattle.joins.specs.Code.{codesIn}
-use Rattle.joins.specs.Tables.{Held}
+use Rattle.joins.specs.Tables.{Holds}
 use Rattle.joins.specs.Step.{Tabled}
-use Rattle.joins.specs.declared.Counts.{Counts}
 use Rattle.joins.proofs.Codes.{codes-in-append}
 use Rattle.joins.proofs.Tables.{rowsOf, rows-append}
-use Rattle.joins.proofs.Moves.{one-run}
 
 -- the first i lines are looked at: those of them that stand have their links, so many
 pub record BegunTo (lines : List ℤ) (i links : ℕ) (rows runs : List ℕ) : Type 0 where
   pub own : List Line
   pub are : standing lines ≡ own ++ standsFrom lines i
   pub count : length own ≡ links
-  pub held : Held (map ownLink own) rows runs
-  pub codes-are : length (codesIn (map ownLink own)) ≡ links
+  pub held : Holds (map ownLink own) rows runs
+  codes-are : length (codesIn (map ownLink own)) ≡ links
 
 pub begun-start : (lines : List ℤ) (rows runs : List ℕ) → BegunTo lines 0 0 rows runs
 unfolding codesIn
@@ -158,7 +153,7 @@ pub begun-end : (k : Book) (lines : List ℤ) → GoodLines k lines → (i links
     → BegunTo lines i links rows runs → Tabled (startOf (standing lines)) rows runs (record { links = links; spurs = 0; loops = 0 })
 unfolding startOf
 begun-end k lines g i links h {rows = rows} {runs = runs} t = record {
-  held = subst (λ (l : List Link). Held l rows runs) (ap (map ownLink) (sym all) ∙ sym nothing-more) (t .held);
+  held = subst (λ (l : List Link). Holds l rows runs) (ap (map ownLink) (sym all) ∙ sym nothing-more) (t .held);
   links-are = sym (ap length (ap (map ownLink) all) ∙ length-map (t .own) ownLink ∙ t .count);
   spurs-are = refl;
   loops-are = refl;

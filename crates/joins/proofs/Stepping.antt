@@ -3,27 +3,26 @@ use Prim.Native.Nat.{ℕ, zero, suc, _+_, _-_, _≤_, _<_}
 use native.Mathlib.Omega.{arith}
 use mathlib.Core.Path.{_≡_, refl, sym, _∙_, ap, subst}
 use mathlib.Core.Logic.{_⊎_, inl, inr}
-use mathlib.Core.Bool.{Bool, true, false, cond}
-use mathlib.Core.List.{List, [], _∷_, _++_, map, List·Memᴰ, List·Memᴰ·head, List·Memᴰ·tail}
-use mathlib.Core.Option.{none, some}
+use mathlib.Core.Bool.{Bool, false}
+use mathlib.Core.List.{List, [], _∷_, _++_, List·Memᴰ, List·Memᴰ·head, List·Memᴰ·tail}
+use mathlib.Core.Option.{none}
 use lib.Dec.{eqb}
-use lib.ListN.{length, take, drop, getD, length-append, length-map, length-drop}
+use lib.ListN.{length, take, drop, getD, length-append, length-drop}
 use lib.Seq.{getD-drop, take-all}
 use borrow.Rule.Slice.PartMut.{midOf}
-use borrow.Author.Tests.{eqb-true, eqb-false, eq-eqb, ne-eqb}
+use borrow.Author.Tests.{eqb-false}
 use Rattle.laws.specs.Scan.{firstFrom, firstBad}
-use Rattle.book.specs.Limits.{mostLines}
 use Rattle.network.specs.Standing.{Line}
 use Rattle.links.specs.Link.{Link, closesOnItself}
 use Rattle.links.specs.Ends.{endsAt, lowestWith, TwoEnds, firstThat}
-use Rattle.links.specs.Sketch.{Sketch, sketch, spurOff, loopOff, mergedAt, step}
+use Rattle.links.specs.Sketch.{Sketch, sketch, step}
 use Rattle.links.specs.Steps.{Lowest, NoMark, NoLoop}
 use Rattle.links.specs.Stage.{Stage}
 use Rattle.links.proofs.Among.{it-is-in}
 use Rattle.links.proofs.Ends.{FirstOf, first-or-none, finds-first, finds-none, lowest-mark, no-mark, two-ends}
 use Rattle.links.proofs.Shapes.{some-lines}
 use Rattle.links.proofs.OneStep.{step-spur, step-loop, step-merge, step-none}
-use Rattle.joins.specs.Row.{firstOf, lastOf, linkRow, Small, rowEnds, rowCloses, Between}
+use Rattle.joins.specs.Row.{Small, rowEnds, rowCloses, Between}
 use Rattle.joins.specs.Step.{Tabled, EndIn, SpurTaken, FirstLoop, LoopIn, LoopTaken, TwoIn, Merged}
 use Rattle.joins.specs.declared.Counts.{Counts}
 use Rattle.joins.proofs.Rows.{first-of, last-of, closes-of, ends-of}
@@ -45,7 +44,7 @@ module _ (p q : ℕ → Bool) where
   same-from i zero h = refl
   same-from i (suc k) h = rw (h i (omega arith), same-from (suc i) k (λ j l. h j (omega arith)))
 
-  pub same-first : (n : ℕ) → ((j : ℕ) → j < n → p j ≡ q j) → firstBad p n ≡ firstBad q n
+  same-first : (n : ℕ) → ((j : ℕ) → j < n → p j ≡ q j) → firstBad p n ≡ firstBad q n
   unfolding firstBad
   same-first n h = same-from 0 n (λ j l. h j (omega arith))
 

@@ -1,20 +1,17 @@
 -- The tables of links, in front of a place, at it and behind it. Assumes nothing.
-use Prim.Native.Nat.{ℕ, suc, _+_, _≤_, _<_}
-use native.Mathlib.Omega.{arith}
-use mathlib.Core.Path.{_≡_, refl, sym, _∙_, ap, ap₂}
+use Prim.Native.Nat.{ℕ}
+use mathlib.Core.Path.{_≡_, refl, sym, _∙_, ap}
 use mathlib.Core.Logic.{_⊎_, inl, inr}
-use mathlib.Core.List.{List, [], _∷_, _++_, map, append-assoc, List·Memᴰ, List·Memᴰ·head, List·Memᴰ·tail, List·Memᴰ·append-cases}
+use mathlib.Core.List.{List, [], _∷_, _++_, map, append-assoc, List·Memᴰ, List·Memᴰ·append-cases}
 use mathlib.Core.List.{Memᴰ·append-left, Memᴰ·append-right}
-use lib.ListN.{length, length-append, length-map, take, drop, getD}
-use lib.Seq.{take-at, getD-at}
-use Rattle.network.specs.Codes.{codes}
+use lib.ListN.{length, length-map, take}
+use lib.Seq.{take-at}
 use Rattle.links.specs.Link.{Link}
-use Rattle.joins.specs.Row.{linkRow, Small, rowLines, firstOf, lastOf, countOf, rowLimit}
+use Rattle.joins.specs.Row.{linkRow, Small, rowLines}
 use Rattle.joins.specs.Code.{codesIn}
-use Rattle.joins.specs.Tables.{Held}
+use Rattle.joins.specs.Tables.{Holds}
 use Rattle.joins.proofs.Codes.{codes-in-append}
 use Rattle.joins.proofs.Rows.{lines-of}
-use Rattle.joins.proofs.Parts.{mid-at, put-at}
 
 abbrev pub rowsOf : List Link → List ℕ
 rowsOf xs = map linkRow xs
@@ -23,7 +20,7 @@ pub rows-append : (xs ys : List Link) → rowsOf (xs ++ ys) ≡ rowsOf xs ++ row
 rows-append [] ys = refl
 rows-append (x ∷ xs) ys = ap (λ (l : List ℕ). linkRow x ∷ l) (rows-append xs ys)
 
-module _ (before part later : List Link) (rows runs : List ℕ) (h : Held (before ++ (part ++ later)) rows runs) where
+module _ (before part later : List Link) (rows runs : List ℕ) (h : Holds (before ++ (part ++ later)) rows runs) where
   small-before : (x : Link) → List·Memᴰ x before → Small x
   small-before x i = h .small x (Memᴰ·append-left (part ++ later) i)
 
@@ -72,7 +69,7 @@ module _ (before part later : List Link) (rows runs : List ℕ) (h : Held (befor
   -- another part in its place, and more behind
   pub put-part : (new : List Link) → ((x : Link) → List·Memᴰ x new → Small x) → (rest rows′ runs′ : List ℕ)
       → rows′ ≡ rowsOf before ++ (rowsOf new ++ (rowsOf later ++ rest)) → runs′ ≡ codesIn before ++ (codesIn new ++ runs-later)
-      → Held (before ++ (new ++ later)) rows′ runs′
+      → Holds (before ++ (new ++ later)) rows′ runs′
   put-part new s rest rows′ runs′ r c = record {
     small = all;
     rows-behind = rest;

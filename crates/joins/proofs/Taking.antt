@@ -1,25 +1,25 @@
 -- What comes off, and what is merged, in the tables. Assumes nothing.
-use Prim.Native.Nat.{ℕ, zero, suc, _+_, _-_, _≤_, _<_}
+use Prim.Native.Nat.{ℕ, suc, _+_, _-_, _≤_, _<_}
 use native.Mathlib.Omega.{arith}
-use mathlib.Core.Path.{_≡_, refl, sym, _∙_, ap, subst}
+use mathlib.Core.Path.{_≡_, sym, _∙_, ap, subst}
 use mathlib.Core.Logic.{_⊎_, inl, inr}
-use mathlib.Core.Bool.{Bool, true, false}
-use mathlib.Core.List.{List, [], _∷_, _++_, map, append-assoc, append-nil, List·Memᴰ, List·Memᴰ·tail, Memᴰ·append-left, Memᴰ·append-right}
-use lib.ListN.{length, take, getD, length-append, length-map, length-take}
-use lib.Seq.{take-at, length-take-le}
+use mathlib.Core.Bool.{false}
+use mathlib.Core.List.{List, [], _∷_, _++_, append-assoc, append-nil, List·Memᴰ, List·Memᴰ·tail, Memᴰ·append-left, Memᴰ·append-right}
+use lib.ListN.{length, take, getD, length-append, length-map}
+use lib.Seq.{take-at}
 use borrow.Rule.Slice.PartMut.{midOf}
 use Rattle.laws.specs.Scan.{firstBad}
 use Rattle.book.specs.Limits.{mostLines}
-use Rattle.links.specs.Link.{Link, readFrom, readTo, joined, begun, closesOnItself}
+use Rattle.links.specs.Link.{Link, readFrom, readTo, joined, begun}
 use Rattle.links.specs.Ends.{endsAt, hasEnd, TwoEnds}
-use Rattle.links.specs.Sketch.{Sketch, sketch, inAll, spurOff, loopOff, mergedAt}
+use Rattle.links.specs.Sketch.{Sketch, sketch, spurOff, loopOff, mergedAt}
 use Rattle.links.proofs.Ends.{FirstOf, first-or-none, ends-of-none, merges-first}
 use Rattle.links.proofs.OneStep.{spur-off, loop-off}
-use Rattle.joins.specs.Row.{linkRow, Small, rowHasEnd, rowCloses, countOf}
-use Rattle.joins.specs.Tables.{Held, LinkAt, Becomes, Behind, GoesBehind, Two, BecomeOne}
+use Rattle.joins.specs.Row.{linkRow, Small, rowHasEnd, countOf}
+use Rattle.joins.specs.Tables.{Holds, LinkAt, Becomes, Behind, GoesBehind, Two, BecomeOne}
 use Rattle.joins.specs.Step.{Tabled, FirstLoop}
 use Rattle.joins.specs.declared.Counts.{Counts}
-use Rattle.joins.proofs.Rows.{has-end-of, closes-of}
+use Rattle.joins.proofs.Rows.{has-end-of}
 use Rattle.joins.proofs.Tables.{rowsOf, rows-append}
 use Rattle.joins.proofs.Moves.{link-at, is-behind, are-two, count-at}
 use Rattle.joins.proofs.Parts.{mid-at}
@@ -62,21 +62,21 @@ module _ {s : Sketch} {rows runs : List ℕ} {c : Counts} (t : Tabled s rows run
 module _ {s : Sketch} {rows runs : List ℕ} {c : Counts} (t : Tabled s rows runs c) (before : List Link) (x : Link) (after : List Link)
     (are : s .links ≡ before ++ x ∷ after) where
   -- the tables around it
-  pub held-around : Held (before ++ x ∷ (after ++ (s .spurs ++ s .loops))) rows runs
+  held-around : Holds (before ++ x ∷ (after ++ (s .spurs ++ s .loops))) rows runs
   held-around =
-      subst (λ (l : List Link). Held l rows runs)
+      subst (λ (l : List Link). Holds l rows runs)
       (ap (λ (l : List Link). (l ++ s .spurs) ++ s .loops) are ∙ simp append-assoc) (t .held)
 
   -- and as it is moved: behind the spurs, and behind all
-  pub held-spurs : (y : Link) {rows′ runs′ : List ℕ} → Held (before ++ y ∷ (after ++ (s .spurs ++ s .loops))) rows′ runs′
-      → Held (before ++ ((y ∷ (after ++ s .spurs)) ++ s .loops)) rows′ runs′
+  held-spurs : (y : Link) {rows′ runs′ : List ℕ} → Holds (before ++ y ∷ (after ++ (s .spurs ++ s .loops))) rows′ runs′
+      → Holds (before ++ ((y ∷ (after ++ s .spurs)) ++ s .loops)) rows′ runs′
   held-spurs y {rows′ = rows′} {runs′ = runs′} h =
-      subst (λ (l : List Link). Held (before ++ (y ∷ l)) rows′ runs′) (sym (append-assoc after (s .spurs) (s .loops))) h
+      subst (λ (l : List Link). Holds (before ++ (y ∷ l)) rows′ runs′) (sym (append-assoc after (s .spurs) (s .loops))) h
 
-  pub held-all : (y : Link) {rows′ runs′ : List ℕ} → Held (before ++ y ∷ (after ++ (s .spurs ++ s .loops))) rows′ runs′
-      → Held (before ++ ((y ∷ (after ++ (s .spurs ++ s .loops))) ++ [])) rows′ runs′
+  pub held-all : (y : Link) {rows′ runs′ : List ℕ} → Holds (before ++ y ∷ (after ++ (s .spurs ++ s .loops))) rows′ runs′
+      → Holds (before ++ ((y ∷ (after ++ (s .spurs ++ s .loops))) ++ [])) rows′ runs′
   held-all y {rows′ = rows′} {runs′ = runs′} h =
-      subst (λ (l : List Link). Held (before ++ l) rows′ runs′) (sym (append-nil (y ∷ (after ++ (s .spurs ++ s .loops))))) h
+      subst (λ (l : List Link). Holds (before ++ l) rows′ runs′) (sym (append-nil (y ∷ (after ++ (s .spurs ++ s .loops))))) h
 
   links-count : c .links ≡ suc (length before + length after)
   links-count = t .links-are ∙ ap length are ∙ length-append before (x ∷ after) ∙ omega arith
@@ -84,7 +84,7 @@ module _ {s : Sketch} {rows runs : List ℕ} {c : Counts} (t : Tabled s rows run
 -- ---- 1. the spur at mark m
 
 module _ (m : ℕ) {s : Sketch} {rows runs : List ℕ} {c : Counts} (t : Tabled s rows runs c) (some : 0 < endsAt m (s .links)) where
-  pub first-end : FirstOf (hasEnd m) (s .links)
+  first-end : FirstOf (hasEnd m) (s .links)
   first-end = go (first-or-none (hasEnd m) (s .links))
     where
       go : FirstOf (hasEnd m) (s .links) ⊎ ((y : Link) → List·Memᴰ y (s .links) → hasEnd m y ≡ false) → FirstOf (hasEnd m) (s .links)
@@ -108,7 +108,7 @@ module _ (m : ℕ) {s : Sketch} {rows runs : List ℕ} {c : Counts} (t : Tabled 
     at-spur : length (f .before) ≡ r - 1
     at-spur = omega (arith, spur-found)
 
-    around : Held (f .before ++ f .its ∷ (f .after ++ (s .spurs ++ s .loops))) rows runs
+    around : Holds (f .before ++ f .its ∷ (f .after ++ (s .spurs ++ s .loops))) rows runs
     around = held-around t (f .before) (f .its) (f .after) (f .links-are)
 
     pub spur-asked : length rows ≤ mostLines → LinkAt (r - 1) rows runs
@@ -116,7 +116,7 @@ module _ (m : ℕ) {s : Sketch} {rows runs : List ℕ} {c : Counts} (t : Tabled 
 
     -- read from its mark
     module _ (rows₁ runs₁ : List ℕ) (b : Becomes (λ x. readFrom m x) (r - 1) rows runs rows₁ runs₁) where
-      read : Held (f .before ++ ((readFrom m (f .its) ∷ (f .after ++ s .spurs)) ++ s .loops)) rows₁ runs₁
+      read : Holds (f .before ++ ((readFrom m (f .its) ∷ (f .after ++ s .spurs)) ++ s .loops)) rows₁ runs₁
       read =
           held-spurs t (f .before) (f .its) (f .after) (f .links-are) (readFrom m (f .its))
           (b (f .before) (f .its) (f .after ++ (s .spurs ++ s .loops)) at-spur around)
@@ -142,7 +142,7 @@ module _ (m : ℕ) {s : Sketch} {rows runs : List ℕ} {c : Counts} (t : Tabled 
       spur-taken rows₂ runs₂ g =
           subst (λ (z : Sketch). Tabled z rows₂ runs₂ (record { links = c .links - 1; spurs = c .spurs + 1; loops = c .loops }))
           (sym (spur-off s (f .before) (f .its) (f .after) (f .links-are) m (f .none-before) (f .holds))) (record {
-            held = subst (λ (l : List Link). Held l rows₂ runs₂) (simp append-assoc)
+            held = subst (λ (l : List Link). Holds l rows₂ runs₂) (simp append-assoc)
                 (g (f .before) (readFrom m (f .its)) (f .after ++ s .spurs) (s .loops) at-spur up-to read);
             links-are = omega (arith, links-count t (f .before) (f .its) (f .after) (f .links-are), length-append (f .before) (f .after));
             spurs-are = omega (arith, t .spurs-are, length-append (s .spurs) (readFrom m (f .its) ∷ []));
@@ -152,7 +152,7 @@ module _ (m : ℕ) {s : Sketch} {rows runs : List ℕ} {c : Counts} (t : Tabled 
 -- ---- 2. the self-closing loop at place i
 
 module _ {i : ℕ} {s : Sketch} {rows runs : List ℕ} {c : Counts} (t : Tabled s rows runs c) {x : Link} (f : FirstLoop i (s .links) x) where
-  loop-around : Held (f .before ++ x ∷ (f .after ++ (s .spurs ++ s .loops))) rows runs
+  loop-around : Holds (f .before ++ x ∷ (f .after ++ (s .spurs ++ s .loops))) rows runs
   loop-around = held-around t (f .before) x (f .after) (f .links-are)
 
   pub loop-asked : length rows ≤ mostLines → LinkAt i rows runs
@@ -162,7 +162,7 @@ module _ {i : ℕ} {s : Sketch} {rows runs : List ℕ} {c : Counts} (t : Tabled 
   loop-lines h = omega (arith, count-at (f .before) x (f .after ++ (s .spurs ++ s .loops)) rows runs i (f .at) loop-around)
 
   module _ (runs₁ : List ℕ) (b : Becomes (λ x. begun x) i rows runs rows runs₁) where
-    loop-begun : Held (f .before ++ ((begun x ∷ (f .after ++ (s .spurs ++ s .loops))) ++ [])) rows runs₁
+    loop-begun : Holds (f .before ++ ((begun x ∷ (f .after ++ (s .spurs ++ s .loops))) ++ [])) rows runs₁
     loop-begun =
         held-all t (f .before) x (f .after) (f .links-are) (begun x)
         (b (f .before) x (f .after ++ (s .spurs ++ s .loops)) (f .at) loop-around)
@@ -189,7 +189,7 @@ module _ {i : ℕ} {s : Sketch} {rows runs : List ℕ} {c : Counts} (t : Tabled 
     loop-taken rows₂ runs₂ g =
         subst (λ (z : Sketch). Tabled z rows₂ runs₂ (record { links = c .links - 1; spurs = c .spurs; loops = c .loops + 1 }))
         (sym (loop-off s (f .before) x (f .after) (f .links-are) (f .none-before) (f .closes))) (record {
-          held = subst (λ (l : List Link). Held l rows₂ runs₂) (simp (append-assoc, append-nil))
+          held = subst (λ (l : List Link). Holds l rows₂ runs₂) (simp (append-assoc, append-nil))
               (g (f .before) (begun x) (f .after ++ (s .spurs ++ s .loops)) [] (f .at) loop-up-to loop-begun);
           links-are = omega (arith, links-count t (f .before) x (f .after) (f .links-are), length-append (f .before) (f .after));
           spurs-are = t .spurs-are;
@@ -206,9 +206,9 @@ module _ (m : ℕ) {s : Sketch} {rows runs : List ℕ} {c : Counts} (t : Tabled 
   abbrev rest : List Link
   rest = two .after ++ off
 
-  merge-around : Held (two .before ++ (two .one ∷ (two .between ++ (two .other ∷ rest)))) rows runs
+  merge-around : Holds (two .before ++ (two .one ∷ (two .between ++ (two .other ∷ rest)))) rows runs
   merge-around =
-      subst (λ (l : List Link). Held l rows runs) (ap (λ (l : List Link). (l ++ s .spurs) ++ s .loops) (two .links-are) ∙ simp append-assoc)
+      subst (λ (l : List Link). Holds l rows runs) (ap (λ (l : List Link). (l ++ s .spurs) ++ s .loops) (two .links-are) ∙ simp append-assoc)
       (t .held)
 
   count : c .links ≡ length (two .before) + suc (length (two .between) + suc (length (two .after)))
@@ -273,9 +273,9 @@ module _ (m : ℕ) {s : Sketch} {rows runs : List ℕ} {c : Counts} (t : Tabled 
         abbrev before-other : List Link
         before-other = two .before ++ (one ∷ two .between)
 
-        read-one : Held (before-other ++ two .other ∷ rest) rows₁ runs₁
+        read-one : Holds (before-other ++ two .other ∷ rest) rows₁ runs₁
         read-one =
-            subst (λ (l : List Link). Held l rows₁ runs₁) (sym (append-assoc (two .before) (one ∷ two .between) (two .other ∷ rest)))
+            subst (λ (l : List Link). Holds l rows₁ runs₁) (sym (append-assoc (two .before) (one ∷ two .between) (two .other ∷ rest)))
             (b (two .before) (two .one) (two .between ++ (two .other ∷ rest)) at-one merge-around)
 
         at-other : length before-other ≡ r - 1 + q
@@ -286,9 +286,9 @@ module _ (m : ℕ) {s : Sketch} {rows runs : List ℕ} {c : Counts} (t : Tabled 
 
         -- and the second from it
         module _ (rows₂ runs₂ : List ℕ) (d : Becomes (λ x. readFrom m x) (r - 1 + q) rows₁ runs₁ rows₂ runs₂) where
-          read-both : Held (two .before ++ (one ∷ (two .between ++ (other ∷ rest)))) rows₂ runs₂
+          read-both : Holds (two .before ++ (one ∷ (two .between ++ (other ∷ rest)))) rows₂ runs₂
           read-both =
-              subst (λ (l : List Link). Held l rows₂ runs₂) (append-assoc (two .before) (one ∷ two .between) (other ∷ rest))
+              subst (λ (l : List Link). Holds l rows₂ runs₂) (append-assoc (two .before) (one ∷ two .between) (other ∷ rest))
               (d before-other (two .other) rest at-other read-one)
 
           abbrev all : ℕ
@@ -322,7 +322,7 @@ module _ (m : ℕ) {s : Sketch} {rows runs : List ℕ} {c : Counts} (t : Tabled 
           merged rows₃ runs₃ g =
               subst (λ (l : List Link). Tabled (sketch l (s .spurs) (s .loops)) rows₃ runs₃
               (record { links = c .links - 1; spurs = c .spurs; loops = c .loops })) (sym its-links) (record {
-                held = subst (λ (l : List Link). Held l rows₃ runs₃) (simp append-assoc)
+                held = subst (λ (l : List Link). Holds l rows₃ runs₃) (simp append-assoc)
                     (g (two .before) one (two .between) other rest at-one to-other to-end read-both);
                 links-are = omega (
                   arith,

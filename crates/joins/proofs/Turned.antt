@@ -3,7 +3,7 @@ use Prim.Native.Nat.{ℕ, zero, suc, _+_, _-_, _≤_, _<_}
 use native.Mathlib.Omega.{arith}
 use native.Mathlib.Decide.{ℕ-discrete, decLt}
 use mathlib.Core.Path.{_≡_, refl, sym, _∙_, ap}
-use mathlib.Core.List.{List, [], _∷_, _++_}
+use mathlib.Core.List.{List, [], _∷_}
 use lib.ListN.{length, getD, set, length-append, length-set, List·getD-append}
 use lib.Seq.{ext-getD, getD-set-same, getD-set-other, getD-at}
 use Rattle.joins.specs.Code.{flipCode, turnedCodes}
@@ -14,7 +14,7 @@ turned-length [] = refl
 turned-length (c ∷ l) = length-append (turnedCodes l) (flipCode c ∷ []) ∙ omega (arith, turned-length l)
 
 -- the code at place k is that of the place as far from the other end
-pub turned-at : (l : List ℕ) (k j : ℕ) → k + suc j ≡ length l → getD (turnedCodes l) k 0 ≡ flipCode (getD l j 0)
+turned-at : (l : List ℕ) (k j : ℕ) → k + suc j ≡ length l → getD (turnedCodes l) k 0 ≡ flipCode (getD l j 0)
 unfolding turnedCodes
 turned-at [] k j h = absurd (omega arith)
 turned-at (c ∷ l) k zero h = getD-at (turnedCodes l) (flipCode c) [] 0 k (turned-length l ∙ omega arith)

@@ -1,14 +1,13 @@
 -- From the own links by the steps to the sketch. Assumes nothing.
-use Prim.Native.Nat.{ℕ, _+_, _-_, _≤_, _<_}
-use native.Mathlib.Omega.{arith}
-use mathlib.Core.Path.{_≡_, refl, sym, _∙_, ap, ap₂, subst}
-use mathlib.Core.List.{List, map}
+use Prim.Native.Nat.{ℕ, _≤_}
+use mathlib.Core.Path.{_≡_, sym, ap, ap₂, subst}
+use mathlib.Core.List.{List}
 use lib.IntN.{ℤ}
 use lib.ListN.{length, length-map}
 use Rattle.book.specs.Limits.{mostLines}
 use Rattle.book.specs.Good.{GoodLines}
 use Rattle.book.specs.declared.Book.{Book}
-use Rattle.network.specs.Standing.{Line, standing}
+use Rattle.network.specs.Standing.{standing}
 use Rattle.loops.proofs.Sounding.{lines-sound}
 use Rattle.links.specs.Link.{ownLink}
 use Rattle.links.specs.Sketch.{Sketch, sketchOf, startOf, steps, finished}

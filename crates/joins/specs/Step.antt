@@ -10,12 +10,12 @@ use Rattle.links.specs.Link.{Link, closesOnItself}
 use Rattle.links.specs.Ends.{endsAt, TwoEnds}
 use Rattle.links.specs.Sketch.{Sketch, sketch, inAll, spurOff, loopOff, mergedAt, step, steps, finished}
 use Rattle.links.specs.Stage.{Stage}
-use Rattle.joins.specs.Tables.{Held}
+use Rattle.joins.specs.Tables.{Holds}
 use Rattle.joins.specs.declared.Counts.{Counts}
 
 -- the sketch s, as far as it has come, in the tables
 pub record Tabled (s : Sketch) (rows runs : List ℕ) (c : Counts) : Type 0 where
-  pub held : Held (inAll s) rows runs
+  pub held : Holds (inAll s) rows runs
   pub links-are : c .links ≡ length (s .links)
   pub spurs-are : c .spurs ≡ length (s .spurs)
   pub loops-are : c .loops ≡ length (s .loops)

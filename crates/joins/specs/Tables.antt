@@ -10,7 +10,7 @@ use Rattle.joins.specs.Row.{rowLimit, firstOf, countOf, rowLines, linkRo
 use Rattle.joins.specs.Code.{codesIn}
 
 -- the tables begin with the rows and with the runs of the links
-pub record Held (xs : List Link) (rows runs : List ℕ) : Type 0 where
+pub record Holds (xs : List Link) (rows runs : List ℕ) : Type 0 where
   pub small : (x : Link) → List·Memᴰ x xs → Small x
   pub rows-behind : List ℕ
   pub rows-are : rows ≡ map linkRow xs ++ rows-behind
@@ -27,8 +27,8 @@ pub record LinkAt (i : ℕ) (rows runs : List ℕ) : Type 0 where
 -- the link at place i becomes what f makes of it, and every other stays
 abbrev pub Becomes : (Link → Link) → ℕ → List ℕ → List ℕ → List ℕ → List ℕ → Type 0
 Becomes f i rows runs rows′ runs′ =
-    (before : List Link) (x : Link) (after : List Link) → length before ≡ i → Held (before ++ x ∷ after) rows runs
-    → Held (before ++ f x ∷ after) rows′ runs′
+    (before : List Link) (x : Link) (after : List Link) → length before ≡ i → Holds (before ++ x ∷ after) rows runs
+    → Holds (before ++ f x ∷ after) rows′ runs′
 
 -- the tables have a link at place i and others behind it up to the place end, whose runs have their places
 pub record Behind (i end : ℕ) (rows runs : List ℕ) : Type 0 where
@@ -42,7 +42,7 @@ pub record Behind (i end : ℕ) (rows runs : List ℕ) : Type 0 where
 abbrev pub GoesBehind : ℕ → ℕ → List ℕ → List ℕ → List ℕ → List ℕ → Type 0
 GoesBehind i end rows runs rows′ runs′ =
     (before : List Link) (x : Link) (after later : List Link) → length before ≡ i → i + suc (length after) ≡ end
-    → Held (before ++ ((x ∷ after) ++ later)) rows runs → Held (before ++ ((after ++ (x ∷ [])) ++ later)) rows′ runs′
+    → Holds (before ++ ((x ∷ after) ++ later)) rows runs → Holds (before ++ ((after ++ (x ∷ [])) ++ later)) rows′ runs′
 
 -- the tables have two links, at the places i and j, and others up to the place end; their runs have their places, and a row has room for
 -- both
@@ -60,4 +60,4 @@ abbrev pub BecomeOne : ℕ → ℕ → ℕ → List ℕ → List ℕ → List �
 BecomeOne i j end rows runs rows′ runs′ =
     (before : List Link) (x : Link) (between : List Link) (y : Link) (after : List Link) → length before ≡ i
     → i + suc (length between) ≡ j → j + suc (length after) ≡ end
-    → Held (before ++ (x ∷ (between ++ (y ∷ after)))) rows runs → Held (before ++ (joined x y ∷ (between ++ after))) rows′ runs′
+    → Holds (before ++ (x ∷ (between ++ (y ∷ after)))) rows runs → Holds (before ++ (joined x y ∷ (between ++ after))) rows′ runs′

@@ -1,36 +1,33 @@
 -- The four outputs are those of the sketch. Assumes nothing.
-use Prim.Native.Nat.{ℕ, zero, suc, _+_, _*_, _-_, _≤_, _<_}
+use Prim.Native.Nat.{ℕ, _+_, _-_, _≤_}
 use native.Mathlib.Omega.{arith}
 use mathlib.Core.Path.{_≡_, refl, sym, _∙_, ap, ap₂, subst}
-use mathlib.Core.Logic.{_⊎_, inl, inr}
-use mathlib.Core.Bool.{Bool, true, false, true≢false, _||_, cond}
+use mathlib.Core.Bool.{Bool, true, false, true≢false, _||_}
 use mathlib.Core.List.{List, [], _∷_, _++_, map, append-assoc}
 use mathlib.Core.List.{List·Memᴰ, List·Memᴰ·head, List·Memᴰ·tail, Memᴰ·append-left, Memᴰ·append-right}
-use lib.Dec.{ltb}
-use lib.IntN.{ℤ, pos}
-use lib.ListN.{length, getD, take, drop, length-append, length-map, length-drop}
-use lib.Seq.{take-at, drop-at, take-all, length-take-le}
+use lib.IntN.{ℤ}
+use lib.ListN.{length, take, drop, length-append, length-map, length-drop}
+use lib.Seq.{take-at, drop-at, take-all}
 use borrow.Author.Tests.{ltb-false}
 use borrow.Rule.Slice.PartMut.{midOf}
 use Rattle.book.specs.Limits.{mostLines}
 use Rattle.book.specs.Test.{refusal}
 use Rattle.book.specs.Good.{GoodLines}
 use Rattle.book.specs.declared.Book.{Book}
-use Rattle.network.specs.Standing.{Line, standing}
-use Rattle.network.specs.Walk.{Pass}
+use Rattle.network.specs.Standing.{standing}
 use Rattle.network.specs.Codes.{codes}
 use Rattle.network.proofs.Standing.{few-standing}
 use Rattle.book.proofs.Places.{count-of}
 use Rattle.loops.specs.Row.{listed, listings}
 use Rattle.loops.proofs.Sounding.{lines-sound, line-limits}
 use Rattle.links.specs.Link.{Link}
-use Rattle.links.specs.Sketch.{Sketch, inAll, entryWords, entries, runOf, sketchOf}
+use Rattle.links.specs.Sketch.{Sketch, inAll, runOf, sketchOf}
 use Rattle.links.specs.Shape.{linesIn}
 use Rattle.links.proofs.EachLine.{as-many}
 use Rattle.links.proofs.Shapes.{all-over}
 use Rattle.lists.specs.Run.{listedBy, Coded}
 use Rattle.lists.proofs.Runs.{codes-listed, map-append, codes-small, append-coded}
-use Rattle.joins.specs.Row.{linkRow, Small, rowLines}
+use Rattle.joins.specs.Row.{linkRow, rowLines}
 use Rattle.joins.specs.Code.{codesIn}
 use Rattle.joins.specs.Step.{Tabled}
 use Rattle.joins.specs.declared.Counts.{Counts}
@@ -38,8 +35,8 @@ use Rattle.joins.proofs.Codes.{codes-in-append, codes-length}
 use Rattle.joins.proofs.Rows.{lines-of}
 use Rattle.joins.proofs.Parts.{mid-at}
 use Rattle.joins.proofs.Tables.{rowsOf, rows-append}
-use Rattle.junctions.specs.Call.{Lists, lists, drawing, refusedWith, drawn, listsOf, short, anyShort, over, allOver, drawnInto}
-use Rattle.junctions.specs.Entries.{Over, ListIn, SomeIn, Wrote, SketchOver, SomeSketch, shortBy, Roomy}
+use Rattle.junctions.specs.Call.{Lists, lists, drawing, refusedWith, listsOf, anyShort, allInFirstPlaces, drawnInto}
+use Rattle.junctions.specs.Entries.{OverLines, ListIn, SomeIn, Wrote, SketchOver, SomeSketch, shortBy, Roomy}
 use Rattle.junctions.proofs.Writing.{entries-length}
 
 -- ---- the run of a whole sketch
@@ -58,7 +55,7 @@ pub run-length : (s : Sketch) → length (codesIn (inAll s)) ≡ length (runOf s
 run-length s = sym (length-map (codesIn (inAll s)) listedBy) ∙ ap length (run-listed s)
 
 -- every code is small
-coded : (ls : List ℤ) (xs : List Link) → ((x : Link) → List·Memᴰ x xs → Over ls x) → Coded (codesIn xs)
+coded : (ls : List ℤ) (xs : List Link) → ((x : Link) → List·Memᴰ x xs → OverLines ls x) → Coded (codesIn xs)
 unfolding codesIn
 coded ls [] f = λ i h. absurd (omega arith)
 coded ls (x ∷ xs) f =
@@ -209,7 +206,7 @@ module _ {ls : List ℤ} {s : Sketch} {rows runs : List ℕ} {c : Counts} (o : S
     pub written-is : (links spurs loops run : List ℤ) (a b d : ℕ) → Wrote (s .links) (out .links) links a
         → Wrote (s .spurs) (out .spurs) spurs b → Wrote (s .loops) (out .loops) loops d
         → run ≡ map listedBy (take n runs) ++ drop (length (take n runs)) (out .run)
-        → lists links spurs loops run ≡ allOver (listsOf s) out
+        → lists links spurs loops run ≡ allInFirstPlaces (listsOf s) out
     written-is links spurs loops run a b d wl ws wo wr =
         rw (wl .written, ws .written, wo .written, its-run, entries-length (s .links), entries-length (s .spurs), entries-length (s .loops))
       where
@@ -218,7 +215,7 @@ module _ {ls : List ℤ} {s : Sketch} {rows runs : List ℕ} {c : Counts} (o : S
             wr ∙ ap₂ (λ (l : List ℤ) (m : ℕ). l ++ drop m (out .run)) (ap (map listedBy) (run-all n is-n) ∙ run-listed s)
             (ap length (run-all n is-n) ∙ run-length s)
 
-    pub drawn-is : shortBy c n out ≡ false → (now : Lists) → now ≡ allOver (listsOf s) out
+    pub drawn-is : shortBy c n out ≡ false → (now : Lists) → now ≡ allInFirstPlaces (listsOf s) out
         → drawing (record { refusal = refusal 0 0; links = c .links; spurs = c .spurs; loops = c .loops; run = n }) now ≡ drawnInto s out
     unfolding drawnInto
     drawn-is e now w = rw (← short-is, e, t .links-are, t .spurs-are, t .loops-are, n-is, w)
@@ -297,7 +294,7 @@ module _ (k : Book) (ls : List ℤ) (g : GoodLines k ls) {rows runs : List ℕ} 
   pub sketch-over : SketchOver ls its rows runs c
   sketch-over = record { tabled = t; over = over-lines; few = all-few }
     where
-      over-lines : (x : Link) → List·Memᴰ x (inAll its) → Over ls x
+      over-lines : (x : Link) → List·Memᴰ x (inAll its) → OverLines ls x
       over-lines x i =
           let stand = all-over (k .marks) (standing ls) (lines-sound k ls g) x i in
           record {

@@ -1,5 +1,5 @@
 -- The sketch of a book has no more links, spurs, loops and lines than a book has lines. Assumes nothing.
-use Prim.Native.Nat.{ℕ, _≤_}
+use Prim.Native.Nat.{_≤_}
 use native.Mathlib.Omega.{arith}
 use mathlib.Core.List.{List}
 use lib.IntN.{ℤ}

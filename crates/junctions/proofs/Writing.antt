@@ -1,17 +1,14 @@
 -- Entries written from rows and runs are those of the links. Assumes nothing.
-use Prim.Native.Nat.{ℕ, suc, _+_, _*_, _-_, _≤_, _<_}
+use Prim.Native.Nat.{ℕ, _+_, _*_, _-_, _≤_, _<_}
 use native.Mathlib.Omega.{arith}
 use mathlib.Core.Path.{_≡_, refl, sym, _∙_, ap, ap₂, subst}
-use mathlib.Core.List.{List, [], _∷_, _++_, map, append-nil, append-assoc, List·Memᴰ, List·Memᴰ·head}
+use mathlib.Core.List.{List, [], _∷_, _++_, append-nil, append-assoc, List·Memᴰ}
 use lib.IntN.{ℤ, pos}
 use lib.ListN.{length, getD, drop, set, length-append, length-map}
 use lib.Seq.{getD-at}
 use borrow.Rule.Slice.PartMut.{midOf, putMid}
 use Rattle.laws.proofs.Lists.{filled, pour}
-use Rattle.book.specs.Limits.{mostLines}
 use Rattle.network.specs.Codes.{codes}
-use Rattle.network.specs.Walk.{wayLength}
-use Rattle.loops.specs.Row.{misclosure}
 use Rattle.links.specs.Link.{Link}
 use Rattle.links.specs.Sketch.{entryWords, entry, entries}
 use Rattle.links.proofs.Among.{it-is-in}
@@ -24,7 +21,7 @@ use Rattle.joins.proofs.Rows.{first-of, last-of, count-of}
 use Rattle.joins.proofs.Parts.{mid-at}
 use Rattle.joins.proofs.Tables.{rowsOf, rows-append}
 use Rattle.joins.proofs.Moves.{one-run}
-use Rattle.junctions.specs.Entries.{entryBy, Over, ListIn, SomeIn, Wrote}
+use Rattle.junctions.specs.Entries.{entryBy, OverLines, ListIn, SomeIn, Wrote}
 
 -- ---- one entry
 
@@ -35,7 +32,7 @@ unfolding entryBy
 entry-stored ls out row run {a} {b} {c} {d} {e} h p q r s t = filled (a ∷ b ∷ c ∷ d ∷ e ∷ []) out h ∙ rw (p, q, r, s, t)
 
 -- the entry of a link
-pub entry-is : (ls : List ℤ) (x : Link) → Over ls x → entryBy ls (linkRow x) (codes (x .way)) ≡ entry x
+entry-is : (ls : List ℤ) (x : Link) → OverLines ls x → entryBy ls (linkRow x) (codes (x .way)) ≡ entry x
 unfolding entryBy entry
 entry-is ls x o =
     rw (
@@ -46,7 +43,7 @@ entry-is ls x o =
       rise-is ls (x .way) (o .stand),
     )
 
-pub entry-length : (x : Link) → length (entry x) ≡ entryWords
+entry-length : (x : Link) → length (entry x) ≡ entryWords
 unfolding entry
 entry-length x = refl
 
@@ -95,7 +92,7 @@ module _ {ls : List ℤ} {rows runs : List ℕ} {i at : ℕ} {out₀ out : List 
     pub after : List Link
     pub are : xs ≡ before ++ its ∷ after
     pub so-many : length before ≡ i
-    pub over : Over ls its
+    pub over : OverLines ls its
     pub row-is : getD rows i 0 ≡ linkRow its
     pub at-is : at ≡ length (codesIn before)
     pub runs-are : (rest : List ℕ) × (runs ≡ codesIn before ++ (codes (its .way) ++ rest))

@@ -59,12 +59,13 @@ anyShort l out =
     short (l .links) (out .links) || short (l .spurs) (out .spurs) || short (l .loops) (out .loops) || short (l .run) (out .run)
 
 -- "Places past the answers stay"
-abbrev pub over : List ℤ → List ℤ → List ℤ
-over list out = list ++ drop (length list) out
+abbrev pub inFirstPlaces : List ℤ → List ℤ → List ℤ
+inFirstPlaces list out = list ++ drop (length list) out
 
-abbrev pub allOver : Lists → Lists → Lists
-allOver l out =
-    lists (over (l .links) (out .links)) (over (l .spurs) (out .spurs)) (over (l .loops) (out .loops)) (over (l .run) (out .run))
+abbrev pub allInFirstPlaces : Lists → Lists → Lists
+allInFirstPlaces l out =
+    lists (inFirstPlaces (l .links) (out .links)) (inFirstPlaces (l .spurs) (out .spurs))
+    (inFirstPlaces (l .loops) (out .loops)) (inFirstPlaces (l .run) (out .run))
 
 -- the junction sketch of a lent book of b marks
 unfoldable pub sketchIn : ℕ → List ℤ → Sketch
@@ -76,7 +77,7 @@ unfoldable pub drawnInto : Sketch → Lists → Drawing
 unfolding entries runOf
 drawnInto s out =
     cond (anyShort (listsOf s) out) (drawing (refusedWith (refusal 10 0)) out)
-    (drawing (drawn s) (allOver (listsOf s) out))
+    (drawing (drawn s) (allInFirstPlaces (listsOf s) out))
 
 -- of a tested book
 unfoldable pub sketchGood : Book → List ℤ → Lists → Drawing

@@ -24,7 +24,7 @@ unfolding lengthOf riseOf
 entryBy ls row run = pos (firstOf row) ∷ pos (lastOf row) ∷ pos (length run) ∷ pos (lengthOf ls run) ∷ riseOf ls run ∷ []
 
 -- a link over standing lines of the book ls
-pub record Over (ls : List ℤ) (x : Link) : Type 0 where
+pub record OverLines (ls : List ℤ) (x : Link) : Type 0 where
   pub small : Small x
   pub few : length (x .way) ≤ mostLines
   pub stand : (p : Pass) → List·Memᴰ p (x .way) → List·Memᴰ (p .line) (standing ls)
@@ -32,7 +32,7 @@ pub record Over (ls : List ℤ) (x : Link) : Type 0 where
 
 -- the rows are those of the links xs, and the runs begin with theirs
 pub record ListIn (ls : List ℤ) (xs : List Link) (rows runs : List ℕ) : Type 0 where
-  pub each : (x : Link) → List·Memᴰ x xs → Over ls x
+  pub each : (x : Link) → List·Memᴰ x xs → OverLines ls x
   pub rows-are : rows ≡ map linkRow xs
   pub runs-behind : List ℕ
   pub runs-are : runs ≡ codesIn xs ++ runs-behind
@@ -53,7 +53,7 @@ pub record Wrote (xs : List Link) (out out′ : List ℤ) (after : ℕ) : Type 0
 -- the tables hold the sketch s, whose links, spurs and loops run over standing lines, no more than a book has
 pub record SketchOver (ls : List ℤ) (s : Sketch) (rows runs : List ℕ) (c : Counts) : Type 0 where
   pub tabled : Tabled s rows runs c
-  pub over : (x : Link) → List·Memᴰ x (inAll s) → Over ls x
+  pub over : (x : Link) → List·Memᴰ x (inAll s) → OverLines ls x
   pub few : length (codesIn (inAll s)) ≤ mostLines
 
 pub record SomeSketch (ls : List ℤ) (rows runs : List ℕ) (c : Counts) : Type 0 where

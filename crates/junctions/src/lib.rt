@@ -6,7 +6,7 @@ ghost use Prim.Native.Nat.{_≤_};
 ghost use Rattle.book.specs.Limits.{mostLines};
 ghost use Rattle.links.specs.Sketch.{Sketch};
 ghost use Rattle.rows.specs.Sums.{Measured};
-ghost use Rattle.junctions.specs.Call.{refusedWith, lists, listsOf, allOver, drawing, drawnInto, sketchGood, sketchCall};
+ghost use Rattle.junctions.specs.Call.{refusedWith, lists, listsOf, allInFirstPlaces, drawing, drawnInto, sketchGood, sketchCall};
 ghost use Rattle.junctions.specs.Entries.{linesBy, shortBy, Roomy, SketchOver, SomeSketch};
 
 mod entries;
@@ -136,7 +136,7 @@ fn write_all(
         ∗ ⌜ Roomy found n (lists (now links) (now spurs) (now loops) (now run)) ⌝ }
     ensures { λ _. ⌜ ((s : Sketch) → SketchOver (now (lines .entry)) s (now (rows .entry)) (now (runs .entry)) found
         → lists (now (links .exit)) (now (spurs .exit)) (now (loops .exit)) (now (run .exit))
-        ≡ allOver (listsOf s) (lists (now (links .entry)) (now (spurs .entry)) (now (loops .entry)) (now (run .entry)))) ⌝ }
+        ≡ allInFirstPlaces (listsOf s) (lists (now (links .entry)) (now (spurs .entry)) (now (loops .entry)) (now (run .entry)))) ⌝ }
 {
     let kept = found.links;
     let off = kept + found.spurs;

@@ -1,6 +1,6 @@
 -- What the sketch answers, with the numbers as int64, beside what the lent outputs then hold.
 -- Assumes nothing.
-use lib.IntN.{ℤ, pos}
+use lib.IntN.{pos}
 use Rattle.junctions.specs.declared.Sketched as junctions
 use Rattle.junctions.specs.Call.{Lists, Drawing}
 use Rattle.level.specs.Signed.{Small, SmallRefusal, signedRefusal}

@@ -6,29 +6,28 @@ use mathlib.Core.Bool.{Bool, true, false, cond}
 use mathlib.Core.List.{List, [], _∷_, _++_, map, map-map, map-append}
 use mathlib.Core.Option.{Option, none, some, Option·map}
 use lib.Dec.{eqb, leb, ltb}
-use lib.IntN.{ℤ, pos}
+use lib.IntN.{ℤ}
 use lib.ListN.{length, length-map}
 use Rattle.laws.specs.Scan.{firstBad}
 use Rattle.network.specs.Standing.{Line}
-use Rattle.network.specs.Walk.{Pass, flip, wayLength}
+use Rattle.network.specs.Walk.{Pass, flip}
 use Rattle.network.specs.Redone.{measured, newDifference, redone, measuredPass}
-use Rattle.loops.specs.Row.{listed, listings, misclosure}
-use Rattle.loops.proofs.Rerun.{wayLength-same}
+use Rattle.loops.specs.Row.{listed, listings}
 use Rattle.links.specs.Link.{Link, link, ownLink, turnedWay, turned, readFrom, readTo, joined, lowerFirst, closesOnItself}
 use Rattle.links.specs.Link.{lowestFrom, lowestLine, positive, begunWith, begun}
 use Rattle.links.specs.Ends.{endsOf, endsAt, hasEnd, lowestWith, someIf, firstThat, butFirst}
-use Rattle.links.specs.Sketch.{Sketch, sketch, ifFound, spurOff, loopOff, mergedAt, step, steps, startOf, finished, sketchOf, entry}
+use Rattle.links.specs.Sketch.{Sketch, sketch, ifFound, spurOff, loopOff, mergedAt, step, steps, startOf, finished, sketchOf}
 use Rattle.links.specs.Sketch.{inAll, runOf}
 
 module _ (g : Line → ℤ) where
   -- a way, a link and a sketch over lines measured again: the marks, the lines and their senses stay
-  abbrev pub measuredWay : List Pass → List Pass
+  abbrev measuredWay : List Pass → List Pass
   measuredWay w = map (measuredPass g) w
 
-  abbrev pub measuredLink : Link → Link
+  abbrev measuredLink : Link → Link
   measuredLink x = link (x .first) (x .last) (measuredWay (x .way))
 
-  abbrev pub measuredSketch : Sketch → Sketch
+  abbrev measuredSketch : Sketch → Sketch
   measuredSketch s = sketch (map measuredLink (s .links)) (map measuredLink (s .spurs)) (map measuredLink (s .loops))
 
   -- ---- ways and links
@@ -256,22 +255,13 @@ module _ (g : Line → ℤ) where
       ap (λ (l : List Link). sketch l (map measuredLink (s .spurs)) (map measuredLink (s .loops))) (lower-same (s .links))
 
   -- with other differences the sketch has the same links, spurs and loops, of the same marks, lines and senses, in the same order
-  pub sketch-same : (b : ℕ) (lines : List Line) → sketchOf b (map (measured g) lines) ≡ measuredSketch (sketchOf b lines)
+  sketch-same : (b : ℕ) (lines : List Line) → sketchOf b (map (measured g) lines) ≡ measuredSketch (sketchOf b lines)
   unfolding sketchOf
   sketch-same b lines =
       ap finished (ap₂ (steps b) (length-map lines (measured g)) (start-same lines) ∙ steps-same b (length lines) (startOf lines))
       ∙ finished-same (steps b (length lines) (startOf lines))
 
   -- ---- what is reported of it
-
-  -- of the five numbers of a link, spur or loop all but the difference stay: its marks, its count of lines and its length
-  pub entry-same : (x : Link)
-      → entry (measuredLink x)
-      ≡ pos (x .first) ∷ pos (x .last) ∷ pos (length (x .way)) ∷ pos (wayLength (x .way)) ∷ misclosure (measuredWay (x .way)) ∷ []
-  unfolding entry
-  entry-same x =
-      ap₂ (λ (n l : ℕ). pos (x .first) ∷ pos (x .last) ∷ pos n ∷ pos l ∷ misclosure (measuredWay (x .way)) ∷ [])
-      (length-map (x .way) (measuredPass g)) (wayLength-same g (x .way))
 
   -- the signed lines of links stay
   listings-same : (xs : List Link) → listings (map (λ (x : Link). x .way) (map measuredLink xs)) ≡ listings (map (λ (x : Link). x .way) xs)
@@ -286,7 +276,7 @@ module _ (g : Line → ℤ) where
       ∙ sym (map-append measuredLink (s .links ++ s .spurs) (s .loops))
 
   -- the signed lines of all of them stay
-  pub run-same : (b : ℕ) (lines : List Line) → runOf (sketchOf b (map (measured g) lines)) ≡ runOf (sketchOf b lines)
+  run-same : (b : ℕ) (lines : List Line) → runOf (sketchOf b (map (measured g) lines)) ≡ runOf (sketchOf b lines)
   unfolding runOf
   run-same b lines =
       ap (λ (s : Sketch). listings (map (λ (x : Link). x .way) (inAll s))) (sketch-same b lines)
@@ -297,7 +287,7 @@ module _ (g : Line → ℤ) where
 
 module _ (n : ℕ) (d : ℤ) where
   -- a sketch with the difference d for line n
-  abbrev pub redoneSketch : Sketch → Sketch
+  abbrev redoneSketch : Sketch → Sketch
   redoneSketch s = measuredSketch (newDifference n d) s
 
   -- "A re-run changes differences only": every link, spur and loop is the same passes, but for the difference of line n

@@ -43,17 +43,17 @@ module _ {A : Type 0} where
 
 module _ {A : Type 0} {R : A → A → Type 0} where
   -- of a list in an order the first part is in order
-  pub pairwise-left : (xs ys : List A) → Pairwise R (xs ++ ys) → Pairwise R xs
+  pairwise-left : (xs ys : List A) → Pairwise R (xs ++ ys) → Pairwise R xs
   pairwise-left [] ys p = no-pair
   pairwise-left (x ∷ xs) ys (pairs f p) = pairs (λ c i. f c (Memᴰ·append-left ys i)) (pairwise-left xs ys p)
 
   -- and the second
-  pub pairwise-right : (xs ys : List A) → Pairwise R (xs ++ ys) → Pairwise R ys
+  pairwise-right : (xs ys : List A) → Pairwise R (xs ++ ys) → Pairwise R ys
   pairwise-right [] ys p = p
   pairwise-right (x ∷ xs) ys (pairs f p) = pairwise-right xs ys p
 
   -- and each of the first stands so to each of the second
-  pub pairwise-across : (xs ys : List A) → Pairwise R (xs ++ ys) → (x y : A) → List·Memᴰ x xs → List·Memᴰ y ys → R x y
+  pairwise-across : (xs ys : List A) → Pairwise R (xs ++ ys) → (x y : A) → List·Memᴰ x xs → List·Memᴰ y ys → R x y
   pairwise-across (z ∷ zs) ys (pairs f p) x y (List·Memᴰ·head e) j = subst (λ (a : A). R a y) (sym e) (f y (Memᴰ·append-right zs j))
   pairwise-across (z ∷ zs) ys (pairs f p) x y (List·Memᴰ·tail i) j = pairwise-across zs ys p x y i j
 

@@ -1,37 +1,29 @@
 -- The misclosure of a self-closing loop of the sketch, and of any circuit made of links, is a whole combination of those of the reported
 -- loops. Assumes nothing.
 use Prim.Native.Nat.{ℕ}
-use mathlib.Core.Path.{_≡_, subst}
+use mathlib.Core.Path.{subst}
 use mathlib.Core.List.{List, List·Memᴰ}
-use lib.IntN.{ℤ}
 use Rattle.network.specs.Standing.{Line}
 use Rattle.network.specs.Sound.{Sound}
 use Rattle.network.specs.Walk.{Pass, Walk, here}
 use Rattle.network.proofs.Walks.{walk-append}
 use Rattle.loops.specs.Loops.{loops}
-use Rattle.loops.specs.Row.{misclosure}
-use Rattle.loops.specs.Passes.{SumOf, combineMisclosures}
 use Rattle.loops.proofs.Basis.{basis}
 use Rattle.loops.proofs.Misclosure.{misclosure-is-sum}
 use Rattle.links.specs.Link.{Link, turned}
 use Rattle.links.specs.Sketch.{sketchOf}
-use Rattle.links.specs.Shape.{IsWay, Along, arrived, onward, back}
+use Rattle.links.specs.Shape.{IsWay, Along, arrived, onward, back, Combined}
 use Rattle.links.proofs.Turning.{walk-turned}
 use Rattle.links.proofs.Shapes.{links-are, loops-are}
 
 -- links one after the other, each in its own sense or turned, are a walk
-pub along-walk : {lines : List Line} {xs : List Link} → ((x : Link) → List·Memᴰ x xs → IsWay lines x) → {r u : ℕ} {w : List Pass}
+along-walk : {lines : List Line} {xs : List Link} → ((x : Link) → List·Memᴰ x xs → IsWay lines x) → {r u : ℕ} {w : List Pass}
     → Along xs r u w → Walk lines r u w
 along-walk f (arrived e) = here e
 along-walk {lines = lines} f (onward {x = x} i e a) =
     walk-append (subst (λ (u : ℕ). Walk lines (x .last) u (x .way)) e (f x i .isWalk)) (along-walk f a)
 along-walk {lines = lines} f (back {x = x} i e a) =
     walk-append (subst (λ (u : ℕ). Walk lines (x .first) u (turned x .way)) e (walk-turned (f x i .isWalk))) (along-walk f a)
-
--- there are whole numbers, one to each reported loop, such that w is the sum of these multiples of the loops, and its misclosure the sum of
--- the same multiples of their misclosures
-abbrev pub Combined : ℕ → List Line → List Pass → Type 0
-Combined b lines w = (ks : List ℤ) × SumOf lines (loops b lines) w ks × (misclosure w ≡ combineMisclosures ks (loops b lines))
 
 module _ (b : ℕ) (lines : List Line) (sound : Sound b lines) where
   -- so it is with every closed walk

@@ -16,9 +16,9 @@ use Rattle.loops.specs.LinesInAll.{linesInAll}
 use Rattle.loops.specs.Row.{total}
 use Rattle.loops.proofs.Listings.{listings-length}
 use Rattle.links.specs.Link.{Link, ownLink}
-use Rattle.links.specs.Sketch.{Sketch, step, steps, startOf, finished, sketchOf, inAll, runOf}
+use Rattle.links.specs.Sketch.{Sketch, steps, startOf, finished, sketchOf, inAll, runOf}
 use Rattle.links.specs.Shape.{timesRun, timesIn, linesIn}
-use Rattle.links.specs.Stage.{Rises, Stage}
+use Rattle.links.specs.Stage.{Stage}
 use Rattle.links.proofs.Kept.{Adds, totalOf, times-add, lines-add, lengths-add, times-total, lines-total, step-keeps, finished-keeps}
 use Rattle.links.proofs.Stages.{stage-start, stage-step, stage-of}
 
@@ -55,12 +55,6 @@ own-no-more (then {l = k} {ls = ls} above r) n = go (eqb (k .number) n) refl (ow
 
 -- ---- a step keeps what is run
 
--- each line is run as often after a step as before
-pub step-keeps-times : (b : ℕ) (s : Sketch) → Rises s → (n : ℕ) → timesIn n (inAll (step b s)) ≡ timesIn n (inAll s)
-step-keeps-times b s rises n =
-    times-total n (inAll (step b s)) ∙ step-keeps (λ (x : Link). timesRun n (x .way)) (times-add n) b s rises
-    ∙ sym (times-total n (inAll s))
-
 -- and with every link from its lower junction
 finished-times : (n : ℕ) (s : Sketch) → timesIn n (inAll (finished s)) ≡ timesIn n (inAll s)
 finished-times n s =
@@ -81,7 +75,7 @@ times-within n (y ∷ ys) x (List·Memᴰ·head e) = omega (arith, ap (λ (z : L
 times-within n (y ∷ ys) x (List·Memᴰ·tail i) = omega (arith, times-within n ys x i)
 
 -- a way with a pass over line n runs it
-pub runs-it : (n : ℕ) (w : List Pass) (p : Pass) → List·Memᴰ p w → p .line .number ≡ n → 0 < timesRun n w
+runs-it : (n : ℕ) (w : List Pass) (p : Pass) → List·Memᴰ p w → p .line .number ≡ n → 0 < timesRun n w
 unfolding timesRun
 runs-it n (q ∷ qs) p (List·Memᴰ·head e) h =
     rw (eq-eqb (q .line .number) n (ap (λ (o : Pass). o .line .number) (sym e) ∙ h)) (omega arith)

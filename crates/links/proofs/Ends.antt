@@ -46,7 +46,7 @@ ends-some m x h = go (eqb (x .first) m) (eqb (x .last) m) h
     go false false h = absurd (omega (arith, ap bit h))
 
 -- else none
-pub ends-none : (m : ℕ) (x : Link) → hasEnd m x ≡ false → endsOf m x ≡ 0
+ends-none : (m : ℕ) (x : Link) → hasEnd m x ≡ false → endsOf m x ≡ 0
 ends-none m x h = go (eqb (x .first) m) (eqb (x .last) m) h
   where
     go : (s t : Bool) → (s || t) ≡ false → bit s + bit t ≡ 0
@@ -67,7 +67,7 @@ ends-one m x f = go (eqb (x .first) m) (eqb (x .last) m) refl refl
 -- ---- the ends of links
 
 -- of links and links after them, the ends of both
-pub ends-both : (m : ℕ) (xs ys : List Link) → endsAt m (xs ++ ys) ≡ endsAt m xs + endsAt m ys
+ends-both : (m : ℕ) (xs ys : List Link) → endsAt m (xs ++ ys) ≡ endsAt m xs + endsAt m ys
 unfolding endsAt
 ends-both m [] ys = omega arith
 ends-both m (x ∷ xs) ys = omega (arith, ends-both m xs ys)
@@ -208,7 +208,7 @@ two-ends m xs e no-loop = go (first-or-none (hasEnd m) xs)
 -- ---- the lowest mark with exactly k link ends
 
 -- there is only one
-pub one-lowest-mark : {b k : ℕ} {xs : List Link} {m n : ℕ} → Lowest b k xs m → Lowest b k xs n → m ≡ n
+one-lowest-mark : {b k : ℕ} {xs : List Link} {m n : ℕ} → Lowest b k xs m → Lowest b k xs n → m ≡ n
 one-lowest-mark {m = m} {n = n} x y =
     let not-below : m < n → ⊥ = λ l. y .noLower m (x .low) l (x .hasThem) in
     let not-above : n < m → ⊥ = λ l. x .noLower n (y .low) l (y .hasThem) in

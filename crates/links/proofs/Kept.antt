@@ -28,8 +28,8 @@ totalOf f (x ∷ xs) = f x + totalOf f xs
 pub record Adds (f : Link → ℕ) : Type 0 where
   pub either-way : (x : Link) → f (turned x) ≡ f x
   pub from-mark : (m : ℕ) (x : Link) → f (readFrom m x) ≡ f x
-  pub begun-so : (x : Link) → f (begun x) ≡ f x
-  pub made-one : (m : ℕ) (x y : Link) → f (joined (readTo m x) (readFrom m y)) ≡ f x + f y
+  begun-so : (x : Link) → f (begun x) ≡ f x
+  made-one : (m : ℕ) (x y : Link) → f (joined (readTo m x) (readFrom m y)) ≡ f x + f y
 
 -- how often line n is run is so
 pub times-add : (n : ℕ) → Adds (λ x. timesRun n (x .way))
@@ -74,7 +74,7 @@ lines-total (x ∷ xs) = ap (λ (k : ℕ). length (x .way) + k) (lines-total xs)
 
 module _ (f : Link → ℕ) where
   -- of links and links after them, the sum of both
-  pub total-both : (xs ys : List Link) → totalOf f (xs ++ ys) ≡ totalOf f xs + totalOf f ys
+  total-both : (xs ys : List Link) → totalOf f (xs ++ ys) ≡ totalOf f xs + totalOf f ys
   total-both [] ys = omega arith
   total-both (x ∷ xs) ys = omega (arith, total-both xs ys)
 

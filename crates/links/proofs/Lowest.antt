@@ -91,7 +91,7 @@ turned-lowest (p ∷ ps) = go (p ∷ ps) (λ e. some e)
     }) (lowest-is w f)
 
 -- of two ways the lower of their lowest lines, here that of the first
-pub lowest-both : {m n : ℕ} {v w : List Pass} → IsLowest m v → IsLowest n w → m ≤ n → IsLowest m (v ++ w)
+lowest-both : {m n : ℕ} {v w : List Pass} → IsLowest m v → IsLowest n w → m ≤ n → IsLowest m (v ++ w)
 lowest-both {m = m} {v = v} {w = w} x y l = record {
   least = λ p i. go p (List·Memᴰ·append-cases v i);
   its = x .its;
@@ -109,17 +109,17 @@ both-some [] w f e = f refl
 both-some (p ∷ ps) w f e = List·Memᴰ·not-nil (subst (List·Memᴰ p) e (List·Memᴰ·head refl))
 
 -- read from a mark or to a mark, a link has the same lowest line
-pub from-lowest : (m : ℕ) (x : Link) → lowestLine (readFrom m x .way) ≡ lowestLine (x .way)
+from-lowest : (m : ℕ) (x : Link) → lowestLine (readFrom m x .way) ≡ lowestLine (x .way)
 from-lowest m x = from-holds (λ (y : Link). lowestLine (y .way) ≡ lowestLine (x .way)) m x refl (turned-lowest (x .way))
 
-pub to-lowest : (m : ℕ) (x : Link) → lowestLine (readTo m x .way) ≡ lowestLine (x .way)
+to-lowest : (m : ℕ) (x : Link) → lowestLine (readTo m x .way) ≡ lowestLine (x .way)
 to-lowest m x = to-holds (λ (y : Link). lowestLine (y .way) ≡ lowestLine (x .way)) m x refl (turned-lowest (x .way))
 
 -- read so, it has a line where it has one
-pub from-some : (m : ℕ) (x : Link) → (x .way ≡ [] → ⊥) → readFrom m x .way ≡ [] → ⊥
+from-some : (m : ℕ) (x : Link) → (x .way ≡ [] → ⊥) → readFrom m x .way ≡ [] → ⊥
 from-some m x f = from-holds (λ (y : Link). y .way ≡ [] → ⊥) m x f (turned-some (x .way) f)
 
-pub to-some : (m : ℕ) (x : Link) → (x .way ≡ [] → ⊥) → readTo m x .way ≡ [] → ⊥
+to-some : (m : ℕ) (x : Link) → (x .way ≡ [] → ⊥) → readTo m x .way ≡ [] → ⊥
 to-some m x f = to-holds (λ (y : Link). y .way ≡ [] → ⊥) m x f (turned-some (x .way) f)
 
 -- two links that become one at a mark have the lowest line of the first, if that is the lower

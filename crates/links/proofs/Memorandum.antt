@@ -28,8 +28,8 @@ its = sketchOf 16 memorandum
 -- "It gives 4 junctions": the lines of all links, spurs and loops
 pub run-of-memorandum : runOf its ≡
     pos 1 ∷ pos 2 ∷ pos 3 ∷ pos 4 ∷ pos 5 ∷ negℤ (pos 6) ∷ pos 7 ∷ pos 8 ∷ pos 9
-    ∷ negℤ (pos 20) ∷ negℤ (pos 19) ∷ negℤ (pos 15) ∷ negℤ (pos 14) ∷ negℤ (pos 10) ∷ pos 16 ∷ pos 17 ∷ pos 18 ∷ pos 11 ∷ pos 12 ∷ pos 13
-    ∷ []
+    ∷ negℤ (pos 20) ∷ negℤ (pos 19) ∷ negℤ (pos 15) ∷ negℤ (pos 14) ∷ negℤ (pos 10)
+    ∷ pos 16 ∷ pos 17 ∷ pos 18 ∷ pos 11 ∷ pos 12 ∷ pos 13 ∷ []
 unfolding runOf sketchOf firstFrom
 run-of-memorandum = refl
 

@@ -75,7 +75,7 @@ next-then (by-loop x) p = loop x p
 next-then (by-merge x) p = merge x p
 
 -- as many steps as there are links, at most, are steps of the rule until none is left
-pub steps-are : {b : ℕ} {lines : List Line} (k : ℕ) {s : Sketch} → Stage b lines s → length (s .links) ≤ k → Steps b s (steps b k s)
+steps-are : {b : ℕ} {lines : List Line} (k : ℕ) {s : Sketch} → Stage b lines s → length (s .links) ≤ k → Steps b s (steps b k s)
 unfolding steps
 steps-are {b = b} zero {s = s} t h = done (no-links b s (none-of (s .links) h))
 steps-are {b = b} {lines = lines} (suc k) {s = s} t h = go (step-is b s (t .rises)) (λ l. steps-are k (stage-step t) l)
@@ -94,7 +94,7 @@ one-before {b = b} {s = s} {s′ = s′} t x rest (suc k) h =
     rest k (omega (arith, one-less x)) ∙ ap (steps b k) (is-step b s s′ (t .rises) x)
 
 -- and there are no others
-pub only-steps : {b : ℕ} {lines : List Line} {s u : Sketch} → Steps b s u → Stage b lines s → (k : ℕ) → length (s .links) ≤ k
+only-steps : {b : ℕ} {lines : List Line} {s u : Sketch} → Steps b s u → Stage b lines s → (k : ℕ) → length (s .links) ≤ k
     → u ≡ steps b k s
 only-steps (spur x p) t = one-before t (by-spur x) (only-steps p (stage-next t (by-spur x)))
 only-steps (loop x p) t = one-before t (by-loop x) (only-steps p (stage-next t (by-loop x)))

@@ -16,7 +16,7 @@ use Rattle.links.specs.Steps.{EndAt, Lowest, NoMark, NoLoop, Spur, LoopO
 use Rattle.links.specs.Shape.{ByLowest}
 use Rattle.links.specs.Stage.{Rises}
 use Rattle.links.proofs.Among.{pairwise-after, pairwise-before}
-use Rattle.links.proofs.Ends.{end-there, has-end, ends-some, ends-one, ends-around, no-ends, ends-of-none, FirstOf, first-or-none}
+use Rattle.links.proofs.Ends.{end-there, has-end, ends-some, ends-around, no-ends, ends-of-none, FirstOf, first-or-none}
 use Rattle.links.proofs.Ends.{finds-first, but-first, finds-none, merges-first, two-ends}
 use Rattle.links.proofs.Ends.{lowest-mark, no-mark, lowest-found, none-with}
 

@@ -16,7 +16,7 @@ use Rattle.links.proofs.Lowest.{turned-lowest}
 use Rattle.links.proofs.Stages.{stage-of}
 
 -- from its lower junction a link has the same lowest line
-pub lower-lowest : (x : Link) → lowestLine (lowerFirst x .way) ≡ lowestLine (x .way)
+lower-lowest : (x : Link) → lowestLine (lowerFirst x .way) ≡ lowestLine (x .way)
 lower-lowest x =
     cond-ind (λ (y : Link). lowestLine (y .way) ≡ lowestLine (x .way)) (leb (x .first) (x .last)) x (turned x) (λ e. refl)
     (λ e. turned-lowest (x .way))

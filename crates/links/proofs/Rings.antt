@@ -20,13 +20,13 @@ use Rattle.links.proofs.EachLine.{only-once}
 -- ---- marks on a way
 
 -- a walk comes to its last mark
-pub end-on : {ls : List Line} {r u : ℕ} {w : List Pass} → Walk ls r u w → List·Memᴰ r (marksOn u w)
+end-on : {ls : List Line} {r u : ℕ} {w : List Pass} → Walk ls r u w → List·Memᴰ r (marksOn u w)
 unfolding marksOn
 end-on (here e) = List·Memᴰ·head (sym e)
 end-on (step s m x) = List·Memᴰ·tail (end-on x)
 
 -- the marks on a way are on every way that goes on from it
-pub marks-more : (u m : ℕ) (v w : List Pass) → List·Memᴰ m (marksOn u v) → List·Memᴰ m (marksOn u (v ++ w))
+marks-more : (u m : ℕ) (v w : List Pass) → List·Memᴰ m (marksOn u v) → List·Memᴰ m (marksOn u (v ++ w))
 unfolding marksOn
 marks-more u m [] [] i = i
 marks-more u m [] (q ∷ w) (List·Memᴰ·head e) = List·Memᴰ·head e
@@ -35,7 +35,7 @@ marks-more u m (p ∷ v) w (List·Memᴰ·head e) = List·Memᴰ·head e
 marks-more u m (p ∷ v) w (List·Memᴰ·tail i) = List·Memᴰ·tail (marks-more (stop p) m v w i)
 
 -- and on the way back
-pub marks-turned : {ls : List Line} {r u : ℕ} {w : List Pass} → Walk ls r u w → (m : ℕ) → List·Memᴰ m (marksOn u w)
+marks-turned : {ls : List Line} {r u : ℕ} {w : List Pass} → Walk ls r u w → (m : ℕ) → List·Memᴰ m (marksOn u w)
     → List·Memᴰ m (marksOn r (turnedWay w))
 unfolding marksOn turnedWay
 marks-turned (here e) m (List·Memᴰ·head z) = List·Memᴰ·head (z ∙ e)
@@ -45,7 +45,7 @@ marks-turned {r = r} (step {p = p} {ps = ps} s i x) m (List·Memᴰ·tail j) =
     marks-more r m (turnedWay ps) (flip p ∷ []) (marks-turned x m j)
 
 -- a walk along a way of two parts is a walk along each
-pub walk-parts : {ls : List Line} {r u : ℕ} (v w : List Pass) → Walk ls r u (v ++ w) → (m : ℕ) × Walk ls m u v × Walk ls r m w
+walk-parts : {ls : List Line} {r u : ℕ} (v w : List Pass) → Walk ls r u (v ++ w) → (m : ℕ) × Walk ls m u v × Walk ls r m w
 walk-parts {u = u} [] w x = (u, here refl, x)
 walk-parts (p ∷ v) w (step s i x) = let k = walk-parts v w x in (k .0, step s i (k .1), k .2)
 

@@ -42,7 +42,7 @@ few-links (x ∷ xs) h =
 -- ---- at every stage
 
 -- what is drawn from mark to mark is a way
-pub drawn-is-way : {b : ℕ} {lines : List Line} {x : Link} → DrawnWay b lines x → IsWay lines x
+drawn-is-way : {b : ℕ} {lines : List Line} {x : Link} → DrawnWay b lines x → IsWay lines x
 drawn-is-way d = record { isWalk = d .walks; some-line = d .drawn .some-line }
 
 -- each self-closing loop that came off is a loop
@@ -77,7 +77,7 @@ module _ {b : ℕ} {lines : List Line} (sound : Sound b lines) where
   loops-steps (suc k) t f = loops-steps k (stage-step t) (loops-step t f)
 
   -- so it is at every stage
-  pub loops-at : (k : ℕ) → Loops lines (steps b k (startOf lines))
+  loops-at : (k : ℕ) → Loops lines (steps b k (startOf lines))
   unfolding startOf
   loops-at k = loops-steps k (stage-start sound) (λ x i. absurd (List·Memᴰ·not-nil i))
 

@@ -1,5 +1,5 @@
 -- What holds of the sketch at every stage, from every line as a link of its own until no step is left. Assumes nothing.
-use Prim.Native.Nat.{ℕ, zero, suc, _≤_, _<_}
+use Prim.Native.Nat.{ℕ, zero, suc}
 use native.Mathlib.Omega.{arith}
 use mathlib.Core.Path.{_≡_, refl, sym, _∙_, ap, subst}
 use mathlib.Core.Logic.{_⊎_, inl, inr}
@@ -20,7 +20,7 @@ use Rattle.links.proofs.Turning.{walk-turned, of-turned, turned-some, f
 use Rattle.links.proofs.Lowest.{joined-lowest, both-some}
 use Rattle.links.proofs.Begun.{begun-count, begun-each}
 use Rattle.links.proofs.Among.{it-is-in, all-without, all-both, pairwise-without, all-instead, pairwise-instead, pairwise-before}
-use Rattle.links.specs.Stage.{Drawn, DrawnWay, Rises, Stage}
+use Rattle.links.specs.Stage.{Drawn, DrawnWay, Stage}
 use Rattle.links.proofs.OneStep.{Next, by-spur, by-loop, by-merge, step-is, none-made}
 use Rattle.links.proofs.Kept.{times-add, lines-add, times-total, lines-total, next-keeps}
 
@@ -28,7 +28,7 @@ use Rattle.links.proofs.Kept.{times-add, lines-add, times-total, lines-
 
 module _ {b : ℕ} {lines : List Line} where
   -- so is a line as a link of its own
-  pub own-drawn : Sound b lines → (l : Line) → List·Memᴰ l lines → Drawn b lines (ownLink l)
+  own-drawn : Sound b lines → (l : Line) → List·Memᴰ l lines → Drawn b lines (ownLink l)
   own-drawn sound l m = let p = sound .placed l m in record {
     first-low = p .from-low;
     first-high = p .from-high;
@@ -39,7 +39,7 @@ module _ {b : ℕ} {lines : List Line} where
   }
 
   -- a link read the other way
-  pub turned-drawn : (x : Link) → Drawn b lines x → Drawn b lines (turned x)
+  turned-drawn : (x : Link) → Drawn b lines x → Drawn b lines (turned x)
   turned-drawn x d = record {
     first-low = d .last-low;
     first-high = d .last-high;
@@ -50,7 +50,7 @@ module _ {b : ℕ} {lines : List Line} where
   }
 
   -- and two links that become one
-  pub joined-drawn : (x y : Link) → Drawn b lines x → Drawn b lines y → Drawn b lines (joined x y)
+  joined-drawn : (x y : Link) → Drawn b lines x → Drawn b lines y → Drawn b lines (joined x y)
   joined-drawn x y c d = record {
     first-low = c .first-low;
     first-high = c .first-high;
@@ -61,7 +61,7 @@ module _ {b : ℕ} {lines : List Line} where
   }
 
   -- and a link begun with its lowest line
-  pub begun-drawn : (x : Link) → Drawn b lines x → Drawn b lines (begun x)
+  begun-drawn : (x : Link) → Drawn b lines x → Drawn b lines (begun x)
   begun-drawn x d = record {
     first-low = d .first-low;
     first-high = d .first-high;
@@ -86,14 +86,14 @@ module _ {b : ℕ} {lines : List Line} where
   pub turned-way : (x : Link) → DrawnWay b lines x → DrawnWay b lines (turned x)
   turned-way x d = record { drawn = turned-drawn x (d .drawn); walks = walk-turned (d .walks) }
 
-  pub from-way : (m : ℕ) (x : Link) → DrawnWay b lines x → DrawnWay b lines (readFrom m x)
+  from-way : (m : ℕ) (x : Link) → DrawnWay b lines x → DrawnWay b lines (readFrom m x)
   from-way m x d = from-holds (DrawnWay b lines) m x d (turned-way x d)
 
-  pub to-way : (m : ℕ) (x : Link) → DrawnWay b lines x → DrawnWay b lines (readTo m x)
+  to-way : (m : ℕ) (x : Link) → DrawnWay b lines x → DrawnWay b lines (readTo m x)
   to-way m x d = to-holds (DrawnWay b lines) m x d (turned-way x d)
 
   -- and two links that become one at a mark at which both have an end
-  pub joined-way : (m : ℕ) (x y : Link) → EndAt m x → EndAt m y → DrawnWay b lines x → DrawnWay b lines y
+  joined-way : (m : ℕ) (x y : Link) → EndAt m x → EndAt m y → DrawnWay b lines x → DrawnWay b lines y
       → DrawnWay b lines (joined (readTo m x) (readFrom m y))
   joined-way m x y p q c d = record {
     drawn = joined-drawn (readTo m x) (readFrom m y) (to-way m x c .drawn) (from-way m y d .drawn);
@@ -103,13 +103,6 @@ module _ {b : ℕ} {lines : List Line} where
   }
 
 -- ---- the sketch at a stage
-
--- every link, spur and loop is between marks of the book and runs over standing lines
-pub all-drawn : {b : ℕ} {lines : List Line} {s : Sketch} → Stage b lines s → (x : Link) → List·Memᴰ x (inAll s) → Drawn b lines x
-all-drawn {b = b} {lines = lines} {s = s} t =
-    all-both (Drawn b lines) (s .links ++ s .spurs) (s .loops)
-    (all-both (Drawn b lines) (s .links) (s .spurs) (λ x i. t .link-way x i .drawn) (λ x i. t .spur-way x i .drawn))
-    (t .loop-drawn)
 
 -- ---- at the start
 
@@ -146,12 +139,12 @@ stage-start {b = b} {lines = lines} sound = record {
 -- ---- one step further
 
 -- a step runs each line as often
-pub next-times : {b : ℕ} {s s′ : Sketch} (n : ℕ) → Next b s s′ → timesIn n (inAll s′) ≡ timesIn n (inAll s)
+next-times : {b : ℕ} {s s′ : Sketch} (n : ℕ) → Next b s s′ → timesIn n (inAll s′) ≡ timesIn n (inAll s)
 next-times {s = s} {s′ = s′} n x =
     times-total n (inAll s′) ∙ next-keeps (λ (y : Link). timesRun n (y .way)) (times-add n) x ∙ sym (times-total n (inAll s))
 
 -- and as many in all
-pub next-lines : {b : ℕ} {s s′ : Sketch} → Next b s s′ → linesIn (inAll s′) ≡ linesIn (inAll s)
+next-lines : {b : ℕ} {s s′ : Sketch} → Next b s s′ → linesIn (inAll s′) ≡ linesIn (inAll s)
 next-lines {s = s} {s′ = s′} x =
     lines-total (inAll s′) ∙ next-keeps (λ (y : Link). length (y .way)) lines-add x ∙ sym (lines-total (inAll s))
 
@@ -262,7 +255,7 @@ module _ {b : ℕ} {lines : List Line} {s : Sketch} (t : Stage b lines s) where
       go (inr x) = subst (Stage b lines) (sym (none-made b s x)) t
 
 -- after any number of steps
-pub stage-steps : {b : ℕ} {lines : List Line} (k : ℕ) {s : Sketch} → Stage b lines s → Stage b lines (steps b k s)
+stage-steps : {b : ℕ} {lines : List Line} (k : ℕ) {s : Sketch} → Stage b lines s → Stage b lines (steps b k s)
 unfolding steps
 stage-steps zero t = t
 stage-steps (suc k) t = stage-steps k (stage-step t)

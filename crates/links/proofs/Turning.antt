@@ -3,27 +3,25 @@ use Prim.Native.Nat.{ℕ, _+_}
 use native.Mathlib.Omega.{arith}
 use mathlib.Core.Path.{_≡_, refl, sym, _∙_, ap, ap₂}
 use mathlib.Core.Logic.{_⊎_, inl, inr}
-use mathlib.Core.Bool.{Bool, true, false, not, cond, Bool·not-not}
+use mathlib.Core.Bool.{Bool, true, false, cond, Bool·not-not}
 use mathlib.Core.List.{List, [], _∷_, _++_, append-nil, append-assoc}
 use mathlib.Core.List.{List·Memᴰ, List·Memᴰ·head, List·Memᴰ·tail, List·Memᴰ·not-nil, List·Memᴰ·append-cases}
 use mathlib.Core.List.{Memᴰ·append-left, Memᴰ·append-right}
 use lib.Dec.{eqb}
-use lib.IntN.{ℤ, negℤ, _+ℤ_, +ℤ-idl, +ℤ-idr, +ℤ-assoc, +ℤ-comm, negℤ-+ℤ, negℤ-negℤ}
 use lib.ListN.{length, length-append}
 use borrow.Author.Tests.{eqb-true, eqb-false}
 use Rattle.laws.proofs.Tests.{cond-ind}
 use Rattle.network.specs.Standing.{Line}
 use Rattle.network.specs.Walk.{Pass, pass, flip, wayLength, Walk, here, step}
 use Rattle.network.proofs.Walks.{walk-append, flip-start, flip-stop}
-use Rattle.loops.specs.Row.{signed, misclosure}
-use Rattle.links.specs.Link.{Link, link, turnedWay, turned, readFrom, readTo, joined}
+use Rattle.links.specs.Link.{Link, turnedWay, turned, readFrom, readTo, joined}
 use Rattle.links.specs.Shape.{timesRun}
 use Rattle.links.specs.Steps.{EndAt}
 
 -- ---- a way run back
 
 -- a pass turned twice is the pass
-pub flip-twice : (p : Pass) → flip (flip p) ≡ p
+flip-twice : (p : Pass) → flip (flip p) ≡ p
 flip-twice p = ap (pass (p .line)) (Bool·not-not (p .forward))
 
 -- of two ways run back the second comes first
@@ -61,30 +59,6 @@ pub turned-length : (w : List Pass) → wayLength (turnedWay w) ≡ wayLength w
 unfolding turnedWay wayLength
 turned-length [] = refl
 turned-length (p ∷ ps) = length-both (turnedWay ps) (flip p ∷ []) ∙ omega (arith, turned-length ps)
-
--- two ways one after the other sum to the sum of both
-pub misclosure-both : (v w : List Pass) → misclosure (v ++ w) ≡ misclosure v +ℤ misclosure w
-unfolding misclosure
-misclosure-both [] w = sym (+ℤ-idl (misclosure w))
-misclosure-both (p ∷ ps) w =
-    ap (λ (z : ℤ). signed (p .forward) (p .line .difference) +ℤ z) (misclosure-both ps w)
-    ∙ sym (+ℤ-assoc (signed (p .forward) (p .line .difference)) (misclosure ps) (misclosure w))
-
--- what is read against a sense has the other sign
-signed-not : (f : Bool) (z : ℤ) → signed (not f) z ≡ negℤ (signed f z)
-signed-not true z = refl
-signed-not false z = sym (negℤ-negℤ z)
-
--- run back, it sums to the same with the other sign
-pub turned-misclosure : (w : List Pass) → misclosure (turnedWay w) ≡ negℤ (misclosure w)
-unfolding turnedWay misclosure
-turned-misclosure [] = refl
-turned-misclosure (p ∷ ps) =
-    misclosure-both (turnedWay ps) (flip p ∷ [])
-    ∙ ap₂ (λ (x y : ℤ). x +ℤ y) (turned-misclosure ps)
-    (+ℤ-idr (signed (not (p .forward)) (p .line .difference)) ∙ signed-not (p .forward) (p .line .difference))
-    ∙ +ℤ-comm (negℤ (misclosure ps)) (negℤ (signed (p .forward) (p .line .difference)))
-    ∙ sym (negℤ-+ℤ (signed (p .forward) (p .line .difference)) (misclosure ps))
 
 -- two ways one after the other run line n as often as both
 pub times-both : (n : ℕ) (v w : List Pass) → timesRun n (v ++ w) ≡ timesRun n v + timesRun n w
@@ -124,10 +98,6 @@ walk-turned (step {p = p} s m x) = walk-append (walk-turned x) (step (flip-start
 
 -- ---- a link read the other way
 
--- a link turned twice is the link
-pub turned-back : (x : Link) → turned (turned x) ≡ x
-turned-back x = ap (link (x .first) (x .last)) (turned-twice (x .way))
-
 -- what holds of a link both ways round holds of it read from a mark, and read to a mark
 pub from-holds : (P : Link → Type 0) (m : ℕ) (x : Link) → P x → P (turned x) → P (readFrom m x)
 from-holds P m x p q = cond-ind P (eqb (x .first) m) x (turned x) (λ e. p) (λ e. q)
@@ -157,19 +127,19 @@ reads-to m x e = go (eqb (x .last) m) refl e
 pub from-count : (m : ℕ) (x : Link) → length (readFrom m x .way) ≡ length (x .way)
 from-count m x = from-holds (λ (y : Link). length (y .way) ≡ length (x .way)) m x refl (turned-count (x .way))
 
-pub to-count : (m : ℕ) (x : Link) → length (readTo m x .way) ≡ length (x .way)
+to-count : (m : ℕ) (x : Link) → length (readTo m x .way) ≡ length (x .way)
 to-count m x = to-holds (λ (y : Link). length (y .way) ≡ length (x .way)) m x refl (turned-count (x .way))
 
 pub from-length : (m : ℕ) (x : Link) → wayLength (readFrom m x .way) ≡ wayLength (x .way)
 from-length m x = from-holds (λ (y : Link). wayLength (y .way) ≡ wayLength (x .way)) m x refl (turned-length (x .way))
 
-pub to-length : (m : ℕ) (x : Link) → wayLength (readTo m x .way) ≡ wayLength (x .way)
+to-length : (m : ℕ) (x : Link) → wayLength (readTo m x .way) ≡ wayLength (x .way)
 to-length m x = to-holds (λ (y : Link). wayLength (y .way) ≡ wayLength (x .way)) m x refl (turned-length (x .way))
 
 pub from-times : (n m : ℕ) (x : Link) → timesRun n (readFrom m x .way) ≡ timesRun n (x .way)
 from-times n m x = from-holds (λ (y : Link). timesRun n (y .way) ≡ timesRun n (x .way)) m x refl (turned-times n (x .way))
 
-pub to-times : (n m : ℕ) (x : Link) → timesRun n (readTo m x .way) ≡ timesRun n (x .way)
+to-times : (n m : ℕ) (x : Link) → timesRun n (readTo m x .way) ≡ timesRun n (x .way)
 to-times n m x = to-holds (λ (y : Link). timesRun n (y .way) ≡ timesRun n (x .way)) m x refl (turned-times n (x .way))
 
 -- ---- two links become one at a mark

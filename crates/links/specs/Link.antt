@@ -1,7 +1,7 @@
 -- Request 01, "marks with two lines are merged into links": what a link is, and how links are read and joined.
 -- Assumes nothing.
 use Prim.Native.Nat.{ℕ, zero}
-use mathlib.Core.Bool.{Bool, true, false, cond}
+use mathlib.Core.Bool.{Bool, true, cond}
 use mathlib.Core.List.{List, [], _∷_, _++_}
 use lib.Dec.{eqb, leb}
 use Rattle.network.specs.Standing.{Line}

@@ -1,14 +1,18 @@
 -- What links, spurs and self-closing loops are once no step is left, as plain statements.
 -- Assumes nothing.
-use Prim.Native.Nat.{ℕ, zero, _+_, _≤_, _<_}
+use Prim.Native.Nat.{ℕ, zero, _+_, _<_}
 use mathlib.Core.Path.{_≡_}
 use mathlib.Core.Bool.{true}
 use mathlib.Core.List.{List, [], _∷_, _++_, List·Memᴰ}
 use lib.Dec.{eqb}
+use lib.IntN.{ℤ}
 use lib.ListN.{length}
 use Rattle.network.specs.Standing.{Line}
 use Rattle.network.specs.Piece.{bit}
 use Rattle.network.specs.Walk.{Pass, pass, Walk, marksOn, OnlyOnce}
+use Rattle.loops.specs.Loops.{loops}
+use Rattle.loops.specs.Row.{misclosure}
+use Rattle.loops.specs.Passes.{SumOf, combineMisclosures}
 use Rattle.links.specs.Link.{Link, turned, lowestLine}
 
 -- some lines, run from the first mark to the last
@@ -58,3 +62,8 @@ pub data Along (xs : List Link) (r : ℕ) : ℕ → List Pass → Type 0 where
   onward : {u : ℕ} {x : Link} {w : List Pass} → List·Memᴰ x xs → x .first ≡ u → Along xs r (x .last) w → Along xs r u (x .way ++ w)
   back : {u : ℕ} {x : Link} {w : List Pass} → List·Memᴰ x xs → x .last ≡ u → Along xs r (x .first) w
       → Along xs r u (turned x .way ++ w)
+
+-- there are whole numbers, one to each reported loop, such that w is the sum of these multiples of the loops, and its misclosure the sum of
+-- the same multiples of their misclosures
+abbrev pub Combined : ℕ → List Line → List Pass → Type 0
+Combined b lines w = (ks : List ℤ) × SumOf lines (loops b lines) w ks × (misclosure w ≡ combineMisclosures ks (loops b lines))

@@ -8,7 +8,7 @@ use mathlib.Core.Option.{Option, none, some}
 use lib.Dec.{ltb}
 use lib.IntN.{ℤ, pos}
 use lib.ListN.{length}
-use Rattle.network.specs.Standing.{Line, standing}
+use Rattle.network.specs.Standing.{Line}
 use Rattle.network.specs.Path.{wayLength}
 use Rattle.loops.specs.Row.{misclosure, listings}
 use Rattle.links.specs.Link.{Link, ownLink, readFrom, readTo, joined, lowerFirst, closesOnItself, begun}

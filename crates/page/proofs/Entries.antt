@@ -23,7 +23,7 @@ module _ (part more : List ℤ) {list : List ℤ} {a : ℕ} (w : LiesAt (part ++
   both = w .is ∙ append-assoc part more (w .past)
 
   -- the first ends inside the list
-  pub first-ends : a + length part ≤ length list
+  first-ends : a + length part ≤ length list
   first-ends = omega (arith, w .inside, length-drop a list, simp length-append at (ap length both))
 
   pub first-is : take (length part) (drop a list) ≡ part
@@ -59,7 +59,7 @@ pub record FirstEntry (xs : List Link) (numbers run : List ℤ) (count i a : ℕ
   pub rest : List Link
   pub are : xs ≡ link ∷ rest
   pub whole : i * entryWords + entryWords ≤ length numbers
-  pub numbers-are : take entryWords (drop (i * entryWords) numbers) ≡ entry link
+  numbers-are : take entryWords (drop (i * entryWords) numbers) ≡ entry link
   pub count-is : countAt numbers i ≡ pos (length (link .way))
   pub ends : a + length (link .way) ≤ length run
   pub lines-are : take (length (link .way)) (drop a run) ≡ map listed (link .way)
@@ -101,7 +101,7 @@ pub record Left (kind : Kind) (xs : List Link) (numbers run : List ℤ) (count :
   pub done : List ℕ
   pub put : Put out₀ out at after done
   pub whole : linesBy (lineFor kind) xs ≡ done ++ linesBy (lineFor kind) links
-  pub run-left : begin + length (runBy links) ≡ a + length (runBy xs)
+  run-left : begin + length (runBy links) ≡ a + length (runBy xs)
 
 module _ {kind : Kind} {xs : List Link} {numbers run : List ℤ} {count : ℕ} {out₀ : List ℕ} {at a : ℕ} where
   pub left-start : Entered xs numbers run count 0 a → Left kind xs numbers run count out₀ at a out₀ at a 0

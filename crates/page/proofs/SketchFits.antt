@@ -33,7 +33,7 @@ use Rattle.page.proofs.Fits.{file-fits}
 use Rattle.page.proofs.Sketched.{its, links-drawn, spurs-drawn, loops-drawn, few-lines}
 
 -- the bytes that the sketch program lends
-abbrev pub sketchRoom : ℕ
+abbrev sketchRoom : ℕ
 sketchRoom = 32768
 
 -- four texts, one after the other

@@ -2,7 +2,7 @@
 use Prim.Native.Nat.{ℕ, _+_, _*_, _≤_}
 use native.Mathlib.Omega.{arith}
 use mathlib.Core.Path.{_≡_, refl, sym, _∙_, ap, subst}
-use mathlib.Core.List.{List, [], _∷_, _++_, map, append-assoc, List·Memᴰ, List·Memᴰ·head, List·Memᴰ·tail}
+use mathlib.Core.List.{List, [], _∷_, _++_, map, append-assoc, List·Memᴰ}
 use lib.IntN.{ℤ}
 use lib.ListN.{length, drop, length-append}
 use borrow.Author.Tests.{le-ltb}
@@ -10,18 +10,17 @@ use Rattle.book.specs.Limits.{mostLines}
 use Rattle.book.specs.declared.Book.{Book}
 use Rattle.book.specs.Good.{GoodLines}
 use Rattle.network.specs.Standing.{standing}
-use Rattle.network.specs.Walk.{Pass}
 use Rattle.network.proofs.Standing.{few-standing}
 use Rattle.loops.specs.Row.{listed, listings}
 use Rattle.loops.proofs.Sounding.{lines-sound}
 use Rattle.links.specs.Link.{Link}
 use Rattle.links.specs.Shape.{linesIn}
 use Rattle.links.specs.Stage.{Drawn}
-use Rattle.links.specs.Sketch.{Sketch, entryWords, entry, entries, inAll, runOf}
+use Rattle.links.specs.Sketch.{Sketch, entryWords, entries, inAll, runOf}
 use Rattle.links.proofs.Kept.{lines-total, total-all}
-use Rattle.links.proofs.EachLine.{as-many, run-count}
+use Rattle.links.proofs.EachLine.{as-many}
 use Rattle.links.proofs.Shapes.{link-drawn-way, spur-drawn-way, loop-drawn}
-use Rattle.junctions.specs.Call.{Lists, Drawing, listsOf, drawing, drawn, over, allOver, sketchIn, sketchGood}
+use Rattle.junctions.specs.Call.{Lists, Drawing, listsOf, drawing, drawn, inFirstPlaces, allInFirstPlaces, sketchIn, sketchGood}
 use Rattle.junctions.specs.declared.Sketched.{Sketched}
 use Rattle.text.specs.Put.{Put}
 use Rattle.text.specs.Sketch.{sketchHeadText}
@@ -43,8 +42,8 @@ run-both (x ∷ xs) ys =
     ap (λ (l : List ℤ). map listed (x .way) ++ l) (run-both xs ys) ∙ sym (append-assoc (map listed (x .way)) (runBy xs) (runBy ys))
 
 -- what is written over the front of a list lies there
-over-lies : (list out : List ℤ) {out′ : List ℤ} → out′ ≡ over list out → LiesAt list out′ 0
-over-lies list out e = record { past = drop (length list) out; is = e; inside = omega arith }
+written-lies : (list out : List ℤ) {out′ : List ℤ} → out′ ≡ inFirstPlaces list out → LiesAt list out′ 0
+written-lies list out e = record { past = drop (length list) out; is = e; inside = omega arith }
 
 -- where the first entry's line goes
 abbrev pub afterHead : ℕ → Place
@@ -92,7 +91,7 @@ module _ (k : Book) (ls : List ℤ) (g : GoodLines k ls) where
   module _ (out : Lists) {out′ : Lists} {r : Sketched} (links-room : mostLines * entryWords ≤ length (out .links))
       (spurs-room : mostLines * entryWords ≤ length (out .spurs)) (loops-room : mostLines * entryWords ≤ length (out .loops))
       (run-room : mostLines ≤ length (out .run)) (e : drawing r out′ ≡ sketchGood k ls out) where
-    all-written : drawing r out′ ≡ drawing (drawn its) (allOver (listsOf its) out)
+    all-written : drawing r out′ ≡ drawing (drawn its) (allInFirstPlaces (listsOf its) out)
     unfolding sketchGood
     all-written = e ∙ rw (
       le-ltb (length (out .links)) (length (entries (its .links))) (omega (arith, few k ls g .links, entries-length (its .links))),
@@ -111,7 +110,7 @@ module _ (k : Book) (ls : List ℤ) (g : GoodLines k ls) where
         subst (λ (l : List ℤ). LiesAt l (out′ .run) 0)
         (run-both (its .links ++ its .spurs) (its .loops)
         ∙ ap (λ (l : List ℤ). l ++ runBy (its .loops)) (run-both (its .links) (its .spurs)))
-        (over-lies (runOf its) (out .run) (ap (λ (d : Drawing). d .out .run) all-written))
+        (written-lies (runOf its) (out .run) (ap (λ (d : Drawing). d .out .run) all-written))
 
     off-lie : LiesAt (runBy (its .links) ++ runBy (its .spurs)) (out′ .run) 0
     off-lie = first-lies (runBy (its .links) ++ runBy (its .spurs)) (runBy (its .loops)) run-lies
@@ -120,7 +119,7 @@ module _ (k : Book) (ls : List ℤ) (g : GoodLines k ls) where
     pub links-entered : Entered (its .links) (out′ .links) (out′ .run) (r .links) 0 0
     links-entered = record {
       counted = omega (arith, ap (λ (a : Sketched). a .links) answer-is);
-      numbers-lie = over-lies (entries (its .links)) (out .links) (ap (λ (d : Drawing). d .out .links) all-written);
+      numbers-lie = written-lies (entries (its .links)) (out .links) (ap (λ (d : Drawing). d .out .links) all-written);
       lines-lie = first-lies (runBy (its .links)) (runBy (its .spurs)) off-lie;
     }
 
@@ -129,7 +128,7 @@ module _ (k : Book) (ls : List ℤ) (g : GoodLines k ls) where
       pub spurs-entered : Entered (its .spurs) (out′ .spurs) (out′ .run) (r .spurs) 0 (after-links .run)
       spurs-entered = record {
         counted = omega (arith, ap (λ (a : Sketched). a .spurs) answer-is);
-        numbers-lie = over-lies (entries (its .spurs)) (out .spurs) (ap (λ (d : Drawing). d .out .spurs) all-written);
+        numbers-lie = written-lies (entries (its .spurs)) (out .spurs) (ap (λ (d : Drawing). d .out .spurs) all-written);
         lines-lie = rw (p .run-is (its .links) links-entered) (other-lies (runBy (its .links)) (runBy (its .spurs)) off-lie);
       }
 
@@ -147,7 +146,7 @@ module _ (k : Book) (ls : List ℤ) (g : GoodLines k ls) where
         pub loops-entered : Entered (its .loops) (out′ .loops) (out′ .run) (r .loops) 0 (after-spurs .run)
         loops-entered = record {
           counted = omega (arith, ap (λ (a : Sketched). a .loops) answer-is);
-          numbers-lie = over-lies (entries (its .loops)) (out .loops) (ap (λ (d : Drawing). d .out .loops) all-written);
+          numbers-lie = written-lies (entries (its .loops)) (out .loops) (ap (λ (d : Drawing). d .out .loops) all-written);
           lines-lie = rw off-end (other-lies (runBy (its .links) ++ runBy (its .spurs)) (runBy (its .loops)) run-lies);
         }
 

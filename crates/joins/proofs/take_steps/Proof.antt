@@ -2,8 +2,7 @@ use Prim.Native.Nat.{_-_}
 use native.Mathlib.Omega.{arith}
 use mathlib.Core.Path.{_≡_, refl, _∙_}
 use lib.ListN.{length}
-use borrow.Author.Needs.{needs}
-use Rattle.joins.specs.Step.{Room, StageIn, Stepped}
+use Rattle.joins.specs.Step.{StageIn, Stepped}
 use Rattle.joins.proofs.Ending.{AllGoing, going-start, going-next, going-end, stage-in, fewer, room-of, stage-same, stepped-same}
 use Rattle.joins.proofs.take_steps.Statement.{statement}
 use Rattle.joins.proofs.take_steps.Tie as tie

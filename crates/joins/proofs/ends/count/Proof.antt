@@ -1,8 +1,6 @@
-use Prim.Native.Nat.{ℕ, _*_, _-_, _≤_, _<_}
+use Prim.Native.Nat.{_-_, _≤_}
 use native.Mathlib.Omega.{arith}
-use mathlib.Core.Path.{_≡_, sym, _∙_}
-use lib.ListN.{length, getD, length-set}
-use Rattle.joins.specs.Row.{firstOf, lastOf, oneMore}
+use lib.ListN.{length}
 use Rattle.joins.proofs.Counted.{CountedTo, counted-start, counted-next, counted-end, first-asked, last-asked}
 use Rattle.joins.proofs.ends.count.Statement.{statement}
 use Rattle.joins.proofs.ends.count.Tie as tie

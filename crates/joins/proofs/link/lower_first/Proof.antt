@@ -1,9 +1,8 @@
-use mathlib.Core.Path.{sym, _∙_}
+use mathlib.Core.Path.{_∙_}
 use lib.Dec.{leb}
 use borrow.Author.Needs.{needs}
 use borrow.Author.Tests.{le-leb, lt-leb}
 use native.Mathlib.Omega.{arith}
-use Rattle.links.specs.Link.{Link}
 use Rattle.joins.proofs.Moves.{first-at, last-at, turns-it, lets-it}
 use Rattle.joins.proofs.link.lower_first.Statement.{statement}
 use Rattle.joins.proofs.link.lower_first.Tie as tie

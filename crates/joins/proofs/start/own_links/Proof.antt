@@ -1,9 +1,8 @@
-use Prim.Native.Nat.{ℕ, _-_, _≤_, _<_}
+use Prim.Native.Nat.{_-_, _≤_, _<_}
 use native.Mathlib.Omega.{arith}
 use mathlib.Core.Path.{_≡_, refl, sym, _∙_}
 use lib.IntN.{pos}
 use lib.ListN.{length, length-set}
-use borrow.Author.Needs.{needs}
 use Rattle.laws.specs.Tests.{eqZ}
 use Rattle.laws.proofs.Signed.{back}
 use Rattle.book.specs.Limits.{mostLines}
