@@ -1,18 +1,20 @@
--- A half of a line by the book's numbers, and in range.
+-- A half of a line by the book's numbers, and in range; its weight is that of its line.
 -- Assumes nothing.
-use Prim.Native.Nat.{ℕ, zero, suc, _%_, _≤_, _<_}
-use native.Mathlib.Nat.{div-le-of-le-mul}
+use Prim.Native.Nat.{ℕ, zero, suc, _+_, _%_, _≤_, _<_, zero-le}
+use native.Mathlib.Nat.{div-le-of-le-mul, eq-or-lt-of-le}
 use native.Mathlib.Omega.{arith}
-use mathlib.Core.Path.{_≡_, refl}
+use mathlib.Core.Path.{_≡_, refl, sym, _∙_}
+use mathlib.Core.Logic.{⊎-elim}
 use mathlib.Core.List.{List}
-use lib.ListN.{set}
+use lib.ListN.{length, getD, set, length-set}
+use lib.Seq.{getD-set-same, getD-set-other}
 use lib.IntN.{ℤ, pos, natAbs, negℤ}
 use Rattle.book.specs.Limits.{mostDifference, leastLength}
 use Rattle.book.specs.Line.{fromAt, toAt, differenceAt, lengthAt}
 use Rattle.divisions.specs.Weight.{weightOf, mostWeight}
 use Rattle.sights.specs.Sights.{Sight, sight}
 use Rattle.sights.specs.Table.{Columns, columns, InRange}
-use Rattle.sights.specs.Halves.{placeOf, sideOf, sightAt, HalfHere}
+use Rattle.sights.specs.Halves.{placeOf, sideOf, sightAt, HalfHere, WeightsOf}
 use Rattle.fields.proofs.Setting.{set-all}
 
 module _ (lines : List ℤ) (h : ℕ) where
@@ -39,7 +41,7 @@ module _ (lines : List ℤ) (h : ℕ) where
       by (suc k) = z
 
   -- either half has the line's weight
-  pub weight-here : sightAt lines h .weight ≡ weightHere
+  weight-here : sightAt lines h .weight ≡ weightHere
   weight-here = either (λ s. s .weight ≡ weightHere) refl refl
 
   -- a half leads to a mark
@@ -47,7 +49,7 @@ module _ (lines : List ℤ) (h : ℕ) where
   other-low p = either (λ s. 0 < s .other) (p .place .good .to .low) (p .place .good .from .low)
 
 -- the weight of a line of at least 10 metres
-pub weight-most : (l : ℕ) → leastLength ≤ l → weightOf l ≤ mostWeight
+weight-most : (l : ℕ) → leastLength ≤ l → weightOf l ≤ mostWeight
 unfolding weightOf
 weight-most l h = div-le-of-le-mul l (omega arith)
 
@@ -58,3 +60,23 @@ range-set cols b c o w r h ho hr hw = record {
   riseIn = set-all (λ (x : ℤ). natAbs x ≤ mostDifference) (cols .rise) c r (pos 0) hr (h .riseIn);
   weightIn = set-all (λ (x : ℕ). x ≤ mostWeight) (cols .weight) c w 0 hw (h .weightIn);
 }
+
+-- ---- the weights of the lines, one after another
+
+pub weights-none : (lines : List ℤ) (weights : List ℕ) → WeightsOf lines 0 weights
+weights-none lines weights = record { room = zero-le; each = λ j l. absurd (omega arith) }
+
+pub weights-next : (lines : List ℤ) (i w : ℕ) (weights : List ℕ) → i < length weights → w ≡ weightOf (natAbs (lengthAt lines i))
+    → WeightsOf lines i weights → WeightsOf lines (i + 1) (set weights i w)
+weights-next lines i w weights l e h = record {
+  room = simp length-set (omega arith);
+  each = λ j s. ⊎-elim (λ (q : j ≡ i). rw (q, getD-set-same weights i w 0 l) e)
+      (λ (p : j < i). rw (getD-set-other weights i j w 0 (λ q. omega arith)) (h .each j p)) (eq-or-lt-of-le (omega arith));
+}
+
+-- the weight of either half of a line
+pub half-weight : (lines : List ℤ) (b n h : ℕ) (weights : List ℕ) → HalfHere lines b n h → WeightsOf lines n weights
+    → (getD weights (placeOf h) 0 ≡ sightAt lines h .weight) × (getD weights (placeOf h) 0 ≤ mostWeight)
+half-weight lines b n h weights p w =
+    let e = w .each (placeOf h) (p .place .inside) in
+    (e ∙ sym (weight-here lines h), rw e (weight-most (natAbs (lengthAt lines (placeOf h))) (p .place .good .long .low)))

@@ -3,7 +3,7 @@
 use Prim.Native.Nat.{ℕ, zero, suc, _-_, _/_, _%_, _≤_, _<_}
 use mathlib.Core.Path.{_≡_}
 use mathlib.Core.List.{List, [], _∷_}
-use lib.ListN.{getD}
+use lib.ListN.{length, getD}
 use lib.IntN.{ℤ, natAbs, negℤ}
 use Rattle.book.specs.Line.{fromAt, toAt, differenceAt, lengthAt}
 use Rattle.chains.specs.Chains.{halves}
@@ -32,6 +32,11 @@ sightAt lines h =
 pub record HalfHere (lines : List ℤ) (b n h : ℕ) : Type 0 where
   pub some-line : 2 ≤ h
   pub place : Place lines b n (placeOf h)
+
+-- the weight of each of the n lines, by its place
+pub record WeightsOf (lines : List ℤ) (n : ℕ) (weights : List ℕ) : Type 0 where
+  pub room : n ≤ length weights
+  pub each : (i : ℕ) → i < n → getD weights i 0 ≡ weightOf (natAbs (lengthAt lines i))
 
 -- the chain from the half h on, as it is seen from its mark
 pub data Leads (lines : List ℤ) (n : ℕ) (next : List ℕ) : ℕ → List Sight → Type 0 where

@@ -4,18 +4,20 @@ ghost use Prim.Native.Nat.{_+_, _-_, _≤_, _<_};
 ghost use lib.ListN.{length};
 ghost use lib.IntN.{natAbs};
 ghost use Rattle.book.specs.Limits.{mostDifference};
+ghost use Rattle.book.specs.Line.{lengthAt};
 ghost use Rattle.book.specs.Good.{Lines};
 ghost use Rattle.network.specs.Standing.{standing};
 ghost use Rattle.chains.specs.Chains.{InOrder};
-ghost use Rattle.divisions.specs.Weight.{mostWeight};
+ghost use Rattle.divisions.specs.Weight.{weightOf};
+ghost use Rattle.fields.specs.Places.{Place};
 ghost use Rattle.sights.specs.Sights.{sightsOf};
 ghost use Rattle.sights.specs.Table.{columns, RoomUpto, InRange, Written, Filled, Weighable, weighed};
-ghost use Rattle.sights.specs.Table.{Rowed, RoomRows, Table, rows, Sighted};
-ghost use Rattle.sights.specs.Halves.{sightAt, HalfHere};
+ghost use Rattle.sights.specs.Table.{RoomRows, Table, rows, Sighted};
+ghost use Rattle.sights.specs.Halves.{sightAt, HalfHere, WeightsOf};
+use book::Book;
 use book::line::Line;
 
-// Half h as it is seen from the mark that it leaves: the place of the mark that it leads to, the rise from there, and the weight of its
-// line.
+// Half h as it is seen from the mark that it leaves: the place of the mark that it leads to, and the rise from there.
 fn other_of(lines: &[i64], b: usize, n: usize, h: usize) -> usize
     requires { ⌜ HalfHere (now lines) b n h ⌝ }
     ensures { λ r. ⌜ (r ≡ sightAt (now (lines .entry)) h .other - 1) × (r < b) ⌝ }
@@ -36,16 +38,31 @@ fn rise_of(lines: &[i64], b: usize, n: usize, h: usize) -> i64
     if h % 2 == 0 { signed::sub(0, d) } else { d }
 }
 
-fn weight_of(lines: &[i64], b: usize, n: usize, h: usize) -> usize
-    requires { ⌜ HalfHere (now lines) b n h ⌝ }
-    ensures { λ r. ⌜ (r ≡ sightAt (now (lines .entry)) h .weight) × (r ≤ mostWeight) ⌝ }
+// The weight of the line at place i.
+fn weight_of(lines: &[i64], b: usize, n: usize, i: usize) -> usize
+    requires { ⌜ Place (now lines) b n i ⌝ }
+    ensures { λ r. ⌜ r ≡ weightOf (natAbs (lengthAt (now (lines .entry)) i)) ⌝ }
 {
-    divisions::weight(signed::index(lines[(h / 2 - 1) * Line::WORDS + Line::LENGTH]))
+    divisions::weight(signed::index(lines[i * Line::WORDS + Line::LENGTH]))
 }
 
-// Half h is written at place c.
+// The weight of each line: a line is seen from both its marks, and its weight costs a division, so it is worked out here, once.
+fn weigh_lines(lines: &[i64], weights: &mut [usize], b: usize, n: usize)
+    requires { ⌜ Lines (now lines) b n ⌝
+        ∗ ⌜ n ≤ length (now weights) ⌝ }
+    ensures { λ _. ⌜ WeightsOf (now (lines .entry)) n (now (weights .exit)) ⌝ }
+{
+    let mut i = 0;
+    while i < n {
+        weights[i] = weight_of(lines, b, n, i);
+        i += 1;
+    }
+}
+
+// Half h is written at place c, with the weight of its line.
 fn write_half(
     lines: &[i64],
+    weights: &[usize],
     other: &mut [usize],
     rise: &mut [i64],
     weight: &mut [usize],
@@ -55,6 +72,7 @@ fn write_half(
     h: usize,
 )
     requires { ⌜ HalfHere (now lines) b n h ⌝
+        ∗ ⌜ WeightsOf (now lines) n (now weights) ⌝
         ∗ ⌜ RoomUpto (columns (now other) (now rise) (now weight)) (c + 1) ⌝
         ∗ ⌜ InRange (columns (now other) (now rise) (now weight)) b ⌝ }
     ensures { λ _. ⌜ Written (columns (now (other .entry)) (now (rise .entry)) (now (weight .entry)))
@@ -63,7 +81,7 @@ fn write_half(
 {
     other[c] = other_of(lines, b, n, h);
     rise[c] = rise_of(lines, b, n, h);
-    weight[c] = weight_of(lines, b, n, h);
+    weight[c] = weights[h / 2 - 1];
 }
 
 // The chain of the mark m is written from place a on. Gives the place after it.
@@ -71,6 +89,7 @@ fn write_chain(
     lines: &[i64],
     head: &[u64],
     next: &[u64],
+    weights: &[usize],
     other: &mut [usize],
     rise: &mut [i64],
     weight: &mut [usize],
@@ -81,7 +100,7 @@ fn write_chain(
 ) -> usize
     requires { ⌜ Lines (now lines) b n ⌝
         ∗ ⌜ InOrder (standing (now lines)) (b + 1) (now head) (now next) ⌝
-        ∗ ⌜ m ≤ b ⌝
+        ∗ ⌜ (m ≤ b) × WeightsOf (now lines) n (now weights) ⌝
         ∗ ⌜ InRange (columns (now other) (now rise) (now weight)) b ⌝
         ∗ ⌜ RoomUpto (columns (now other) (now rise) (now weight)) (a + length (sightsOf (standing (now lines)) m)) ⌝ }
     ensures { λ r. ⌜ r ≡ a + length (sightsOf (standing (now (lines .entry))) m) ⌝
@@ -91,7 +110,7 @@ fn write_chain(
     let mut c = a;
     let mut h = head[m] as usize;
     while 0 < h {
-        write_half(lines, other, rise, weight, b, n, c, h);
+        write_half(lines, weights, other, rise, weight, b, n, c, h);
         c += 1;
         h = next[h] as usize;
     }
@@ -110,35 +129,6 @@ fn total_of(weight: &[usize], a: usize, e: usize) -> usize
         j += 1;
     }
     sum
-}
-
-// The row of the mark at place v is written from place c on. Gives the place after it.
-fn write_row(
-    lines: &[i64],
-    head: &[u64],
-    next: &[u64],
-    first: &mut [usize],
-    other: &mut [usize],
-    rise: &mut [i64],
-    weight: &mut [usize],
-    total: &mut [usize],
-    b: usize,
-    n: usize,
-    v: usize,
-    c: usize,
-) -> usize
-    requires { ⌜ Lines (now lines) b n ⌝
-        ∗ ⌜ InOrder (standing (now lines)) (b + 1) (now head) (now next) ⌝
-        ∗ ⌜ Rowed (sightsOf (standing (now lines))) (now first) (columns (now other) (now rise) (now weight)) (now total) b v c ⌝
-        ∗ ⌜ RoomRows (sightsOf (standing (now lines))) (now first) (columns (now other) (now rise) (now weight)) (now total) b ⌝
-        ∗ ⌜ v < b ⌝ }
-    ensures { λ r. ⌜ Rowed (sightsOf (standing (now (lines .entry)))) (now (first .exit))
-        (columns (now (other .exit)) (now (rise .exit)) (now (weight .exit))) (now (total .exit)) b (v + 1) r ⌝ }
-{
-    first[v] = c;
-    let e = write_chain(lines, head, next, other, rise, weight, b, n, v + 1, c);
-    total[v] = total_of(weight, c, e);
-    e
 }
 
 // The table of the n lines of a book of b marks, row by row.
@@ -163,23 +153,27 @@ pub fn write_rows(
         ∗ ⌜ Sighted (rows (now (first .exit)) (columns (now (other .exit)) (now (rise .exit)) (now (weight .exit))))
         (sightsOf (standing (now (lines .entry)))) b ⌝ }
 {
+    let mut weights = [0; Book::MAX_LINES];
+    weigh_lines(lines, &mut weights, b, n);
     let mut c = 0;
     let mut v = 0;
     while v < b {
-        c = write_row(
+        first[v] = c;
+        let e = write_chain(
             lines,
             head,
             next,
-            first,
+            &weights,
             other,
             rise,
             weight,
-            total,
             b,
             n,
-            v,
+            v + 1,
             c,
         );
+        total[v] = total_of(weight, c, e);
+        c = e;
         v += 1;
     }
     first[b] = c;

@@ -13,12 +13,12 @@ use Rattle.sights.proofs.write_chain.Statement.{statement}
 use Rattle.sights.proofs.write_chain.Tie as tie
 
 abbrev Inv-loop : tie.InvT-loop
-Inv-loop lines head next other₀ rise₀ weight₀ b n m a c₀ h₀ other rise weight c h =
+Inv-loop lines head next weights other₀ rise₀ weight₀ b n m a c₀ h₀ other rise weight c h =
     (length other ≡ length other₀) × (length rise ≡ length rise₀) × (length weight ≡ length weight₀)
     × Walking lines n next (columns other₀ rise₀ weight₀) (columns other rise weight) b a c h (sightsOf (standing lines) m)
 
 abbrev μ-loop : tie.MeasureT-loop
-μ-loop lines head next other₀ rise₀ weight₀ b n m a c₀ h₀ other rise weight c h = a + length (sightsOf (standing lines) m) - c
+μ-loop lines head next weights other₀ rise₀ weight₀ b n m a c₀ h₀ other rise weight c h = a + length (sightsOf (standing lines) m) - c
 
 abbrev start-of : tie.At-loop Inv-loop μ-loop → tie.Start Inv-loop μ-loop
 start-of c = search
@@ -41,7 +41,7 @@ loop-holds c =
       refl,
       record {
         rest = _;
-        leads = leads-all _ _ _ (s .pre .0) _ (s .pre .1 .0) (p .0);
+        leads = leads-all _ _ _ (s .pre .0) _ (s .pre .1 .0) (p .0 .0);
         filling = filling-start _ _ _ _ (p .1 .0) (p .1 .1);
       },
     )
@@ -51,7 +51,7 @@ write-half-requires c κs =
     let i : tie.In-loop Inv-loop μ-loop = search in
     let s = start-of (i .before) in
     let t = turn i in
-    (half-here _ _ _ (s .pre .0) (s .args .m) (t .some-line) (t .inside), (t .room, t .filling .range))
+    (half-here _ _ _ (s .pre .0) (s .args .m) (t .some-line) (t .inside), (s .pre .1 .1 .0 .1, (t .room, t .filling .range)))
 
 add-c : tie.Need-add-c Inv-loop μ-loop
 add-c c =
@@ -71,9 +71,9 @@ loop-again c =
     let s = start-of l in
     let w = after-write-half .write-half in
     let t = turn i in (
-      w .kept .1 .0 ∙ l .loop .inv .0,
-      w .kept .1 .1 .0 ∙ l .loop .inv .1,
-      w .kept .1 .1 .1 .0 ∙ l .loop .inv .2,
+      w .kept .1 .1 .0 ∙ l .loop .inv .0,
+      w .kept .1 .1 .1 .0 ∙ l .loop .inv .1,
+      w .kept .1 .1 .1 .1 .0 ∙ l .loop .inv .2,
       record {
         rest = t .rest;
         leads = t .leads;
@@ -93,7 +93,7 @@ write-chain-spec =
     Inv-loop
     μ-loop
     (λ c. search needs)  -- mul-h
-    (λ c. let s : tie.Start Inv-loop μ-loop = search in omega (arith, s .pre .1 .0 .heads, s .pre .1 .1 .0))  -- shared-slice-read-h
+    (λ c. let s : tie.Start Inv-loop μ-loop = search in omega (arith, s .pre .1 .0 .heads, s .pre .1 .1 .0 .0))  -- shared-slice-read-h
     loop-holds
     write-half-requires
     add-c
