@@ -1,2 +1,3 @@
 pub mod Weighing
 pub mod Rounding
+pub mod Quotients

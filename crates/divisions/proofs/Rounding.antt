@@ -95,15 +95,9 @@ unfolding nearest
 of-size (pos a) d e = ap pos e
 of-size (negsuc a) d e = ap (λ (q : ℕ). negℤ (pos q)) e
 
--- at most half of d: nothing moves
-pub half-stays : (g : ℤ) (d : ℕ) → (d ≡ 0 → natAbs g ≡ 0) → natAbs g ≤ d / 2 → nearest g d ≡ pos 0
-half-stays g d z h =
-    ⊎-elim (λ (e : d ≡ 0). of-size g d (rw (z e) (zero-size d)))
-    (λ (p : 0 < d). of-size g d (nearest-only (natAbs g) d (nearestSize (natAbs g) d) 0 (nearest-is (natAbs g) d p)
-    (record { above = omega arith; below = omega arith }))) (eq-zero-or-pos d)
-  where
-    zero-size : (d : ℕ) → nearestSize 0 d ≡ 0
-    zero-size d = sym (nearest-size (pos 0) d) ∙ ap natAbs (nearest-none d)
+-- nothing pulls: nothing moves
+pub unmoved : (g : ℤ) (d : ℕ) → natAbs g ≡ 0 → nearest g d ≡ pos 0
+unmoved g d e = of-size g d (rw e (sym (nearest-size (pos 0) d) ∙ ap natAbs (nearest-none d)))
 
 -- by the sign of g
 pub of-negative : (g : ℤ) (d : ℕ) → ltZ g (pos 0) ≡ true → nearest g d ≡ negℤ (pos (nearestSize (natAbs g) d))
@@ -115,7 +109,3 @@ pub of-positive : (g : ℤ) (d : ℕ) → ltZ g (pos 0) ≡ false → nearest g 
 unfolding nearest
 of-positive (pos n) d e = refl
 of-positive (negsuc n) d e = absurd (true≢false e)
-
--- more than half of d: there is something to divide by
-pub positive : (g : ℤ) (d : ℕ) → (d ≡ 0 → natAbs g ≡ 0) → d / 2 < natAbs g → 0 < d
-positive g d z h = ⊎-elim (λ (e : d ≡ 0). let k = z e in absurd (omega arith)) (λ (p : 0 < d). p) (eq-zero-or-pos d)

@@ -1,2 +1,3 @@
 pub mod Weight
 pub mod Nearest
+pub mod Quotient

@@ -5,12 +5,18 @@ ghost use lib.IntN.{natAbs};
 ghost use Rattle.divisions.specs.Weight.{weightOf};
 ghost use Rattle.divisions.specs.Nearest.{nearestSize, nearest};
 
+mod quotient;
+
 // A line's weight: the one division of the weights.
 pub fn weight(length: usize) -> usize
     requires { ⌜ 0 < length ⌝ }
     ensures { λ r. ⌜ r ≡ weightOf length ⌝ }
 {
-    1000000 / length
+    // Twice a longer one may not fit.
+    if 1000000 < length {
+        return 0;
+    }
+    quotient::divide(1000000, length).quotient
 }
 
 // g / d to the nearest whole number, halves toward zero.
@@ -20,10 +26,10 @@ pub fn move_by(g: i64, d: usize) -> i64
         ∗ ⌜ natAbs g < 2 ^ 63 ⌝ }
     ensures { λ r. ⌜ r ≡ nearest g d ⌝ }
 {
-    let a = signed::magnitude(g);
-    if a <= d / 2 {
+    if d == 0 {
         return 0;
     }
+    let a = signed::magnitude(g);
     let q = signed::signed_count(nearest_size(a, d));
     if g < 0 { signed::sub(0, q) } else { q }
 }
@@ -31,10 +37,14 @@ pub fn move_by(g: i64, d: usize) -> i64
 // The same of sizes: the one division of the moves. Twice a may not fit, so the remainder decides.
 fn nearest_size(a: usize, d: usize) -> usize
     requires { ⌜ 0 < d ⌝
-        ∗ ⌜ d < 2 ^ 62 ⌝ }
+        ∗ ⌜ d < 2 ^ 62 ⌝
+        ∗ ⌜ a < 2 ^ 63 ⌝ }
     ensures { λ r. ⌜ r ≡ nearestSize a d ⌝ }
 {
-    let q = a / d;
-    let r = a % d;
-    if d < 2 * r { q + 1 } else { q }
+    let divided = quotient::divide(a, d);
+    if d < 2 * divided.remainder {
+        divided.quotient + 1
+    } else {
+        divided.quotient
+    }
 }
