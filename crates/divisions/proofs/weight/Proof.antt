@@ -1,6 +1,5 @@
 use mathlib.Core.Path.{sym}
 use native.Mathlib.Nat.{div-eq-of-lt}
-use native.Mathlib.Omega.{arith}
 use Rattle.divisions.specs.Weight.{weightOf}
 use Rattle.divisions.proofs.Quotients.{quotient-is}
 use borrow.Author.Needs.{needs}
