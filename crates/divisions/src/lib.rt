@@ -34,7 +34,7 @@ pub fn move_by(g: i64, d: usize) -> i64
     if g < 0 { signed::sub(0, q) } else { q }
 }
 
-// The same of sizes: the one division of the moves. Twice a may not fit, so the remainder decides.
+// The same of sizes: the one division of the moves. Its remainder decides whether it is rounded up.
 fn nearest_size(a: usize, d: usize) -> usize
     requires { ⌜ 0 < d ⌝
         ∗ ⌜ d < 2 ^ 62 ⌝
