@@ -8,12 +8,49 @@ pub(crate) struct Divided {
     pub remainder: usize,
 }
 
-// a divided by d. A quotient of two bits, as most moves of late sweeps have, is had at once; for a larger one a is first divided by
-// sixteen times d, and four bits follow. So the time is in the bits of the quotient.
+// a divided by d: first by four times d, then two bits follow. A quotient of two bits, as most moves of late sweeps have, is had at once.
 pub(crate) fn divide(a: usize, d: usize) -> Divided
     requires { ⌜ 0 < d ⌝
         ∗ ⌜ a < 2 ^ 63 ⌝
         ∗ ⌜ d < 2 ^ 63 ⌝ }
+    ensures { λ r. ⌜ Quotient a d (r .quotient) (r .remainder) ⌝ }
+{
+    let above = if a >> 2 < d {
+        Divided {
+            quotient: 0,
+            remainder: a,
+        }
+    } else {
+        by_fours(a, 4 * d)
+    };
+    two_bits(above, d)
+}
+
+// The same, four bits at a time: up to eight at once, and more by dividing by 256 times d first. So the time is in the bits of the
+// quotient.
+fn by_fours(a: usize, d: usize) -> Divided
+    requires { ⌜ 0 < d ⌝
+        ∗ ⌜ a < 2 ^ 63 ⌝
+        ∗ ⌜ d < 2 ^ 63 ⌝ }
+    ensures { λ r. ⌜ Quotient a d (r .quotient) (r .remainder) ⌝ }
+{
+    if a >> 4 < d {
+        return at_most_four(a, d);
+    }
+    let above = if a >> 8 < d {
+        at_most_four(a, 16 * d)
+    } else {
+        four_bits(by_fours(a, 256 * d), 16 * d)
+    };
+    four_bits(above, d)
+}
+
+// The same of a quotient of at most four bits.
+fn at_most_four(a: usize, d: usize) -> Divided
+    requires { ⌜ 0 < d ⌝
+        ∗ ⌜ a < 2 ^ 63 ⌝
+        ∗ ⌜ d < 2 ^ 63 ⌝
+        ∗ ⌜ a < 16 * d ⌝ }
     ensures { λ r. ⌜ Quotient a d (r .quotient) (r .remainder) ⌝ }
 {
     let none = Divided {
@@ -21,9 +58,20 @@ pub(crate) fn divide(a: usize, d: usize) -> Divided
         remainder: a,
     };
     if a >> 2 < d {
-        return two_bits(none, d);
+        two_bits(none, d)
+    } else {
+        four_bits(none, d)
     }
-    let above = if a >> 4 < d { none } else { divide(a, 16 * d) };
+}
+
+// From the division by sixteen times d to that by d.
+fn four_bits(above: Divided, d: usize) -> Divided
+    requires { ⌜ 0 < d ⌝
+        ∗ ⌜ d < 2 ^ 61 ⌝
+        ∗ ⌜ above .remainder < 16 * d ⌝
+        ∗ ⌜ above .quotient * (16 * d) + above .remainder < 2 ^ 63 ⌝ }
+    ensures { λ r. ⌜ Quotient (above .quotient * (16 * d) + above .remainder) d (r .quotient) (r .remainder) ⌝ }
+{
     two_bits(two_bits(above, 4 * d), d)
 }
 
