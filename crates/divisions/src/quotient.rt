@@ -1,6 +1,6 @@
 // Division without a divide instruction, by doubling and subtracting. Document 02, request 02: "by shift and subtract".
-ghost use Prim.Native.Nat.{_<_, _^_, _+_, _*_};
-ghost use Rattle.divisions.specs.Quotient.{Quotient};
+ghost use Prim.Native.Nat.{_<_, _^_, _*_};
+ghost use Rattle.divisions.specs.Quotient.{Quotient, Coarse, wholeOf};
 
 // How often the divisor goes into a number, and what is left of it.
 pub(crate) struct Divided {
@@ -66,32 +66,26 @@ fn at_most_four(a: usize, d: usize) -> Divided
 
 // From the division by sixteen times d to that by d.
 fn four_bits(above: Divided, d: usize) -> Divided
-    requires { ⌜ 0 < d ⌝
-        ∗ ⌜ d < 2 ^ 61 ⌝
-        ∗ ⌜ above .remainder < 16 * d ⌝
-        ∗ ⌜ above .quotient * (16 * d) + above .remainder < 2 ^ 63 ⌝ }
-    ensures { λ r. ⌜ Quotient (above .quotient * (16 * d) + above .remainder) d (r .quotient) (r .remainder) ⌝ }
+    requires { ⌜ Coarse 16 d (above .quotient) (above .remainder) ⌝
+        ∗ ⌜ d < 2 ^ 61 ⌝ }
+    ensures { λ r. ⌜ Quotient (wholeOf 16 d (above .quotient) (above .remainder)) d (r .quotient) (r .remainder) ⌝ }
 {
     two_bits(two_bits(above, 4 * d), d)
 }
 
 // From the division by four times d to that by d.
 fn two_bits(above: Divided, d: usize) -> Divided
-    requires { ⌜ 0 < d ⌝
-        ∗ ⌜ d < 2 ^ 63 ⌝
-        ∗ ⌜ above .remainder < 4 * d ⌝
-        ∗ ⌜ above .quotient * (4 * d) + above .remainder < 2 ^ 63 ⌝ }
-    ensures { λ r. ⌜ Quotient (above .quotient * (4 * d) + above .remainder) d (r .quotient) (r .remainder) ⌝ }
+    requires { ⌜ Coarse 4 d (above .quotient) (above .remainder) ⌝
+        ∗ ⌜ d < 2 ^ 63 ⌝ }
+    ensures { λ r. ⌜ Quotient (wholeOf 4 d (above .quotient) (above .remainder)) d (r .quotient) (r .remainder) ⌝ }
 {
     next_bit(next_bit(above, 2 * d), d)
 }
 
 // From the division by twice d to that by d: the quotient is doubled, and d subtracted once where the remainder has room for it.
 fn next_bit(above: Divided, d: usize) -> Divided
-    requires { ⌜ 0 < d ⌝
-        ∗ ⌜ above .remainder < 2 * d ⌝
-        ∗ ⌜ above .quotient * (2 * d) + above .remainder < 2 ^ 63 ⌝ }
-    ensures { λ r. ⌜ Quotient (above .quotient * (2 * d) + above .remainder) d (r .quotient) (r .remainder) ⌝ }
+    requires { ⌜ Coarse 2 d (above .quotient) (above .remainder) ⌝ }
+    ensures { λ r. ⌜ Quotient (wholeOf 2 d (above .quotient) (above .remainder)) d (r .quotient) (r .remainder) ⌝ }
 {
     let quotient = 2 * above.quotient;
     if above.remainder < d {
