@@ -15,8 +15,9 @@
  *           withdrawn line keeps its place and number.
  *   held    two numbers to an entry: mark, height. These marks are not moved by an adjustment.
  *   rows    five numbers to a loop, the report: closing line, count of lines, length, misclosure,
- *           verdict (0 within the allowable, 1 over). With misclosure m and length L a loop is within
- *           exactly if m*m <= 10*t*t*L.
+ *           verdict (0 within the allowable, 1 over). With misclosure m a loop is within exactly if
+ *           m*m <= 10*t*t*L, L being the sum over its lines of the larger of the length and 250; the
+ *           row's length is the sum of the lengths as they are.
  *
  *   marks b     1 to 256            difference  -100,000,000 to 100,000,000
  *   lines       0 to 512            length      10 to 100,000

@@ -1,5 +1,5 @@
 #!/usr/bin/env python3
-"""Writes crates/survey_cases/stdin (books, one case after the other) and, from a slow reading of document 01 of its own,
+"""Writes crates/survey_cases/stdin (books, one case after the other) and, from a slow reading of document 01 and request 03 of its own,
 crates/survey_cases/stdout (what the program must print of them). Run it after a change of the cases; --check only compares."""
 import random
 import struct
@@ -69,8 +69,9 @@ def loops_of(b, t, lines):
             usable.add(c)
         loop = [(c, 1)] + way
         length = sum(lines[i][3] for i, _ in loop)
+        judged = sum(max(lines[i][3], 250) for i, _ in loop)
         misclosure = sum(sense * lines[i][2] for i, sense in loop)
-        loops.append((loop, length, misclosure, misclosure**2 > 10 * t * t * length))
+        loops.append((loop, length, misclosure, misclosure**2 > 10 * t * t * judged))
     return loops, pieces
 
 
@@ -133,6 +134,34 @@ def scattered(seed, b, n, lengths):
     return book(b, dice.randint(1, 1000), [held(dice.randint(1, b), 7)], lines)
 
 
+def ring(t, misclosure, lengths):
+    """One loop of lines of these lengths that closes so."""
+    last = len(lengths)
+    return book(last, t, lines=[line(i + 1, (i + 1) % last + 1, 0 if i else misclosure, metres) for i, metres in enumerate(lengths)])
+
+
+def parallel(*differences):
+    """Lines of 40 m from mark 1 to mark 2 at t = 100: every loop has two, which count 500 m, so 7,071 is within and 7,072 over."""
+    return book(2, 100, lines=[line(1, 2, difference, 40) for difference in differences])
+
+
+def short_lines():
+    """Request 03: a line shorter than 250 m counts as one of 250 m. Line 1 is re-run to 10,000 and then withdrawn, before the others."""
+    for misclosure in (4000, 4001, -4000, -4001):
+        yield f"four lines of 40 m, {misclosure}", ring(40, misclosure, [40] * 4)
+    for misclosure in (3466, 3467):
+        yield f"249, 250 and 251 m count 751, {misclosure}", ring(40, misclosure, [249, 250, 251])
+    for misclosure in (12_499, 12_500, 12_501):
+        yield f"25 lines of 10 m, {misclosure}", ring(50, misclosure, [10] * 25)
+    yield "short lines, a re-run turns it within", parallel(0, 17_071)
+    yield "short lines, a re-run turns it over", parallel(12_000, 17_072)
+    yield "short lines, a re-run leaves it within", parallel(12_000, 17_071)
+    yield "short lines, a re-run leaves it over", parallel(0, 17_072)
+    yield "short lines, a withdrawal turns it over", parallel(10_000, 4_000, 15_000)
+    yield "short lines, a withdrawal turns it within", parallel(10_000, 15_000, 20_000)
+    yield "short lines, a withdrawal turns nothing", parallel(10_000, 11_000, 12_000)
+
+
 def cases():
     yield "the worked network", WORKED
     yield "no line", book(5, 120)
@@ -145,6 +174,7 @@ def cases():
     yield "the edge of the allowable", book(2, 40, lines=[line(1, 2, 4000, 500), line(1, 2, 0, 500)])
     yield "one micrometre over it", book(2, 40, lines=[line(1, 2, 4001, 500), line(1, 2, 0, 500)])
     yield "the greatest misclosure", book(2, 1000, lines=[line(1, 2, 10**8, 100000), line(2, 1, 10**8, 100000), line(1, 2, -(10**8), 100000)])
+    yield from short_lines()
     for k, order in enumerate(((0, 1, 2, 3, 4, 5, 6), (6, 5, 4, 3, 2, 1, 0), (5, 0, 1, 2, 3, 4, 6), (3, 1, 6, 0, 5, 2, 4))):
         yield f"the Memorandum's figure, numbering {k + 1}", squares(order)
     for seed in range(6):

@@ -17,7 +17,7 @@ function isWithin(core, tolerance, lengths, m) {
 
 /** A first guess by a root. It counts only if the core says that it is right. */
 function guess(tolerance, lengths) {
-  const length = lengths.reduce((sum, each) => sum + each, 0n);
+  const length = lengths.reduce((sum, each) => sum + (each < 250n ? 250n : each), 0n);
   return BigInt(Math.floor(Math.sqrt(Number(10n * tolerance * tolerance * length))));
 }
 

@@ -25,6 +25,16 @@ test('the worked network', () => {
   assert.deepEqual(marksOf(numbers, [6, -1, 5]), [4, 3, 1, 4]);
 });
 
+test('a line shorter than 250 m is judged as one of 250 m and shown as it is', () => {
+  const ring = misclosure => [[1, 2], [2, 3], [3, 4], [4, 1]].flatMap(([from, to], row) =>
+    Object.entries({ from, to, difference: row === 0 ? misclosure : '0', length: 40 }).map(([key, text]) => ['lines', row, key, `${text}`]));
+  const judged = misclosure => resultsOf(core, put(emptyBook(), ['head', 0, 'tolerance', '4.0'], ...ring(misclosure))).loops
+    .map(loop => [loop.length, loop.over, loop.allowed]);
+  assert.deepEqual(judged('0.004'), [[160n, false, 4_000n]]);
+  assert.deepEqual(judged('-0.004'), [[160n, false, 4_000n]]);
+  assert.deepEqual(judged('0.004001'), [[160n, true, 4_000n]]);
+});
+
 test('marks that are left empty are as many as are named, and a slip of the pen is not a mark', () => {
   assert.equal(resultsOf(core, put(worked(), ['head', 0, 'marks', ''])).numbers.marks, 5n);
   assert.equal(resultsOf(core, emptyBook()).numbers.marks, 1n);

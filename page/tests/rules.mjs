@@ -39,7 +39,7 @@ const ALLOWED = [
   ['allowed.js', 'const KEPT = 20_000', 'how many answers are kept'],
   ['allowed.js', 'from + 1n', 'the marks of a ring that the core is asked about'],
   ['allowed.js', 'Math.floor(Math.sqrt(Number(10n * tolerance * tolerance * length)))', 'a guess, which counts only if the core says so'],
-  ['allowed.js', 'sum + each, 0n', 'a guess, which counts only if the core says so'],
+  ['allowed.js', 'sum + (each < 250n ? 250n : each), 0n', 'a guess, which counts only if the core says so'],
   ['allowed.js', '(low + high) / 2n', 'halving, until the core has said which is the greatest'],
   ['allowed.js', 'first + 1n', 'the next micrometre, which the core is asked about'],
   ['allowed.js', 'high *= 2n', 'doubling, until the core says over'],

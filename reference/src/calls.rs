@@ -10,8 +10,8 @@ use crate::*;
 pub struct Reference {
     pub(crate) network: Box<Network>,
     sketch: Box<Sketch>,
-    /// Rows that have the line of a re-run, each with the sense in which they run it.
-    touched: Vec<(usize, i64)>,
+    /// Rows that have the line of a re-run, each with the sense in which they run it and the verdict's length.
+    touched: Vec<(usize, i64, i64)>,
     /// The lines of all loops, one loop after the other.
     listed: Vec<i64>,
 }
@@ -148,9 +148,9 @@ impl Reference {
         let tested = self.test_report(book.t, report, |i, closing, network| {
             let path = network.search.path();
             if closing == line || path.contains(&(line as i32)) {
-                touched.push((i, 1));
+                touched.push((i, 1, network.judged));
             } else if path.contains(&-(line as i32)) {
-                touched.push((i, -1));
+                touched.push((i, -1, network.judged));
             }
         });
         self.touched = touched;
@@ -259,10 +259,10 @@ impl Level for Reference {
             let kept = &mut book.lines[LINE * (line as usize - 1) + 2];
             let change = difference - *kept;
             *kept = difference;
-            for &(i, sense) in &self.touched {
+            for &(i, sense, judged) in &self.touched {
                 let row = &mut report[ROW * i..][..ROW];
                 row[3] += sense * change;
-                row[4] = verdict(book.t, row[2], row[3]);
+                row[4] = verdict(book.t, judged, row[3]);
             }
         }
         answer(counts)

@@ -33,6 +33,8 @@ pub const MAX_TOLERANCE: i64 = 1_000;
 pub const MAX_DIFFERENCE: i64 = 100_000_000;
 pub const MIN_LENGTH: i64 = 10;
 pub const MAX_LENGTH: i64 = 100_000;
+/// The verdict takes a shorter line as one of this length.
+pub const MIN_JUDGED: u32 = 250;
 pub const MAX_HELD_HEIGHT: i64 = 10_000_000_000;
 pub const MAX_HEIGHT: i64 = 50_000_000_000;
 pub const MAX_SWEEPS: i64 = 10_000;

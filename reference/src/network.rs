@@ -57,10 +57,11 @@ impl Arms {
     }
 }
 
-/// 0 within, 1 over: "within exactly if m*m <= 10*t*t*L; equal is within".
-pub fn verdict(t: i64, length: i64, misclosure: i64) -> i64 {
-    let (m, t, length) = (misclosure as i128, t as i128, length as i128);
-    (m * m > 10 * t * t * length) as i64
+/// 0 within, 1 over: "within exactly if m*m <= 10*t*t*L; equal is within". The verdict's length is "the sum over
+/// the loop's lines of the larger of the length and 250".
+pub fn verdict(t: i64, judged: i64, misclosure: i64) -> i64 {
+    let (m, t, judged) = (misclosure as i128, t as i128, judged as i128);
+    (m * m > 10 * t * t * judged) as i64
 }
 
 /// The order of candidates: by score, then by number.
@@ -92,6 +93,8 @@ pub(crate) struct Network {
     closing: [u16; MAX_LINES],
     pub rows: usize,
     pub pieces: usize,
+    /// The verdict's length of the row that was taken last.
+    pub judged: i64,
     /// Candidates by rank, and the best rank for each mark that is still out.
     candidates: BinaryHeap<Reverse<u64>>,
     best: [u64; MAX_MARKS],
@@ -119,6 +122,7 @@ impl Network {
             closing: [0; MAX_LINES],
             rows: 0,
             pieces: 0,
+            judged: 0,
             candidates: BinaryHeap::with_capacity(2 * MAX_LINES),
             best: [0; MAX_MARKS],
             fresh: [0; MAX_LINES],
@@ -225,15 +229,19 @@ impl Network {
         let path_length = self.find_path(from as usize, to as usize);
         let length = (path_length + self.length[k]) as i64;
         let mut misclosure = self.difference[k];
+        let mut judged = self.length[k].max(MIN_JUDGED);
         for &signed in self.search.path() {
-            let d = self.difference[signed.unsigned_abs() as usize - 1];
+            let line = signed.unsigned_abs() as usize - 1;
+            let d = self.difference[line];
             misclosure += if signed > 0 { d } else { -d };
+            judged += self.length[line].max(MIN_JUDGED);
         }
+        self.judged = judged as i64;
         let count = self.search.path().len() + 1;
         if count > 2 {
             self.subgraph.join(from, to, closing, self.length[k]);
         }
-        [closing as i64 + 1, count as i64, length, misclosure, verdict(t, length, misclosure)]
+        [closing as i64 + 1, count as i64, length, misclosure, verdict(t, self.judged, misclosure)]
     }
 
     /// The mark at which the ways of two marks to their root meet.

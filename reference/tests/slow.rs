@@ -134,10 +134,12 @@ fn slow_loops(t: i64, slow: &Slow) -> (Vec<i64>, Vec<Vec<i64>>) {
     for &closing in &slow.closing {
         let (length, path) = slow_path(&subgraph, closing).expect("the tree joins every piece");
         let (mut misclosure, mut at) = (closing.difference, closing.to);
+        let mut judged = closing.length.max(250);
         let mut list = vec![closing.number];
         for &number in &path {
             let l = subgraph.iter().find(|l| l.number == number).expect("a line of the path");
             misclosure += l.rise_from(at);
+            judged += l.length.max(250);
             list.push(if l.from == at { number } else { -number });
             at = l.beyond(at).expect("the path is joined");
         }
@@ -146,7 +148,7 @@ fn slow_loops(t: i64, slow: &Slow) -> (Vec<i64>, Vec<Vec<i64>>) {
             subgraph.push(closing);
         }
         let length = length + closing.length;
-        let within = misclosure as i128 * misclosure as i128 <= (10 * t * t * length) as i128;
+        let within = misclosure as i128 * misclosure as i128 <= (10 * t * t * judged) as i128;
         let count = list.len() as i64;
         rows.extend([closing.number, count, length, misclosure, !within as i64]);
         lists.push(list);
@@ -430,7 +432,7 @@ fn small_books() {
 fn edge_books() {
     let mut random = Random::new(2);
     let mut reference = Reference::new();
-    for _ in 0..500 {
+    for _ in 0..200 {
         let book = edge_book(&mut random);
         same_as_slow(&mut reference, &book, &mut random);
     }

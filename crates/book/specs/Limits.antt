@@ -1,4 +1,5 @@
--- Document 01, the table of limits: each "from" and each "to" by its own name; of a number that may lie either way, its size.
+-- Document 01, the table of limits: each "from" and each "to" by its own name; of a number that may lie either way, its size. And request
+-- 03's limit of the verdict.
 -- Assumes nothing.
 use Prim.Native.Nat.{ℕ}
 
@@ -37,6 +38,10 @@ leastLength = 10
 
 abbrev pub mostLength : ℕ
 mostLength = 100000
+
+-- metres: the allowable misclosure "takes a section shorter than 0.25 km as 0.25 km"
+abbrev pub leastJudged : ℕ
+leastJudged = 250
 
 -- micrometres, either way
 abbrev pub mostHeldHeight : ℕ

@@ -47,6 +47,9 @@ impl Line {
 
     pub const MAX_LENGTH: i64 = 100_000;
 
+    // The verdict takes a shorter line as one of this length.
+    pub const MIN_JUDGED: usize = 250;
+
     pub const END_FAULT: usize = 1;
 
     pub const EQUAL_ENDS_FAULT: usize = 2;

@@ -7,6 +7,7 @@ pub mod Named
 pub mod OneAnswer
 pub mod TheLoops
 pub mod Reported
+pub mod ShortLines
 pub mod CorrectedBook
 pub mod Corrections
 pub mod StillStands

@@ -13,7 +13,8 @@ use Rattle.network.specs.Closing.{closing}
 use Rattle.network.specs.Subgraph.{only, numbers}
 use Rattle.network.specs.Walk.{Pass, pass, Walk, wayLength, IsShortest, marksOn, AllDifferent, OnlyOnce}
 use Rattle.loops.specs.Loops.{Loop, loopAt}
-use Rattle.loops.specs.Row.{misclosure, closingNumber, rowWords, rowClosing, rowCount, rowLength, rowMisclosure, rowVerdict}
+use Rattle.loops.specs.Row.{misclosure, total, allowances, closingNumber, rowWords}
+use Rattle.loops.specs.Row.{rowClosing, rowCount, rowLength, rowMisclosure, rowVerdict}
 use Rattle.loops.specs.Checked.{runs}
 use Rattle.loops.specs.Report.{loopsOf}
 use Rattle.lists.specs.Listing.{Listing}
@@ -27,12 +28,13 @@ unfoldable pub countsBefore : List ℤ → ℕ → ℕ
 countsBefore report zero = zero
 countsBefore report (suc i) = countsBefore report i + natAbs (inRow rowCount report i)
 
--- "With misclosure m and length L a loop is within exactly if m*m <= 10*t*t*L"
+-- "With misclosure m and length L a loop is within exactly if m*m <= 10*t*t*L": over what its lines allow, which is so much by the theorem
+-- `within-by-judged-length`
 abbrev pub Within : ℕ → Loop → Type 0
-Within t lp = natAbs (misclosure lp) * natAbs (misclosure lp) ≤ 10 * t * t * wayLength lp
+Within t lp = natAbs (misclosure lp) * natAbs (misclosure lp) ≤ 10 * total (allowances t lp)
 
 abbrev pub Over : ℕ → Loop → Type 0
-Over t lp = 10 * t * t * wayLength lp < natAbs (misclosure lp) * natAbs (misclosure lp)
+Over t lp = 10 * total (allowances t lp) < natAbs (misclosure lp) * natAbs (misclosure lp)
 
 -- row i of the report is the row of the loop lp, at the tolerance t
 pub record RowOf (t : ℕ) (report : List ℤ) (i : ℕ) (lp : Loop) : Type 0 where

@@ -1,34 +1,52 @@
--- What a row says: five numbers, and a verdict by the length and the misclosure. Assumes nothing.
+-- What a row says: five numbers, and a verdict by the lines' allowances and the misclosure. Assumes nothing.
 use Prim.Native.Nat.{ℕ, zero, suc, _+_, _*_, _≤_, _<_}
 use native.Mathlib.Omega.{arith}
 use native.Mathlib.Nat.{mul-zero, mul-add, mul-assoc}
-use mathlib.Core.Path.{_≡_, refl, sym, _∙_, ap, subst}
+use mathlib.Core.Path.{_≡_, refl, sym, _∙_, ap}
 use mathlib.Core.Logic.{_↔_}
 use mathlib.Core.Bool.{Bool, true, false, cond}
-use mathlib.Core.List.{List, [], _∷_, _++_}
+use mathlib.Core.List.{List, [], _∷_, _++_, map, List·Memᴰ, List·Memᴰ·head, List·Memᴰ·tail}
 use lib.Dec.{leb}
 use lib.IntN.{pos, natAbs}
 use lib.ListN.{length, drop}
 use lib.Seq.{drop-nil, drop-append-add}
 use borrow.Author.Tests.{leb-true, le-leb, lt-leb}
-use Rattle.network.specs.Walk.{wayLength}
+use Rattle.book.specs.Limits.{leastJudged}
+use Rattle.network.specs.Walk.{Pass, wayLength}
 use Rattle.loops.specs.Loops.{Loop}
-use Rattle.loops.specs.Row.{misclosure, lineAllows, allowances, total, within, verdict, rowWords, row, rows}
+use Rattle.loops.specs.Row.{misclosure, total, judgedAs, judgedLength, lineAllows, allowances, within, verdict, rowWords, row, rows}
 
 -- ---- the allowable
 
--- the lines' allowances sum to t*t times the length
-pub allowances-sum : (t : ℕ) (lp : Loop) → total (allowances t lp) ≡ t * t * wayLength lp
-unfolding total allowances lineAllows wayLength
-allowances-sum t [] = sym (mul-zero (t * t))
-allowances-sum t (p ∷ ps) =
-    ap (λ (n : ℕ). t * t * p .line .length + n) (allowances-sum t ps) ∙ sym (mul-add (t * t) (p .line .length) (wayLength ps))
+-- a common factor of a sum
+total-times : {A : Type 0} (k : ℕ) (f : A → ℕ) (xs : List A) → total (map (λ x. k * f x) xs) ≡ k * total (map f xs)
+unfolding total
+total-times k f [] = sym (mul-zero k)
+total-times k f (x ∷ xs) = ap (λ (n : ℕ). k * f x + n) (total-times k f xs) ∙ sym (mul-add k (f x) (total (map f xs)))
 
--- what a loop's lines allow is 10*t*t*L, L being the row's length
-pub allowable : (t : ℕ) (lp : Loop) → 10 * total (allowances t lp) ≡ 10 * t * t * wayLength lp
+-- the lines' allowances sum to t*t times the verdict's length
+allowances-sum : (t : ℕ) (lp : Loop) → total (allowances t lp) ≡ t * t * judgedLength lp
+unfolding allowances judgedLength
+allowances-sum t lp = total-times (t * t) (λ (p : Pass). judgedAs (p .line .length)) lp
+
+-- what a loop's lines allow is 10*t*t*L, L being the verdict's length
+pub allowable : (t : ℕ) (lp : Loop) → 10 * total (allowances t lp) ≡ 10 * t * t * judgedLength lp
 allowable t lp =
-    ap (λ (n : ℕ). 10 * n) (allowances-sum t lp) ∙ sym (mul-assoc 10 (t * t) (wayLength lp))
-    ∙ ap (λ (n : ℕ). n * wayLength lp) (sym (mul-assoc 10 t t))
+    ap (λ (n : ℕ). 10 * n) (allowances-sum t lp) ∙ sym (mul-assoc 10 (t * t) (judgedLength lp))
+    ∙ ap (λ (n : ℕ). n * judgedLength lp) (sym (mul-assoc 10 t t))
+
+-- the verdict's length is the row's or more
+pub judged-at-least : (lp : Loop) → wayLength lp ≤ judgedLength lp
+unfolding wayLength judgedLength total
+judged-at-least [] = omega arith
+judged-at-least (p ∷ ps) = omega (arith, judged-at-least ps)
+
+-- and is the row's where no line is shorter than 250
+pub judged-as-entered : (lp : Loop) → ((p : Pass) → List·Memᴰ p lp → leastJudged ≤ p .line .length) → judgedLength lp ≡ wayLength lp
+unfolding wayLength judgedLength total
+judged-as-entered [] long = refl
+judged-as-entered (p ∷ ps) long =
+    omega (arith, long p (List·Memᴰ·head refl), judged-as-entered ps (λ q i. long q (List·Memᴰ·tail i)))
 
 -- ---- the verdict
 
@@ -36,29 +54,22 @@ verdict-of : (s : Bool) → cond s (pos 0) (pos 1) ≡ pos 0 → s ≡ true
 verdict-of true h = refl
 verdict-of false h = let e : _≡_ {A = ℕ} 0 1 = cc in absurd (omega arith)
 
--- "a loop is within exactly if m*m <= 10*t*t*L; equal is within"
-pub within-exactly-if : (t : ℕ) (lp : Loop)
-    → (verdict t lp ≡ pos 0) ↔ (natAbs (misclosure lp) * natAbs (misclosure lp) ≤ 10 * t * t * wayLength lp)
-unfolding verdict within
-within-exactly-if t lp = (to, back)
-  where
-    m : ℕ
-    m = natAbs (misclosure lp) * natAbs (misclosure lp)
+module _ (t : ℕ) (lp : Loop) where
+  abbrev square : ℕ
+  square = natAbs (misclosure lp) * natAbs (misclosure lp)
 
-    to : cond (leb m (10 * total (allowances t lp))) (pos 0) (pos 1) ≡ pos 0 → m ≤ 10 * t * t * wayLength lp
-    to h =
-        subst (λ (n : ℕ). m ≤ n) (allowable t lp) (leb-true m (10 * total (allowances t lp))
-        (verdict-of (leb m (10 * total (allowances t lp))) h))
+  abbrev allowed : ℕ
+  allowed = 10 * total (allowances t lp)
 
-    back : m ≤ 10 * t * t * wayLength lp → cond (leb m (10 * total (allowances t lp))) (pos 0) (pos 1) ≡ pos 0
-    back h = rw (le-leb m (10 * total (allowances t lp)) (subst (λ (n : ℕ). m ≤ n) (sym (allowable t lp)) h))
+  -- "a loop is within exactly if m*m <= 10*t*t*L; equal is within"
+  pub within-exactly-if : (verdict t lp ≡ pos 0) ↔ (square ≤ allowed)
+  unfolding verdict within
+  within-exactly-if = (λ h. leb-true square allowed (verdict-of (leb square allowed) h), λ h. rw (le-leb square allowed h))
 
--- else it is over
-pub over-else : (t : ℕ) (lp : Loop) → 10 * t * t * wayLength lp < natAbs (misclosure lp) * natAbs (misclosure lp) → verdict t lp ≡ pos 1
-unfolding verdict within
-over-else t lp h =
-    rw (lt-leb (natAbs (misclosure lp) * natAbs (misclosure lp)) (10 * total (allowances t lp))
-    (subst (λ (n : ℕ). n < natAbs (misclosure lp) * natAbs (misclosure lp)) (sym (allowable t lp)) h))
+  -- else it is over
+  pub over-else : allowed < square → verdict t lp ≡ pos 1
+  unfolding verdict within
+  over-else h = rw (lt-leb square allowed h)
 
 -- ---- "A report row is five numbers"
 

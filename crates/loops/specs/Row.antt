@@ -1,11 +1,12 @@
--- Document 01, "Loops": listing, misclosure, verdict and report row of a loop.
+-- Document 01, "Loops": listing, misclosure, verdict and report row of a loop; the verdict as request 03 has it.
 -- Assumes nothing.
-use Prim.Native.Nat.{ℕ, zero, _+_, _*_}
+use Prim.Native.Nat.{ℕ, zero, max, _+_, _*_}
 use mathlib.Core.Bool.{Bool, true, false, cond}
 use mathlib.Core.List.{List, [], _∷_, _++_, map}
 use lib.IntN.{ℤ, pos, negℤ, natAbs, _+ℤ_}
 use lib.Dec.{leb}
 use lib.ListN.{length}
+use Rattle.book.specs.Limits.{leastJudged}
 use Rattle.network.specs.Standing.{Line}
 use Rattle.network.specs.Path.{Pass, wayLength}
 use Rattle.loops.specs.Loops.{Loop}
@@ -29,19 +30,27 @@ unfoldable pub misclosure : Loop → ℤ
 misclosure [] = pos 0
 misclosure (p ∷ ps) = signed (p .forward) (p .line .difference) +ℤ misclosure ps
 
--- what one line of a loop allows, at the tolerance t: a tenth of its part in 10*t*t*L
+unfoldable pub total : List ℕ → ℕ
+total [] = zero
+total (a ∷ rest) = a + total rest
+
+-- "the larger of the length and 250", metres
+abbrev pub judgedAs : ℕ → ℕ
+judgedAs metres = max metres leastJudged
+
+-- "The verdict's length is the sum over the loop's lines of the larger of the length and 250."
+unfoldable pub judgedLength : Loop → ℕ
+unfolding total
+judgedLength lp = total (map (λ p. judgedAs (p .line .length)) lp)
+
+-- what one line of a loop allows, at the tolerance t: a tenth of its part in 10*t*t*L, L being the verdict's length
 unfoldable pub lineAllows : ℕ → Line → ℕ
-lineAllows t l = t * t * l .length
+lineAllows t l = t * t * judgedAs (l .length)
 
 -- the allowances of a loop's lines
 unfoldable pub allowances : ℕ → Loop → List ℕ
 unfolding lineAllows
-allowances t [] = []
-allowances t (p ∷ ps) = lineAllows t (p .line) ∷ allowances t ps
-
-unfoldable pub total : List ℕ → ℕ
-total [] = zero
-total (a ∷ rest) = a + total rest
+allowances t lp = map (λ p. lineAllows t (p .line)) lp
 
 -- "a loop is within exactly if m*m <= 10*t*t*L; equal is within": over the list of its lines' allowances
 unfoldable pub within : List ℕ → ℤ → Bool

@@ -1,12 +1,12 @@
 -- The sums over a loop's run are those of the definition over its passes, and a loop's run is one in its book. Assumes nothing.
 use Prim.Native.Nat.{ℕ, zero, suc, _+_, _*_, _/_, _%_, _<_}
 use native.Mathlib.Omega.{arith}
-use mathlib.Core.Path.{_≡_, refl, sym, ap, ap₂}
+use mathlib.Core.Path.{_≡_, refl, sym, _∙_, ap, ap₂}
 use mathlib.Core.Bool.{Bool, true, false, cond}
-use mathlib.Core.List.{List, [], _∷_, List·Memᴰ, List·Memᴰ·head, List·Memᴰ·tail}
+use mathlib.Core.List.{List, [], _∷_, map, List·Memᴰ, List·Memᴰ·head, List·Memᴰ·tail}
 use lib.IntN.{ℤ, pos, natAbs, negℤ, _+ℤ_}
 use lib.ListN.{length, getD}
-use lib.Dec.{eqb, leb}
+use lib.Dec.{eqb}
 use borrow.Author.Tests.{eq-eqb, ne-eqb}
 use Rattle.book.specs.Good.{GoodLines}
 use Rattle.book.specs.Line.{lineCount, differenceAt, lengthAt}
@@ -16,13 +16,12 @@ use Rattle.network.specs.Codes.{codeOf, codes}
 use Rattle.network.specs.Walk.{Pass, wayLength}
 use Rattle.network.proofs.Standing.{of-standing}
 use Rattle.loops.specs.Loops.{Loop}
-use Rattle.loops.specs.Row.{signed, misclosure, within, verdict, closingNumber, row}
+use Rattle.loops.specs.Row.{signed, misclosure, total, lineAllows, allowances, within, verdict, closingNumber, row}
 use Rattle.loops.specs.Report.{loopsOf}
-use Rattle.loops.proofs.Row.{allowances-sum}
 use Rattle.loops.proofs.EachLoop.{loop-runs-lines, loop-has-a-line, loop-has-few-lines}
 use Rattle.loops.proofs.Sounding.{lines-sound}
 use Rattle.loops.proofs.Table.{codes-length}
-use Rattle.rows.specs.Sums.{lineOf, lengthBy, riseBy, lengthOf, riseOf, verdictOf, rowOf, Measured, Runs, RunIn}
+use Rattle.rows.specs.Sums.{lineOf, lengthBy, allowsBy, riseBy, sumOf, lengthOf, allowsOf, riseOf, verdictOf, rowOf, Measured, Runs, RunIn}
 
 -- ---- where a standing line stands
 
@@ -75,20 +74,41 @@ module _ (ls : List ℤ) where
       go true = rw (eq-eqb (2 * p .line .number % 2) 0 (omega arith)) (at-line true)
       go false = rw (ne-eqb ((2 * p .line .number + 1) % 2) 0 (λ z. omega arith)) (ap negℤ (at-line false))
 
+  -- a sum over the codes of a loop is the sum over its passes
+  sum-is : (by : ℕ → ℕ) (of : Pass → ℕ)
+      → ((p : Pass) → List·Memᴰ (p .line) (standing ls) → by (codeOf (p .forward) (p .line .number)) ≡ of p)
+      → (lp : Loop) → Stand lp → sumOf by (codes lp) ≡ total (map of lp)
+  unfolding sumOf codes total
+  sum-is by of one [] f = refl
+  sum-is by of one (p ∷ ps) f =
+      ap₂ (λ (x y : ℕ). x + y) (one p (f p (List·Memᴰ·head refl))) (sum-is by of one ps (λ q i. f q (List·Memᴰ·tail i)))
+
+  lengths-are : (lp : Loop) → total (map (λ (p : Pass). p .line .length) lp) ≡ wayLength lp
+  unfolding total wayLength
+  lengths-are [] = refl
+  lengths-are (p ∷ ps) = ap (λ (n : ℕ). p .line .length + n) (lengths-are ps)
+
   pub length-is : (lp : Loop) → Stand lp → lengthOf ls (codes lp) ≡ wayLength lp
-  unfolding lengthOf codes wayLength
-  length-is [] f = refl
-  length-is (p ∷ ps) f = ap₂ (λ (x y : ℕ). x + y) (length-one p (f p (List·Memᴰ·head refl))) (length-is ps (λ q i. f q (List·Memᴰ·tail i)))
+  unfolding lengthOf
+  length-is lp f = sum-is (lengthBy ls) (λ (p : Pass). p .line .length) length-one lp f ∙ lengths-are lp
+
+  allows-one : (t : ℕ) (p : Pass) → List·Memᴰ (p .line) (standing ls)
+      → allowsBy t ls (codeOf (p .forward) (p .line .number)) ≡ lineAllows t (p .line)
+  unfolding allowsBy lineAllows
+  allows-one t p m = rw (length-one p m)
+
+  allows-is : (t : ℕ) (lp : Loop) → Stand lp → allowsOf t ls (codes lp) ≡ total (allowances t lp)
+  unfolding allowsOf allowances
+  allows-is t lp f = sum-is (allowsBy t ls) (λ (p : Pass). lineAllows t (p .line)) (allows-one t) lp f
 
   pub rise-is : (lp : Loop) → Stand lp → riseOf ls (codes lp) ≡ misclosure lp
   unfolding riseOf codes misclosure
   rise-is [] f = refl
   rise-is (p ∷ ps) f = ap₂ (λ (x y : ℤ). x +ℤ y) (rise-one p (f p (List·Memᴰ·head refl))) (rise-is ps (λ q i. f q (List·Memᴰ·tail i)))
 
-  verdict-is : (t : ℕ) (lp : Loop) → verdict t lp ≡ verdictOf t (misclosure lp) (wayLength lp)
+  verdict-is : (t : ℕ) (lp : Loop) → verdict t lp ≡ verdictOf (total (allowances t lp)) (misclosure lp)
   unfolding verdict within verdictOf
-  verdict-is t lp =
-      ap (λ (x : ℕ). cond (leb (natAbs (misclosure lp) * natAbs (misclosure lp)) (10 * x)) (pos 0) (pos 1)) (allowances-sum t lp)
+  verdict-is t lp = refl
 
   first-is : (lp : Loop) → getD (codes lp) 0 0 / 2 ≡ closingNumber lp
   unfolding codes
@@ -102,7 +122,7 @@ module _ (ls : List ℤ) where
   -- the row of a loop's run is the row of the definition
   pub row-is : (t : ℕ) (lp : Loop) → Stand lp → rowOf t ls (codes lp) ≡ row t lp
   unfolding rowOf row
-  row-is t lp f = rw (first-is lp, codes-length lp, length-is lp f, rise-is lp f, verdict-is t lp)
+  row-is t lp f = rw (first-is lp, codes-length lp, length-is lp f, allows-is t lp f, rise-is lp f, verdict-is t lp)
 
   code-runs : (l : Line) → List·Memᴰ l (standing ls) → (forward : Bool) → Runs ls (codeOf forward (l .number))
   code-runs l m true = let w = place-of ls l m in record { low = omega (arith, w .number); high = omega (arith, w .number, w .there) }

@@ -6,8 +6,9 @@ use lib.IntN.{ℤ, pos, natAbs, negℤ, _+ℤ_}
 use lib.ListN.{length, getD}
 use lib.Dec.{eqb, leb}
 use Rattle.laws.specs.Range.{Between}
-use Rattle.book.specs.Limits.{mostMarks, mostLines, mostDifference, leastLength, mostLength}
+use Rattle.book.specs.Limits.{mostMarks, mostLines, mostTolerance, mostDifference, leastLength, mostLength}
 use Rattle.book.specs.Line.{lineCount, differenceAt, lengthAt}
+use Rattle.loops.specs.Row.{judgedAs}
 
 -- a size from which a misclosure is over without squaring
 abbrev pub squareLimit : ℕ
@@ -21,15 +22,33 @@ lineOf code = code / 2 - 1
 unfoldable pub lengthBy : List ℤ → ℕ → ℕ
 lengthBy ls code = natAbs (lengthAt ls (lineOf code))
 
+-- what it allows, at the tolerance t
+unfoldable pub allowsBy : ℕ → List ℤ → ℕ → ℕ
+unfolding lengthBy
+allowsBy t ls code = t * t * judgedAs (lengthBy ls code)
+
+-- and what any line allows at most
+abbrev pub mostAllowed : ℕ
+mostAllowed = mostTolerance * mostTolerance * mostLength
+
 -- its difference, in the sense of the code
 unfoldable pub riseBy : List ℤ → ℕ → ℤ
 riseBy ls code = cond (eqb (code % 2) 0) (differenceAt ls (lineOf code)) (negℤ (differenceAt ls (lineOf code)))
 
+-- the sum over a run of what each of its lines has
+unfoldable pub sumOf : (ℕ → ℕ) → List ℕ → ℕ
+sumOf by [] = 0
+sumOf by (code ∷ run) = by code + sumOf by run
+
 -- the length of a run
 unfoldable pub lengthOf : List ℤ → List ℕ → ℕ
-unfolding lengthBy
-lengthOf ls [] = 0
-lengthOf ls (code ∷ run) = lengthBy ls code + lengthOf ls run
+unfolding lengthBy sumOf
+lengthOf ls run = sumOf (lengthBy ls) run
+
+-- what its lines allow
+unfoldable pub allowsOf : ℕ → List ℤ → List ℕ → ℕ
+unfolding allowsBy sumOf
+allowsOf t ls run = sumOf (allowsBy t ls) run
 
 -- its rise, which is the misclosure of a loop
 unfoldable pub riseOf : List ℤ → List ℕ → ℤ
@@ -37,15 +56,15 @@ unfolding riseBy
 riseOf ls [] = pos 0
 riseOf ls (code ∷ run) = riseBy ls code +ℤ riseOf ls run
 
--- "a loop is within exactly if m*m <= 10*t*t*L; equal is within"; 0 within, 1 over
-unfoldable pub verdictOf : ℕ → ℤ → ℕ → ℤ
-verdictOf t m len = cond (leb (natAbs m * natAbs m) (10 * (t * t * len))) (pos 0) (pos 1)
+-- "a loop is within exactly if m*m <= 10*t*t*L; equal is within", over what its lines allow; 0 within, 1 over
+unfoldable pub verdictOf : ℕ → ℤ → ℤ
+verdictOf allowed m = cond (leb (natAbs m * natAbs m) (10 * allowed)) (pos 0) (pos 1)
 
 -- the row of the loop with this run: its closing line comes first
 unfoldable pub rowOf : ℕ → List ℤ → List ℕ → List ℤ
-unfolding lengthOf riseOf verdictOf
+unfolding lengthOf allowsOf riseOf verdictOf
 rowOf t ls run =
-    pos (getD run 0 0 / 2) ∷ pos (length run) ∷ pos (lengthOf ls run) ∷ riseOf ls run ∷ verdictOf t (riseOf ls run) (lengthOf ls run) ∷ []
+    pos (getD run 0 0 / 2) ∷ pos (length run) ∷ pos (lengthOf ls run) ∷ riseOf ls run ∷ verdictOf (allowsOf t ls run) (riseOf ls run) ∷ []
 
 -- the count of lines, and every line's difference and length, are within their limits
 pub record Measured (ls : List ℤ) : Type 0 where

@@ -6,10 +6,11 @@ ghost use lib.IntN.{pos, natAbs};
 ghost use lib.ListN.{length, drop};
 ghost use Rattle.book.specs.Limits.{mostLines, mostDifference, mostLength, mostTolerance};
 ghost use Rattle.book.specs.Good.{GoodLines};
-ghost use Rattle.loops.specs.Row.{rowWords};
+ghost use Rattle.loops.specs.Row.{judgedAs, rowWords};
 ghost use Rattle.loops.specs.Report.{loopsOf, reportOf};
 ghost use Rattle.loops.specs.Table.{Table};
-ghost use Rattle.rows.specs.Sums.{lengthBy, riseBy, lengthOf, riseOf, verdictOf, rowOf, Measured, Runs, LinesIn, RunIn};
+ghost use Rattle.rows.specs.Sums.{lengthBy, allowsBy, riseBy, lengthOf, allowsOf, riseOf, verdictOf, rowOf, mostAllowed};
+ghost use Rattle.rows.specs.Sums.{Measured, Runs, LinesIn, RunIn};
 use book::Book;
 use book::line::Line;
 
@@ -40,6 +41,26 @@ fn length_by(lines: &[i64], code: usize) -> usize
     signed::index(lines[(code / 2 - 1) * Line::WORDS + Line::LENGTH])
 }
 
+// The length that the verdict takes it as.
+fn judged_as(metres: usize) -> usize
+    ensures { λ r. ⌜ r ≡ judgedAs metres ⌝ }
+{
+    if metres < Line::MIN_JUDGED {
+        return Line::MIN_JUDGED;
+    }
+    metres
+}
+
+// What it allows, at the tolerance t.
+fn allows_by(lines: &[i64], code: usize, t: usize) -> usize
+    requires { ⌜ Measured (now lines) ⌝
+        ∗ ⌜ Runs (now lines) code ⌝
+        ∗ ⌜ t ≤ mostTolerance ⌝ }
+    ensures { λ r. ⌜ (r ≡ allowsBy t (now (lines .entry)) code) × (r ≤ mostAllowed) ⌝ }
+{
+    t * t * judged_as(length_by(lines, code))
+}
+
 // Its difference, in the sense of the code.
 fn rise_by(lines: &[i64], code: usize) -> i64
     requires { ⌜ Measured (now lines) ⌝
@@ -68,6 +89,22 @@ pub fn run_length(lines: &[i64], run: &[u16]) -> usize
     sum
 }
 
+// What the lines of a run allow, at the tolerance t.
+fn run_allows(lines: &[i64], run: &[u16], t: usize) -> usize
+    requires { ⌜ Measured (now lines) ⌝
+        ∗ ⌜ LinesIn (now lines) (now run) ⌝
+        ∗ ⌜ t ≤ mostTolerance ⌝ }
+    ensures { λ r. ⌜ (r ≡ allowsOf t (now (lines .entry)) (now (run .entry))) × (r ≤ mostLines * mostAllowed) ⌝ }
+{
+    let mut sum = 0;
+    let mut j = 0;
+    while j < run.len() {
+        sum += allows_by(lines, run[j] as usize, t);
+        j += 1;
+    }
+    sum
+}
+
 // The rise of a run.
 pub fn run_rise(lines: &[i64], run: &[u16]) -> i64
     requires { ⌜ Measured (now lines) ⌝
@@ -83,18 +120,17 @@ pub fn run_rise(lines: &[i64], run: &[u16]) -> i64
     sum
 }
 
-// 0 where the misclosure is within the allowable, 1 where it is over. A size of 2 to the 31st or more is over in any case; below it the
-// square fits.
-fn verdict(misclosure: i64, t: usize, metres: usize) -> i64
-    requires { ⌜ t ≤ mostTolerance ⌝
-        ∗ ⌜ metres ≤ mostLines * mostLength ⌝ }
-    ensures { λ r. ⌜ r ≡ verdictOf t misclosure metres ⌝ }
+// 0 where the misclosure is within what a loop's lines allow, 1 where it is over. A size of 2 to the 31st or more is over in any case;
+// below it the square fits.
+fn verdict(misclosure: i64, allowed: usize) -> i64
+    requires { ⌜ allowed ≤ mostLines * mostAllowed ⌝ }
+    ensures { λ r. ⌜ r ≡ verdictOf allowed misclosure ⌝ }
 {
     let size = signed::magnitude(misclosure);
     if SQUARE_LIMIT <= size {
         return 1;
     }
-    if size * size <= 10 * (t * t * metres) {
+    if size * size <= 10 * allowed {
         return 0;
     }
     1
@@ -130,7 +166,7 @@ pub fn row_of(lines: &[i64], run: &[u16], out: &mut [i64], t: usize)
 {
     let metres = run_length(lines, run);
     let misclosure = run_rise(lines, run);
-    let over = verdict(misclosure, t, metres);
+    let over = verdict(misclosure, run_allows(lines, run, t));
     write_row(
         out,
         (run[0] / 2) as usize,

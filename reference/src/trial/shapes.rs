@@ -319,18 +319,30 @@ fn finished(random: &mut Random, shape: Shape) -> Book {
     Book { b: shape.marks, t, held, lines }
 }
 
+/// Lengths of a ring whose verdict's length is 10 times a square, and the square's root: a square number of short
+/// lines, or a few of them and a line that completes the square.
+fn square_lengths(random: &mut Random) -> (Vec<i64>, i64) {
+    const JUDGED: i64 = MIN_JUDGED as i64;
+    let short = |random: &mut Random| random.pick(&[MIN_LENGTH, 40, JUDGED - 1, JUDGED]);
+    if random.below(2) == 0 {
+        let side = random.pick(&[2, 2, 3, 4, 5, 15]);
+        return ((0..side * side).map(|_| short(random)).collect(), 5 * side);
+    }
+    let (others, root) = (random.within(1, 5), random.within(13, 100));
+    let mut lengths = vec![10 * root * root - others * JUDGED];
+    lengths.extend((0..others).map(|_| short(random)));
+    (lengths, root)
+}
+
 /// One ring whose misclosure is at the edge of the allowable, or one micrometre off it.
 pub fn edge_book(random: &mut Random) -> Book {
-    let marks = random.within(2, 6);
+    let (lengths, root) = square_lengths(random);
+    let marks = lengths.len() as i64;
     let t = random.pick(&[1, 40, 120, 999, MAX_TOLERANCE]);
-    let root = random.within(8, 60);
-    let others = 10 * (marks - 1);
     let misclosure = 10 * t * root * random.pick(&[-1, 1]) + random.within(-1, 1);
     let mut lines = vec![];
-    for (i, &(from, to)) in Shape::ring(marks).pairs.iter().enumerate() {
-        let first = i == 0;
-        let length = if first { 10 * root * root - others } else { 10 };
-        lines.extend([from, to, if first { misclosure } else { 0 }, length, 1]);
+    for (i, (&(from, to), &length)) in Shape::ring(marks).pairs.iter().zip(&lengths).enumerate() {
+        lines.extend([from, to, if i == 0 { misclosure } else { 0 }, length, 1]);
     }
     Book { b: marks, t, held: vec![1, 0], lines }
 }

@@ -29,12 +29,14 @@ write-row-requires c κs =
 returns : tie.Need-returns
 returns c =
     let after-verdict : tie.After-verdict = search in
+    let after-run-allows : tie.After-run-allows = search in
     let after-run-rise : tie.After-run-rise = search in
     let after-run-length : tie.After-run-length = search in
     let m = after-run-rise .run-rise in
     let v = after-verdict .verdict in
     c .before .write-row .ensures
-    ∙ row-made _ _ _ _ _ _ (after-run-length .run-length .ensures .0) (stored _ (m .ok) (m .ensures .0)) (stored _ (v .ok) (v .ensures))
+    ∙ row-made _ _ _ _ _ _ _ (after-run-length .run-length .ensures .0) (after-run-allows .run-allows .ensures .0)
+    (stored _ (m .ok) (m .ensures .0)) (stored _ (v .ok) (v .ensures))
 
 pub row-of-spec : {M : Type 1} → statement M
 row-of-spec =
@@ -42,7 +44,8 @@ row-of-spec =
     (tie.spec
     (λ c κs. let entry : tie.Start = search in (entry .pre .0, loop-lines (entry .pre .1 .0)))  -- run-length-requires
     (λ c κs. let entry : tie.Start = search in (entry .pre .0, loop-lines (entry .pre .1 .0)))  -- run-rise-requires
-    (λ c κs. search needs)  -- verdict-requires
+    (λ c κs. let entry : tie.Start = search in (entry .pre .0, (loop-lines (entry .pre .1 .0), entry .pre .1 .1 .0)))  -- run-allows-requires
+    (λ c κs. c .run-allows .ensures .1)  -- verdict-requires
     (λ c. search needs)  -- shared-slice-read-write-row
     cast-write-row
     write-row-requires

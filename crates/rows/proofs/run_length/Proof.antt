@@ -1,15 +1,14 @@
-use Prim.Native.Nat.{_+_, _*_, _≤_, _-_}
+use Prim.Native.Nat.{_-_}
 use native.Mathlib.Omega.{arith}
-use mathlib.Core.Path.{_≡_}
-use lib.ListN.{length, drop}
+use lib.ListN.{length}
 use Rattle.book.specs.Limits.{mostLength}
-use Rattle.rows.specs.Sums.{lengthOf}
-use Rattle.rows.proofs.Totals.{length-next, length-end, length-size}
+use Rattle.rows.specs.Sums.{lengthBy, lengthOf}
+use Rattle.rows.proofs.Totals.{Summed, none-summed, one-summed, all-summed, length-size}
 use Rattle.rows.proofs.run_length.Statement.{statement}
 use Rattle.rows.proofs.run_length.Tie as tie
 
 abbrev Inv-loop : tie.InvT-loop
-Inv-loop lines run sum₀ j₀ sum j = (j ≤ length run) × (sum + lengthOf lines (drop j run) ≡ lengthOf lines run) × (sum ≤ j * mostLength)
+Inv-loop lines run sum₀ j₀ sum j = Summed (lengthBy lines) mostLength run j sum
 
 abbrev μ-loop : tie.MeasureT-loop
 μ-loop lines run sum₀ j₀ sum j = length run - j
@@ -36,7 +35,7 @@ add-sum c =
       c .length-by .ensures,
       length-size _ _ (p .0) (p .1 .each (at-loop .loop .j) (omega arith)),
       p .1 .few,
-      at-loop .loop .inv,
+      at-loop .loop .inv .small,
     )
 
 loop-again : tie.Need-loop-again Inv-loop μ-loop
@@ -44,17 +43,15 @@ loop-again c =
     let at-loop : tie.At-loop Inv-loop μ-loop = search in
     let entry : tie.Start Inv-loop μ-loop = search in
     let p = entry .pre in
-    let v = at-loop .loop .inv in
-    let r = c .length-by .ensures in (
-      omega arith,
-      rw r (length-next _ _ _ _ (omega arith) (v .1)),
-      omega (arith, r, length-size _ _ (p .0) (p .1 .each (at-loop .loop .j) (omega arith)), v),
-    )
+    rw (c .length-by .ensures) (one-summed (omega arith) (length-size _ _ (p .0) (p .1 .each (at-loop .loop .j) (omega arith)))
+    (at-loop .loop .inv))
 
 returns : tie.Need-returns Inv-loop μ-loop
+unfolding lengthOf
 returns c =
     let entry : tie.Start Inv-loop μ-loop = search in
-    (length-end _ _ (c .before .loop .j) _ (omega arith) (c .before .loop .inv .1), omega (arith, entry .pre .1 .few, c .before .loop .inv))
+    let s = all-summed (omega arith) (c .before .loop .inv) in
+    (s .0, omega (arith, entry .pre .1 .few, s .1))
 
 pub run-length-spec : {M : Type 1} → statement M
 run-length-spec =
@@ -62,7 +59,7 @@ run-length-spec =
     (tie.spec
     Inv-loop
     μ-loop
-    (λ c. (omega arith, omega arith, omega arith))  -- loop-holds
+    (λ c. none-summed)  -- loop-holds
     (λ c. let entry : tie.Start Inv-loop μ-loop = search in omega (arith, entry .pre .1 .few))  -- mul-length-by
     (λ c. omega arith)  -- shared-slice-read-length-by
     cast-length-by

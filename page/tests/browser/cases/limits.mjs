@@ -6,6 +6,7 @@ import { heldCell, lineCell } from '../desk.mjs';
 
 export const cases = [
   { name: 'case-f-edge-of-the-allowable', run: edgeOfTheAllowable },
+  { name: 'short-lines-at-their-edge', run: shortLinesAtTheirEdge },
   { name: "limits-in-messages-are-the-core's", run: limitsInMessages },
   { name: "limits-in-the-help-are-the-core's", run: limitsInTheHelp },
   { name: "allowed-is-the-core's", run: allowedIsTheCores },
@@ -21,6 +22,24 @@ async function edgeOfTheAllowable(desk) {
     await desk.writeLine(2, [2, 1, difference, 500]);
     const [loop] = await desk.loops();
     same([loop.verdict, loop.allowed], [verdict, '4.000'], difference);
+  }
+}
+
+/** Request 03: four lines of 40 m count as 1000 m and are shown as 160 m; 249, 250 and 251 m count as 751 m. */
+async function shortLinesAtTheirEdge(desk) {
+  const rings = [
+    { lengths: [40, 40, 40, 40], length: '160', allowed: '4.000', edges: { '0.004': '✓ within', '-0.004': '✓ within', '0.004001': '✗ OVER' } },
+    { lengths: [249, 250, 251], length: '750', allowed: '3.466', edges: { '0.003466': '✓ within', '-0.003467': '✗ OVER' } },
+  ];
+  for (const { lengths, length, allowed, edges } of rings) {
+    await desk.newBook();
+    await desk.write('#tolerance', '4.0');
+    for (const [i, metres] of lengths.entries()) await desk.writeLine(i + 1, [i + 1, (i + 1) % lengths.length + 1, '0', metres]);
+    for (const [difference, verdict] of Object.entries(edges)) {
+      await desk.write(lineCell(1, 'difference'), difference);
+      const [loop] = await desk.loops();
+      same([loop.verdict, loop.allowed, loop.length], [verdict, allowed, length], difference);
+    }
   }
 }
 
