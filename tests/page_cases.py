@@ -1,5 +1,5 @@
 #!/usr/bin/env python3
-"""Writes crates/page_cases/stdin (book files, one case after the other) and, from a slow reading of document 01 of its own,
+"""Writes crates/page_cases/stdin (book files, one case after the other) and, from a slow reading of document 01 and request 03 of its own,
 crates/page_cases/stdout (their reports). Run it after a change of the cases; --check only compares."""
 import struct
 
@@ -50,6 +50,12 @@ def ring(difference):
     return book(256, 1000, lines=[line(i, i % 256 + 1, difference, 100000) for i in range(1, 257)])
 
 
+def doubled_ring(misclosure):
+    """512 lines of 10 m: a ring of 256 and every line of it once more. At t = 40 the ring, which counts 64,000 m, is within up to 32,000."""
+    once = [line(i, i % 256 + 1, 0 if i > 1 else misclosure, 10) for i in range(1, 257)]
+    return book(256, 40, lines=once + once)
+
+
 def cases():
     for name, file in BOOKS.items():
         yield name, file
@@ -63,6 +69,8 @@ def cases():
     yield "511 loops", book(2, 40, lines=[line(1 + i % 2, 2 - i % 2, i % 3 - 1, 100 + i) for i in range(512)])
     yield "256 lines in one loop, up", ring(10**8)
     yield "256 lines in one loop, down", ring(-(10**8))
+    yield "512 lines of 10 m, at the edge", doubled_ring(32_000)
+    yield "512 lines of 10 m, one micrometre over it", doubled_ring(-32_001)
     yield "255 lines not checked", book(256, 40, lines=[line(i // 2, i, i, 10 * i) for i in range(2, 257)])
     yield "a checked pair on a chain", book(4, 40, lines=[line(1, 2, 7, 10), line(2, 3, 7, 10), line(3, 2, -9, 10), line(3, 4, 7, 10)])
 

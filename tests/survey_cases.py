@@ -38,13 +38,14 @@ def tree_and_closing(b, lines):
 
 def path(lines, usable, start, goal):
     """The shortest path over the usable lines, of equally short ones the first by line numbers read from the start."""
-    near = {goal: 0}
-    for _ in range(len(usable) + 1):
+    near, nearer = {goal: 0}, True
+    while nearer:
+        nearer = False
         for i in usable:
             a, z, _, length, _ = lines[i]
             for x, y in ((a, z), (z, a)):
                 if x in near and near[x] + length < near.get(y, 10**12):
-                    near[y] = near[x] + length
+                    near[y], nearer = near[x] + length, True
     way, at = [], start
     while at != goal:
         steps = []
