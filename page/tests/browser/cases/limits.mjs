@@ -31,6 +31,7 @@ async function shortLinesAtTheirEdge(desk) {
     { lengths: [40, 40, 40, 40], length: '160', allowed: '4.000', edges: { '0.004': '✓ within', '-0.004': '✓ within', '0.004001': '✗ OVER' } },
     { lengths: [249, 250, 251], length: '750', allowed: '3.466', edges: { '0.003466': '✓ within', '-0.003467': '✗ OVER' } },
   ];
+  includes(await helpText(desk), 'a line shorter than 250 m counts 250 m', 'the help');
   for (const { lengths, length, allowed, edges } of rings) {
     await desk.newBook();
     await desk.write('#tolerance', '4.0');
@@ -133,10 +134,15 @@ function helpLimits(help, word, decimals) {
   return limitsIn(help.slice(at), decimals);
 }
 
-async function limitsInTheHelp(desk) {
+async function helpText(desk) {
   await desk.press('#help');
   const help = (await desk.text('#help-box')).replace(/\s+/g, ' ');
   await desk.page.press('Escape');
+  return help;
+}
+
+async function limitsInTheHelp(desk) {
+  const help = await helpText(desk);
   for (const [word, place] of Object.entries(PLACES)) {
     same(helpLimits(help, word, place.decimals), await holdLimits(desk, place), `${word} in the help`);
   }
