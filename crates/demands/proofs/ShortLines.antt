@@ -1,20 +1,24 @@
 -- Request 03: "The Memorandum takes a section shorter than 0.25 km as 0.25 km in the allowable misclosure." Assumes nothing.
-use Prim.Native.Nat.{ℕ, _+_, _*_, _≤_, _<_}
+use Prim.Native.Nat.{ℕ, _+_, _*_, _/_, _≤_, _<_}
 use native.Mathlib.Omega.{arith}
 use native.Mathlib.Nat.{mul-le-mul-left}
-use mathlib.Core.Path.{_≡_, refl}
+use mathlib.Core.Path.{_≡_, refl, _∙_, ap}
 use mathlib.Core.Logic.{_↔_}
-use mathlib.Core.List.{List, [], _∷_, List·Memᴰ}
+use mathlib.Core.Bool.{Bool, true, false}
+use mathlib.Core.List.{List, [], _∷_, List·Memᴰ, List·Memᴰ·head, List·Memᴰ·tail, List·Memᴰ·not-nil}
+use lib.Dec.{eqb}
 use lib.IntN.{ℤ, pos, natAbs}
 use Rattle.book.specs.Lent.{Lent}
 use Rattle.book.specs.Test.{testOf}
 use Rattle.book.specs.declared.Book.{Book}
 use Rattle.book.specs.declared.Tested.the-variants.{Good}
+use Rattle.network.specs.Standing.{Line}
 use Rattle.network.specs.Walk.{Pass, wayLength}
 use Rattle.loops.specs.Loops.{Loop, loopAt}
 use Rattle.loops.specs.Row.{misclosure, total, judgedAs, judgedLength, rowLength, rowVerdict}
 use Rattle.loops.specs.Report.{loopsOf}
 use Rattle.loops.proofs.Row.{allowable, judged-at-least, judged-as-entered}
+use Rattle.sights.specs.Sights.{Sight, sightIf, sightsOf}
 use Rattle.survey.specs.Survey.{surveyOf}
 use Rattle.demands.specs.TheLoops.{inRow, Within}
 use Rattle.demands.proofs.Reported.{each-row-is-of-its-loop}
@@ -73,3 +77,28 @@ module _ (book : Lent) (k : Book) (passes : testOf book ≡ Good k) (out : List 
   -- "The row's length .. keep the length as entered."
   pub row-length-as-entered : inRow rowLength (surveyOf book out .rows) i ≡ pos (wayLength loop)
   row-length-as-entered = each-row-is-of-its-loop book k passes out done i there .0 .its-length
+
+-- ---- "the weights keep the length as entered"
+
+-- what is seen at a mark is a line, with 1,000,000 divided by its length
+pub record Weighed (lines : List Line) (s : Sight) : Type 0 where
+  pub line : Line
+  pub there : List·Memᴰ line lines
+  pub its-weight : s .weight ≡ 1000000 / line .length
+
+weigh-first : (seen : Bool) (x s : Sight) (l : Line) (ls : List Line) (rest : List Sight) → x .weight ≡ 1000000 / l .length
+    → (List·Memᴰ s rest → Weighed (l ∷ ls) s) → List·Memᴰ s (sightIf seen x rest) → Weighed (l ∷ ls) s
+weigh-first true x s l ls rest w later (List·Memᴰ·head e) =
+    record { line = l; there = List·Memᴰ·head refl; its-weight = ap (λ (y : Sight). y .weight) e ∙ w }
+weigh-first true x s l ls rest w later (List·Memᴰ·tail m) = later m
+weigh-first false x s l ls rest w later m = later m
+
+weigh-later : (s : Sight) (l : Line) (ls : List Line) → Weighed ls s → Weighed (l ∷ ls) s
+weigh-later s l ls w = record { line = w .line; there = List·Memᴰ·tail (w .there); its-weight = w .its-weight }
+
+pub weight-as-entered : (lines : List Line) (m : ℕ) (s : Sight) → List·Memᴰ s (sightsOf lines m) → Weighed lines s
+unfolding sightsOf
+weight-as-entered [] m s i = absurd (List·Memᴰ·not-nil i)
+weight-as-entered (l ∷ ls) m s i =
+    weigh-first (eqb (l .to) m) _ s l ls _ refl (weigh-first (eqb (l .from) m) _ s l ls _ refl
+    (λ j. weigh-later s l ls (weight-as-entered ls m s j))) i
