@@ -51,7 +51,7 @@ def ring(difference):
 
 
 def doubled_ring(misclosure):
-    """512 lines of 10 m: a ring of 256 and every line of it once more. At t = 40 the ring, which counts 64,000 m, is within up to 32,000."""
+    """512 lines of 10 m: a ring of 256, each line twice. At t = 40 the ring, which counts 64,000 m, is within up to 32,000."""
     once = [line(i, i % 256 + 1, 0 if i > 1 else misclosure, 10) for i in range(1, 257)]
     return book(256, 40, lines=once + once)
 

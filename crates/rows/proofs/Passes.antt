@@ -21,7 +21,8 @@ use Rattle.loops.specs.Report.{loopsOf}
 use Rattle.loops.proofs.EachLoop.{loop-runs-lines, loop-has-a-line, loop-has-few-lines}
 use Rattle.loops.proofs.Sounding.{lines-sound}
 use Rattle.loops.proofs.Table.{codes-length}
-use Rattle.rows.specs.Sums.{lineOf, lengthBy, allowsBy, riseBy, sumOf, lengthOf, allowsOf, riseOf, verdictOf, rowOf, Measured, Runs, RunIn}
+use Rattle.rows.specs.Sums.{lineOf, lengthBy, allowsBy, riseBy, sumOf, lengthOf, allowsOf, riseOf, verdictOf, rowOf}
+use Rattle.rows.specs.Sums.{Measured, Runs, RunIn}
 
 -- ---- where a standing line stands
 

@@ -26,6 +26,11 @@ write-row-requires c κs =
       ),
     )
 
+run-allows-requires : tie.Need-run-allows-requires
+run-allows-requires c κs =
+    let entry : tie.Start = search in
+    (entry .pre .0, (loop-lines (entry .pre .1 .0), entry .pre .1 .1 .0))
+
 returns : tie.Need-returns
 returns c =
     let after-verdict : tie.After-verdict = search in
@@ -44,7 +49,7 @@ row-of-spec =
     (tie.spec
     (λ c κs. let entry : tie.Start = search in (entry .pre .0, loop-lines (entry .pre .1 .0)))  -- run-length-requires
     (λ c κs. let entry : tie.Start = search in (entry .pre .0, loop-lines (entry .pre .1 .0)))  -- run-rise-requires
-    (λ c κs. let entry : tie.Start = search in (entry .pre .0, (loop-lines (entry .pre .1 .0), entry .pre .1 .1 .0)))  -- run-allows-requires
+    run-allows-requires
     (λ c κs. c .run-allows .ensures .1)  -- verdict-requires
     (λ c. search needs)  -- shared-slice-read-write-row
     cast-write-row

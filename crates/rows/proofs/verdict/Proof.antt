@@ -10,7 +10,8 @@ use Rattle.rows.proofs.verdict.Tie as tie
 
 returns : tie.Need-returns
 returns c =
-    sym (verdict-big _ _ (c .before .magnitude .result) (c .before .magnitude .ensures ∙ search needs) (c .before .before .pre) (omega arith))
+    let m = c .before .magnitude in
+    sym (verdict-big _ _ (m .result) (m .ensures ∙ search needs) (c .before .before .pre) (omega arith))
 
 mul-if2 : tie.Need-mul-if2
 mul-if2 c =
