@@ -9,6 +9,7 @@ use lib.IntN.{ℤ}
 use Rattle.book.specs.Height.{heldHeightOut, workHeightOut, heldHeightOf, workHeightOf}
 use Rattle.book.specs.Held.{heldOut, heldEntryOf}
 use Rattle.book.specs.Line.{lineFault, lineOf}
+use Rattle.book.specs.Version.{versionOut}
 use Rattle.book.specs.Test.{bookOut, counts, refused, bookOf}
 use Rattle.book.specs.declared.Book.{Book}
 use Rattle.book.specs.declared.Refusal.{Refusal}
@@ -35,20 +36,31 @@ is-left false x y z n e = absurd (n e)
 
 -- ---- a book
 
-module _ (b t : ℤ) (h n : ℕ) (m : Tested) (e : m ≡ bookOf b t h n) where
-  pub no-book : (r : Refusal) → m ≡ tested.Refused r → (bookOut b t h n ≡ true) × (m ≡ refused 4 0)
+module _ (version b t : ℤ) (h n : ℕ) (m : Tested) (e : m ≡ bookOf version b t h n) where
+  -- where version and counts are refused, what would come after them is not asked
+  pub no-book : (r : Refusal) → m ≡ tested.Refused r → (rest : Tested)
+      → m ≡ cond (versionOut version) (refused 3 0) (cond (bookOut version b t h n) (refused 4 0) rest)
   unfolding bookOf
-  no-book r g =
-      is-left (bookOut b t h n) (refused 4 0) (tested.Good (counts b t h n)) m (λ f. let z : _≡_ {A = ℕ} 0 1 = cc in omega arith) e
+  no-book r g rest = go (versionOut version) (bookOut version b t h n) e
+    where
+      go : (v o : Bool) → m ≡ cond v (refused 3 0) (cond o (refused 4 0) (tested.Good (counts version b t h n)))
+          → m ≡ cond v (refused 3 0) (cond o (refused 4 0) rest)
+      go true o f = f
+      go false true f = f
+      go false false f = let z : _≡_ {A = ℕ} 0 1 = cc in absurd (omega arith)
 
-  pub book-made : (k : Book) → m ≡ tested.Good k → (bookOut b t h n ≡ false) × (k ≡ counts b t h n)
+  pub book-made : (k : Book) → m ≡ tested.Good k
+      → (versionOut version ≡ false) × (bookOut version b t h n ≡ false) × (k ≡ counts version b t h n)
   unfolding bookOf
   book-made k g =
+      let v =
+      is-right (versionOut version) (refused 3 0) _ m (λ f. let z : _≡_ {A = ℕ} 0 1 = cc in omega arith) e in
       let w =
-      is-right (bookOut b t h n) (refused 4 0) (tested.Good (counts b t h n)) m (λ f. let z : _≡_ {A = ℕ} 0 1 = cc in omega arith) e
+      is-right (bookOut version b t h n) (refused 4 0) (tested.Good (counts version b t h n)) m
+      (λ f. let z : _≡_ {A = ℕ} 0 1 = cc in omega arith) (v .1)
       in
-      let made : m ≡ tested.Good (counts b t h n) = w .1 in
-      (w .0, cc)
+      let made : m ≡ tested.Good (counts version b t h n) = w .1 in
+      (v .0, w .0, cc)
 
 -- ---- a height
 
@@ -126,8 +138,12 @@ module _ (b from to difference length standing : ℤ) (m : MadeLine) (e : m ≡ 
       let made : m ≡ line.Good its = w .1 in
       (w .0, cc)
 
-  pub no-line : (number fault : ℕ) → m ≡ line.Refused number fault → faulty ≡ true
+  pub no-line : (number fault : ℕ) → m ≡ line.Refused number fault
+      → (faulty ≡ true) × (fault ≡ lineFault b from to difference length standing)
   unfolding lineOf
   no-line number fault g =
+      let w =
       is-left faulty (line.Refused 7 (lineFault b from to difference length standing)) (line.Good its) m
-      (λ f. let q : _≡_ {A = ℕ} 0 1 = cc in omega arith) e .0
+      (λ f. let q : _≡_ {A = ℕ} 0 1 = cc in omega arith) e in
+      let refusal : m ≡ line.Refused 7 (lineFault b from to difference length standing) = w .1 in
+      (w .0, cc)

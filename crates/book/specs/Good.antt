@@ -8,9 +8,10 @@ use lib.ListN.{length}
 use lib.IntN.{ℤ, pos, natAbs}
 use Rattle.laws.specs.Range.{Between}
 use Rattle.book.specs.Limits.{leastMarks, mostMarks, mostLines, mostHeld, leastTolerance, mostTolerance}
-use Rattle.book.specs.Limits.{mostDifference, leastLength, mostLength, mostHeldHeight}
+use Rattle.book.specs.Limits.{mostDifference, leastLength, mostLength, mostHeldHeight, leastClass, mostClass}
+use Rattle.book.specs.Version.{noClass, Classed}
 use Rattle.book.specs.Held.{heldWords, markAt, heightAt}
-use Rattle.book.specs.Line.{lineWords, fromAt, toAt, differenceAt, lengthAt, standingAt}
+use Rattle.book.specs.Line.{lineWords, fromAt, toAt, differenceAt, lengthAt, standingAt, classAt}
 use Rattle.book.specs.Lent.{Lent}
 use Rattle.book.specs.declared.Book.{Book}
 
@@ -41,20 +42,28 @@ pub record HeldEntries (held : List ℤ) (b h : ℕ) : Type 0 where
   pub whole : length held ≡ h * heldWords
   pub each : (i : ℕ) → i < h → GoodHeld b held i
 
+-- what a version asks of t and of the classes of n lines: "Version 1 keeps its single t" and its lines have none; in version 2 "the
+-- header's t is 0" and each line has one
+pub data Versioned (lines : List ℤ) (n : ℕ) : (version t : ℕ) → Type 0 where
+  single : {t : ℕ} → leastTolerance ≤ t → t ≤ mostTolerance → ((i : ℕ) → i < n → classAt lines i ≡ noClass) → Versioned lines n 1 t
+  classed : ((i : ℕ) → i < n → Between leastClass mostClass (classAt lines i)) → Versioned lines n 2 0
+
 -- the lent book, with the counts k
 pub record GoodBook (k : Book) (book : Lent) : Type 0 where
+  pub version : book .version ≡ pos (k .version)
   pub marks : book .b ≡ pos (k .marks)
   pub a-mark : leastMarks ≤ k .marks
   pub few-marks : k .marks ≤ mostMarks
   pub tolerance : book .t ≡ pos (k .tolerance)
-  pub a-tolerance : leastTolerance ≤ k .tolerance
-  pub small-tolerance : k .tolerance ≤ mostTolerance
+  pub by-version : Versioned (book .lines) (k .lines) (k .version) (k .tolerance)
   pub held-good : HeldEntries (book .held) (k .marks) (k .held)
   pub lines-good : Lines (book .lines) (k .marks) (k .lines)
 
--- what the work on the lines uses of it: its counts, its tolerance, and that every line is good
+-- what the work on the lines uses of it: its counts, its tolerance, that every line is good, and that its class, if it has one, is one of
+-- the table's
 pub record GoodLines (k : Book) (lines : List ℤ) : Type 0 where
   pub a-mark : leastMarks ≤ k .marks
   pub few-marks : k .marks ≤ mostMarks
   pub small-tolerance : k .tolerance ≤ mostTolerance
+  pub classes : (i : ℕ) → i < k .lines → Classed (classAt lines i)
   pub good : Lines lines (k .marks) (k .lines)

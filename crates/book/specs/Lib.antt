@@ -1,4 +1,5 @@
 pub mod Limits
+pub mod Version
 pub mod Height
 pub mod Held
 pub mod Line

@@ -1,7 +1,13 @@
 -- Document 01, the table of limits: each "from" and each "to" by its own name; of a number that may lie either way, its size. And request
--- 03's limit of the verdict.
+-- 03's limit of the verdict, and request 04's of versions and classes.
 -- Assumes nothing.
 use Prim.Native.Nat.{ℕ}
+
+abbrev pub leastVersion : ℕ
+leastVersion = 1
+
+abbrev pub mostVersion : ℕ
+mostVersion = 2
 
 abbrev pub leastMarks : ℕ
 leastMarks = 1
@@ -38,6 +44,13 @@ leastLength = 10
 
 abbrev pub mostLength : ℕ
 mostLength = 100000
+
+-- "The classes are 0 to 4"
+abbrev pub leastClass : ℕ
+leastClass = 0
+
+abbrev pub mostClass : ℕ
+mostClass = 4
 
 -- metres: the allowable misclosure "takes a section shorter than 0.25 km as 0.25 km"
 abbrev pub leastJudged : ℕ

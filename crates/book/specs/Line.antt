@@ -1,5 +1,5 @@
 -- Document 01, refusal 7: which lines are faulty. "In memory a line is five signed 64-bit numbers in a lent slice: from, to, difference,
--- length, standing (1, or 0 once withdrawn)."
+-- length, standing (1, or 0 once withdrawn)." Request 04: "In memory a line gets a sixth number", its class.
 -- Assumes nothing.
 use mathlib.Core.Bool.{Bool, _||_, cond}
 use mathlib.Core.List.{List}
@@ -10,13 +10,14 @@ use lib.IntN.{ℤ, pos, negℤ}
 use Rattle.laws.specs.Tests.{outZ, eqZ}
 use Rattle.laws.specs.Scan.{firstBad}
 use Rattle.book.specs.Limits.{mostDifference, leastLength, mostLength}
+use Rattle.book.specs.Version.{classOut}
 use Rattle.book.specs.declared.line.Line.{Line}
 use Rattle.book.specs.declared.line.MadeLine.{MadeLine}
 use Rattle.book.specs.declared.line.MadeLine.the-variants.{Good, Refused}
 
 -- numbers per line
 abbrev pub lineWords : ℕ
-lineWords = 5
+lineWords = 6
 
 -- which of them is which
 abbrev pub fromField : ℕ
@@ -33,6 +34,9 @@ lengthField = 3
 
 abbrev pub standingField : ℕ
 standingField = 4
+
+abbrev pub classField : ℕ
+classField = 5
 
 -- where number k of the line at place i stands; both are counted from 0
 abbrev pub place : ℕ → ℕ → ℕ
@@ -57,7 +61,10 @@ lengthAt = field lengthField
 abbrev pub standingAt : List ℤ → ℕ → ℤ
 standingAt = field standingField
 
--- the line at place i, its numbers by their names
+abbrev pub classAt : List ℤ → ℕ → ℤ
+classAt = field classField
+
+-- the line at place i, its numbers by their names; what its class is used for needs that alone
 abbrev pub lineAt : List ℤ → ℕ → Line
 lineAt lines i =
     record {
@@ -104,13 +111,28 @@ unfoldable pub entryOf : ℤ → List ℤ → MadeLine
 unfolding lineOf
 entryOf b e = lineOf b (fromAt e 0) (toAt e 0) (differenceAt e 0) (lengthAt e 0) (standingAt e 0)
 
+-- the class's fault, in a book of this version: 6, or 0
+unfoldable pub classFault : ℤ → ℤ → ℕ
+unfolding classOut
+classFault version class = cond (classOut version class) 6 0
+
+-- the fault of five numbers, if there is one, else the class's
+abbrev pub firstFault : ℕ → ℕ → ℕ
+firstFault fault class = cond (ltb 0 fault) fault class
+
+-- the first thing wrong with the line at place i, or 0; "the order: end out of range, ends equal, difference, length, standing, class"
+unfoldable pub faultAt : ℤ → ℤ → List ℤ → ℕ → ℕ
+unfolding lineFault classFault
+faultAt version b lines i =
+    firstFault (lineFault b (fromAt lines i) (toAt lines i) (differenceAt lines i) (lengthAt lines i) (standingAt lines i))
+    (classFault version (classAt lines i))
+
 -- the line at place i has a fault
-unfoldable pub lineBad : ℤ → List ℤ → ℕ → Bool
-unfolding lineFault
-lineBad b lines i =
-    ltb 0 (lineFault b (fromAt lines i) (toAt lines i) (differenceAt lines i) (lengthAt lines i) (standingAt lines i))
+unfoldable pub lineBad : ℤ → ℤ → List ℤ → ℕ → Bool
+unfolding faultAt
+lineBad version b lines i = ltb 0 (faultAt version b lines i)
 
 -- "first such line": its number, or 0
-unfoldable pub firstBadLine : ℤ → List ℤ → ℕ
+unfoldable pub firstBadLine : ℤ → ℤ → List ℤ → ℕ
 unfolding lineBad firstBad
-firstBadLine b lines = firstBad (lineBad b lines) (lineCount lines)
+firstBadLine version b lines = firstBad (lineBad version b lines) (lineCount lines)

@@ -1,10 +1,11 @@
-// Lines: five numbers each in a lent slice, their limits, and the first that is none.
+// Lines: six numbers each in a lent slice, their limits, and the first that is none.
 ghost use mathlib.Core.Path.{_≡_};
 ghost use mathlib.Core.Bool.{cond};
 ghost use lib.ListN.{length};
-ghost use Rattle.book.specs.Line.{lineWords, differenceOut, lineFault, lineOf, entryOf, firstBadLine};
+ghost use Rattle.book.specs.Line.{lineWords, differenceOut, lineFault, lineOf, entryOf, faultAt, firstBadLine};
+use crate::class;
 
-// A line, withdrawn (standing 0) or not (1).
+// A line, withdrawn (standing 0) or not (1). Its class stands beside it in the slice: what uses it needs that alone.
 pub struct Line {
     pub from: i64,
     pub to: i64,
@@ -27,7 +28,7 @@ fn first(found: bool, fault: usize, rest: usize) -> usize
 }
 
 impl Line {
-    pub const WORDS: usize = 5;
+    pub const WORDS: usize = 6;
 
     pub const FROM: usize = 0;
 
@@ -39,6 +40,8 @@ impl Line {
 
     pub const STANDING: usize = 4;
 
+    pub const CLASS: usize = 5;
+
     pub const MIN_DIFFERENCE: i64 = -100_000_000;
 
     pub const MAX_DIFFERENCE: i64 = 100_000_000;
@@ -46,6 +49,13 @@ impl Line {
     pub const MIN_LENGTH: i64 = 10;
 
     pub const MAX_LENGTH: i64 = 100_000;
+
+    pub const MIN_CLASS: i64 = 0;
+
+    pub const MAX_CLASS: i64 = 4;
+
+    // What stands for a class where the book has a single tolerance.
+    pub const NO_CLASS: i64 = -1;
 
     // The verdict takes a shorter line as one of this length.
     pub const MIN_JUDGED: usize = 250;
@@ -59,6 +69,8 @@ impl Line {
     pub const LENGTH_FAULT: usize = 4;
 
     pub const STANDING_FAULT: usize = 5;
+
+    pub const CLASS_FAULT: usize = 6;
 
     // Whether d is no difference: of a line, or of a re-run.
     pub fn outside_difference(d: i64) -> bool
@@ -119,16 +131,30 @@ pub fn line_of(e: &[i64], b: i64) -> MadeLine
     )
 }
 
+// The first thing that is wrong with the line of an entry in a book of this version and of b marks, 1 to 6, or 0.
+fn fault_of(e: &[i64], version: i64, b: i64) -> usize
+    requires { ⌜ length (now e) ≡ lineWords ⌝ }
+    ensures { λ r. ⌜ r ≡ faultAt version b (now (e .entry)) 0 ⌝ }
+{
+    match line_of(e, b) {
+        MadeLine::Refused(_, fault) => fault,
+        MadeLine::Good(_) => first(
+            class::outside(version, e[Line::CLASS]),
+            Line::CLASS_FAULT,
+            0,
+        ),
+    }
+}
+
 // The number of the first line that is none, or 0.
-pub(crate) fn first_bad_line(lines: &[i64], b: i64) -> usize
-    ensures { λ r. ⌜ r ≡ firstBadLine b (now (lines .entry)) ⌝ }
+pub(crate) fn first_bad_line(lines: &[i64], version: i64, b: i64) -> usize
+    ensures { λ r. ⌜ r ≡ firstBadLine version b (now (lines .entry)) ⌝ }
 {
     let n = lines.len() / Line::WORDS;
     let mut i = 0;
     while i < n {
         let at = i * Line::WORDS;
-        let made = line_of(&lines[at..at + Line::WORDS], b);
-        if let MadeLine::Refused(_, _) = made {
+        if 0 < fault_of(&lines[at..at + Line::WORDS], version, b) {
             return i + 1;
         }
         i += 1;

@@ -1,18 +1,23 @@
 -- Laws on the numbers of a run of entries, for every kind of entry.
 -- Assumes nothing.
-use mathlib.Core.Path.{_≡_, refl, _∙_}
+use mathlib.Core.Path.{_≡_, refl, _∙_, ap}
+use mathlib.Core.Bool.{Bool, true, false, cond}
 use mathlib.Core.List.{List, _++_}
 use Prim.Native.Nat.{ℕ, zero, suc, _+_, _*_, _-_, _≤_, _<_}
 use native.Mathlib.Nat.{add-sub-cancel-left, mul-le-mul-right}
 use native.Mathlib.Numerals.{add-one}
 use native.Mathlib.Omega.{arith}
 use lib.ListN.{length, take, drop, length-append}
-use lib.IntN.{ℤ}
+use lib.IntN.{ℤ, pos}
 use borrow.Rule.Slice.PartMut.{putMid}
 use Rattle.laws.proofs.Lists.{pour}
-use Rattle.file.specs.Entry.{entryBytes, entryWords, heldNumbers, lineNumbers, numbers, entries}
+use Rattle.book.specs.Line.{lineWords}
+use Rattle.book.specs.Version.{hasClasses}
+use Rattle.book.specs.declared.Book.{Book}
+use Rattle.file.specs.Entry.{entryBytes, entryWords, heldNumbers, lineNumbers, numbers, lineKind, entries}
 use Rattle.file.specs.declared.entry.Kind.{Kind}
-use Rattle.file.specs.declared.entry.Kind.the-variants.{Held, Line}
+use Rattle.file.specs.declared.entry.Kind.the-variants.{Held, Line, ClassedLine}
+use Rattle.file.specs.Read.{linesOf, Stated}
 
 -- an entry before the last is whole, w places each
 pub room-for : (i n w : ℕ) → i < n → i * w + w ≤ n * w
@@ -22,6 +27,7 @@ pub numbers-count : (kind : Kind) (e : List ℕ) → length (numbers kind e) ≡
 unfolding heldNumbers lineNumbers
 numbers-count Held e = refl
 numbers-count Line e = refl
+numbers-count ClassedLine e = refl
 
 module _ (kind : Kind) (file : List ℕ) (a : ℕ) where
   pub entries-more : (i : ℕ)
@@ -45,3 +51,21 @@ module _ (kind : Kind) (file : List ℕ) (a : ℕ) where
     entries-pour h e =
         pour (entries kind file a i) vs l₀ out i w (rw words (entries-length i)) h
         ∙ rw (e, add-sub-cancel-left (a + i * k) k, bytes, entries-more i)
+
+-- a line has six numbers in memory, whatever the version
+pub line-words : (version : ℕ) → entryWords (lineKind version) ≡ lineWords
+line-words version = go (hasClasses (pos version))
+  where
+    go : (c : Bool) → entryWords (cond c ClassedLine Line) ≡ lineWords
+    go true = refl
+    go false = refl
+
+pub lines-length : (file : List ℕ) (k : Book) → length (linesOf file k) ≡ k .lines * lineWords
+unfolding linesOf
+lines-length file k =
+    entries-length (lineKind (k .version)) file (13 + k .held * 10) (k .lines) ∙ ap (λ (w : ℕ). k .lines * w) (line-words (k .version))
+
+-- a file of the stated length holds its lines, and so many places
+pub lines-room : (len places : ℕ) (k : Book) (kind : Kind) → Stated len k → kind ≡ lineKind (k .version) → k .lines * lineWords ≤ places
+    → (13 + k .held * 10 + k .lines * entryBytes kind ≤ len) × (k .lines * entryWords kind ≤ places)
+lines-room len places k kind s e h = rw (e, line-words (k .version)) (omega (arith, s .size), h)

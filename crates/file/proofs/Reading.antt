@@ -4,7 +4,7 @@ use mathlib.Core.Path.{_≡_, refl, _∙_, ap, subst}
 use mathlib.Core.Logic.{_⊎_, inl, inr}
 use mathlib.Core.Bool.{Bool, true, false, cond}
 use mathlib.Core.List.{List, _++_}
-use Prim.Native.Nat.{ℕ, _+_, _*_, _<_, _≤_}
+use Prim.Native.Nat.{ℕ, _*_, _<_, _≤_}
 use native.Mathlib.Omega.{arith}
 use lib.Dec.{ltb}
 use lib.ListN.{length, drop}
@@ -23,8 +23,8 @@ use Rattle.file.specs.Read.{Outcome, answered, refusedWith, done, heldOf
 use Rattle.file.specs.Owed.{BookRead, FileRefused}
 use Rattle.file.specs.declared.Head as head
 use Rattle.file.specs.declared.Head.{Head}
-use Rattle.file.specs.declared.entry.Kind.the-variants.{Held, Line}
-use Rattle.file.proofs.Entries.{entries-length}
+use Rattle.file.specs.declared.entry.Kind.the-variants.{Held}
+use Rattle.file.proofs.Entries.{entries-length, lines-length}
 use Rattle.file.proofs.Heads.{head-numbered}
 
 module _ (file : List ℕ) (held lines : List ℤ) where
@@ -51,13 +51,12 @@ module _ (file : List ℕ) (held lines : List ℤ) where
   GoodFile k = GoodBook k (bookIn file k)
 
   -- as many entries as were read
-  pub held-entries : (h : ℕ) → heldCount (heldOf file h) ≡ h
+  pub held-entries : (k : Book) → heldCount (heldOf file k) ≡ k .held
   unfolding heldOf
-  held-entries h = let l = entries-length Held file 13 h in omega arith
+  held-entries k = let l = entries-length Held file 13 (k .held) in omega arith
 
-  pub line-entries : (h n : ℕ) → lineCount (linesOf file h n) ≡ n
-  unfolding linesOf
-  line-entries h n = let l = entries-length Line file (13 + h * 10) n in omega arith
+  pub line-entries : (k : Book) → lineCount (linesOf file k) ≡ k .lines
+  line-entries k = let l = lines-length file k in omega arith
 
   room-or-ten : (k : Book) → GoodFile k → ReadOrRefused (roomOf file k held lines)
   unfolding roomOf GoodFile
@@ -67,8 +66,8 @@ module _ (file : List ℕ) (held lines : List ℤ) where
           → ReadOrRefused (cond s (answered held lines (refusedWith (refusal 10 0)))
           (cond t (answered held lines (refusedWith (refusal 10 0))) (record {
             answer = done k;
-            held = heldOf file (k .held) ++ drop (k .held * heldWords) held;
-            lines = linesOf file (k .held) (k .lines) ++ drop (k .lines * lineWords) lines;
+            held = heldOf file k ++ drop (k .held * heldWords) held;
+            lines = linesOf file k ++ drop (k .lines * lineWords) lines;
           })))
       go true t = refuses 10 0 (omega arith) (omega arith) (omega arith)
       go false true = refuses 10 0 (omega arith) (omega arith) (omega arith)
@@ -83,7 +82,7 @@ module _ (file : List ℕ) (held lines : List ℤ) where
 
       good : (j : Book) → testOf (bookIn file k) ≡ Good j → ReadOrRefused (roomOf file k held lines)
       good j e =
-          let same : j ≡ k = tested-counts (bookIn file k) j e ∙ rw (held-entries (k .held), line-entries (k .held) (k .lines)) in
+          let same : j ≡ k = tested-counts (bookIn file k) j e ∙ rw (held-entries k, line-entries k) in
           room-or-ten k (subst (λ (x : Book). GoodBook x (bookIn file k)) same (tested-good (bookIn file k) j e))
 
   -- every file is read as a book inside the limits, or refused

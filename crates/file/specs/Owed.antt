@@ -18,8 +18,8 @@ pub record BookRead (file : List ℕ) (held lines : List ℤ) (o : Outcome) : Ty
   pub book : Book
   pub answer : o .answer ≡ done book
   pub good : GoodBook book (bookIn file book)
-  pub held-now : o .held ≡ heldOf file (book .held) ++ drop (book .held * heldWords) held
-  pub lines-now : o .lines ≡ linesOf file (book .held) (book .lines) ++ drop (book .lines * lineWords) lines
+  pub held-now : o .held ≡ heldOf file book ++ drop (book .held * heldWords) held
+  pub lines-now : o .lines ≡ linesOf file book ++ drop (book .lines * lineWords) lines
 
 -- a file that was refused, by a number of the table and a place that is an entry or 0: "After a refusal the counts are 0 and no lent
 -- buffer has changed."

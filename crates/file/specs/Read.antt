@@ -6,9 +6,10 @@ use mathlib.Core.List.{List, _++_}
 use mathlib.Core.Path.{_≡_}
 use Prim.Native.Nat.{ℕ, _+_, _*_, _≤_}
 use lib.Dec.{eqb, ltb}
-use lib.ListN.{length, getD, drop}
+use lib.ListN.{length, drop}
 use lib.IntN.{ℤ, pos}
-use Rattle.book.specs.Limits.{mostMarks, mostLines, mostHeld, mostTolerance}
+use Rattle.book.specs.Limits.{mostVersion, mostMarks, mostLines, mostHeld, mostTolerance}
+use Rattle.book.specs.Version.{versionOut}
 use Rattle.book.specs.Held.{heldWords}
 use Rattle.book.specs.Line.{lineWords}
 use Rattle.book.specs.Lent.{Lent, lent}
@@ -16,18 +17,18 @@ use Rattle.book.specs.Test.{bookOut, counts, refusal, noRefusal, testOf, ifGood
 use Rattle.book.specs.declared.Refusal.{Refusal}
 use Rattle.book.specs.declared.Book.{Book}
 use Rattle.file.specs.Wire.{be}
-use Rattle.file.specs.Entry.{entries}
-use Rattle.file.specs.declared.entry.Kind.the-variants.{Held, Line}
+use Rattle.file.specs.Entry.{entryBytes, lineKind, entries}
+use Rattle.file.specs.declared.entry.Kind.the-variants.{Held}
 use Rattle.file.specs.declared.Head as head
 use Rattle.file.specs.declared.Head.{Head}
 use Rattle.file.specs.declared.ReadAnswer.{ReadAnswer}
 
--- "total length in 4 bytes, counting themselves; version byte 1; t, b, h and n in 2 bytes each"
+-- "total length in 4 bytes, counting themselves"; the version in a byte; "t, b, h and n in 2 bytes each"
 abbrev pub statedLength : List ℕ → ℕ
 statedLength file = be 4 file 0
 
 abbrev pub statedVersion : List ℕ → ℕ
-statedVersion file = getD file 4 0
+statedVersion file = be 1 file 4
 
 abbrev pub statedT : List ℕ → ℕ
 statedT file = be 2 file 5
@@ -42,42 +43,43 @@ abbrev pub statedN : List ℕ → ℕ
 statedN file = be 2 file 11
 
 abbrev pub statedCounts : List ℕ → Book
-statedCounts file = counts (pos (statedB file)) (pos (statedT file)) (statedH file) (statedN file)
+statedCounts file = counts (pos (statedVersion file)) (pos (statedB file)) (pos (statedT file)) (statedH file) (statedN file)
 
--- "A file has 13 + 10h + 12n bytes"
-abbrev pub fileLength : ℕ → ℕ → ℕ
-fileLength h n = 13 + h * 10 + n * 12
+-- "A file has 13 + 10h + 12n bytes"; of version 2 "a line takes 14 bytes and the file 13 + 10h + 14n"
+abbrev pub fileLength : ℕ → ℕ → ℕ → ℕ
+fileLength version h n = 13 + h * 10 + n * entryBytes (lineKind version)
 
--- refusals 1 to 5, whose place is 0, or the counts that the file states
+-- refusals 1 to 5, whose place is 0, or the version and the counts that the file states
 unfoldable pub headOf : List ℕ → Head
-unfolding be bookOut
+unfolding be versionOut bookOut
 headOf file =
     cond (ltb (length file) 13) (head.the-variants.Refused 1)
     (cond (not (eqb (statedLength file) (length file))) (head.the-variants.Refused 2)
-    (cond (not (eqb (statedVersion file) 1)) (head.the-variants.Refused 3)
-    (cond (bookOut (pos (statedB file)) (pos (statedT file)) (statedH file) (statedN file)) (head.the-variants.Refused 4)
-    (cond (not (eqb (length file) (fileLength (statedH file) (statedN file)))) (head.the-variants.Refused 5)
+    (cond (versionOut (pos (statedVersion file))) (head.the-variants.Refused 3)
+    (cond (bookOut (pos (statedVersion file)) (pos (statedB file)) (pos (statedT file)) (statedH file) (statedN file))
+    (head.the-variants.Refused 4)
+    (cond (not (eqb (length file) (fileLength (statedVersion file) (statedH file) (statedN file)))) (head.the-variants.Refused 5)
     (head.the-variants.States (statedCounts file))))))
 
--- the numbers that the file's held entries and lines put into memory
-unfoldable pub heldOf : List ℕ → ℕ → List ℤ
+-- the numbers that the held entries and the lines of a file with the counts k put into memory
+unfoldable pub heldOf : List ℕ → Book → List ℤ
 unfolding entries
-heldOf file h = entries Held file 13 h
+heldOf file k = entries Held file 13 (k .held)
 
-unfoldable pub linesOf : List ℕ → ℕ → ℕ → List ℤ
+unfoldable pub linesOf : List ℕ → Book → List ℤ
 unfolding entries
-linesOf file h n = entries Line file (13 + h * 10) n
+linesOf file k = entries (lineKind (k .version)) file (13 + k .held * 10) (k .lines)
 
--- the book of the counts k that they make, as every call is lent one
+-- the book that they make, as every call is lent one
 abbrev pub bookIn : List ℕ → Book → Lent
-bookIn file k = lent (pos (k .marks)) (pos (k .tolerance)) (heldOf file (k .held)) (linesOf file (k .held) (k .lines))
+bookIn file k = lent (pos (k .version)) (pos (k .marks)) (pos (k .tolerance)) (heldOf file k) (linesOf file k)
 
 -- "After a refusal the counts are 0"
 abbrev pub refusedWith : Refusal → ReadAnswer
-refusedWith r = record { refusal = r; b = 0; t = 0; h = 0; n = 0 }
+refusedWith r = record { refusal = r; version = 0; b = 0; t = 0; h = 0; n = 0 }
 
 abbrev pub done : Book → ReadAnswer
-done k = record { refusal = noRefusal; b = k .marks; t = k .tolerance; h = k .held; n = k .lines }
+done k = record { refusal = noRefusal; version = k .version; b = k .marks; t = k .tolerance; h = k .held; n = k .lines }
 
 -- what a call answers, and what the two lent buffers then hold
 pub record Outcome : Type 0 where
@@ -96,8 +98,8 @@ roomOf file k held lines =
     (cond (ltb (length lines) (k .lines * lineWords)) (answered held lines (refusedWith (refusal 10 0)))
     (record {
       answer = done k;
-      held = heldOf file (k .held) ++ drop (k .held * heldWords) held;
-      lines = linesOf file (k .held) (k .lines) ++ drop (k .lines * lineWords) lines;
+      held = heldOf file k ++ drop (k .held * heldWords) held;
+      lines = linesOf file k ++ drop (k .lines * lineWords) lines;
     }))
 
 -- refusals 6 and 7 by the test of every call, then what comes after it
@@ -116,9 +118,10 @@ unfoldable pub readOf : List ℕ → List ℤ → List ℤ → Outcome
 unfolding afterHead headOf
 readOf file held lines = afterHead file held lines (headOf file)
 
--- a head that is not refused states a file of this length, with counts within their limits
+-- a head that is not refused states a file of this length, with version and counts within their limits
 pub record Stated (len : ℕ) (k : Book) : Type 0 where
-  pub size : len ≡ fileLength (k .held) (k .lines)
+  pub size : len ≡ fileLength (k .version) (k .held) (k .lines)
+  pub known-version : k .version ≤ mostVersion
   pub few-marks : k .marks ≤ mostMarks
   pub small-tolerance : k .tolerance ≤ mostTolerance
   pub few-held : k .held ≤ mostHeld

@@ -15,9 +15,10 @@ use book::held::Held;
 use book::line::Line;
 use entry::Kind;
 
-// What the reader answers: a refusal, or none and the book's counts.
+// What the reader answers: a refusal, or none and the book's version and counts.
 pub struct ReadAnswer {
     pub refusal: Refusal,
+    pub version: usize,
     pub b: usize,
     pub t: usize,
     pub h: usize,
@@ -45,8 +46,6 @@ const H_AT: usize = 9;
 
 const N_AT: usize = 11;
 
-const VERSION: u8 = 1;
-
 fn refuse(number: usize, place: usize) -> ReadAnswer
     ensures { λ r. ⌜ r ≡ refusedWith (refusal number place) ⌝ }
 {
@@ -58,6 +57,7 @@ fn refused(refusal: Refusal) -> ReadAnswer
 {
     ReadAnswer {
         refusal,
+        version: 0,
         b: 0,
         t: 0,
         h: 0,
@@ -65,7 +65,7 @@ fn refused(refusal: Refusal) -> ReadAnswer
     }
 }
 
-// Refusals 1 to 5, or the counts that the file states.
+// Refusals 1 to 5, or the version and the counts that the file states.
 fn head_of(file: &[u8]) -> Head
     ensures { λ r. ⌜ r ≡ headOf (now (file .entry)) ⌝ }
 {
@@ -76,21 +76,21 @@ fn head_of(file: &[u8]) -> Head
     if wire::be4(file, LENGTH_AT) as usize != len {
         return Head::Refused(2);
     }
-    if file[VERSION_AT] != VERSION {
-        return Head::Refused(3);
-    }
+    let version = wire::plain(wire::be1(file, VERSION_AT));
     let t = wire::plain(wire::be2(file, T_AT));
     let b = wire::plain(wire::be2(file, B_AT));
     let h = wire::be2(file, H_AT) as usize;
     let n = wire::be2(file, N_AT) as usize;
-    let made = Book::new(b, t, h, n);
-    let Tested::Good(book) = made else {
-        return Head::Refused(4);
-    };
-    if len != HEAD_BYTES + h * Kind::HELD_BYTES + n * Kind::LINE_BYTES {
-        return Head::Refused(5);
+    match Book::new(version, b, t, h, n) {
+        Tested::Refused(r) => Head::Refused(r.number),
+        Tested::Good(book) => {
+            let line_bytes = Kind::of_lines(book.version).bytes();
+            if len != HEAD_BYTES + h * Kind::HELD_BYTES + n * line_bytes {
+                return Head::Refused(5);
+            }
+            Head::States(book)
+        }
     }
-    Head::States(book)
 }
 
 // Refusals 6 and 7: the entries are read where nobody sees them, and tested as every call tests a lent book.
@@ -104,17 +104,18 @@ fn tested(file: &[u8], book: Book) -> Tested
     let mut lines = [0i64; Book::LINE_WORDS];
     entry::read_entries(Kind::Held, file, HEAD_BYTES, h, &mut held[..]);
     entry::read_entries(
-        Kind::Line,
+        Kind::of_lines(book.version),
         file,
         HEAD_BYTES + h * Kind::HELD_BYTES,
         n,
         &mut lines[..],
     );
+    let version = signed::signed_count(book.version);
     let b = signed::signed_count(book.marks);
     let t = signed::signed_count(book.tolerance);
     let held_words = h * Held::WORDS;
     let line_words = n * Line::WORDS;
-    book::test(b, t, &held[..held_words], &lines[..line_words])
+    book::test(version, b, t, &held[..held_words], &lines[..line_words])
 }
 
 // Refusal 10, or the entries go into what is lent.
@@ -133,7 +134,7 @@ fn fill(file: &[u8], book: Book, held: &mut [i64], lines: &mut [i64]) -> ReadAns
     }
     entry::read_entries(Kind::Held, file, HEAD_BYTES, h, held);
     entry::read_entries(
-        Kind::Line,
+        Kind::of_lines(book.version),
         file,
         HEAD_BYTES + h * Kind::HELD_BYTES,
         n,
@@ -142,6 +143,7 @@ fn fill(file: &[u8], book: Book, held: &mut [i64], lines: &mut [i64]) -> ReadAns
     let refusal = Refusal::none();
     ReadAnswer {
         refusal,
+        version: book.version,
         b: book.marks,
         t: book.tolerance,
         h,

@@ -13,7 +13,15 @@ fn wide(x: u8) -> u64
     x as u64
 }
 
-// The number in the two bytes from place a on.
+// The number in the byte at place a.
+pub(crate) fn be1(s: &[u8], a: usize) -> u64
+    requires { ⌜ a + 1 ≤ length (now s) ⌝ }
+    ensures { λ r. ⌜ (r ≡ be 1 (now (s .entry)) a) × (r < 256) ⌝ }
+{
+    wide(s[a])
+}
+
+// In the two bytes from place a on.
 pub(crate) fn be2(s: &[u8], a: usize) -> u64
     requires { ⌜ a + 2 ≤ length (now s) ⌝ }
     ensures { λ r. ⌜ (r ≡ be 2 (now (s .entry)) a) × (r < 2 ^ 16) ⌝ }

@@ -11,7 +11,7 @@ use lib.ListN.{length, length-map}
 use Rattle.laws.specs.Scan.{firstBad}
 use Rattle.network.specs.Standing.{Line}
 use Rattle.network.specs.Walk.{Pass, flip}
-use Rattle.network.specs.Redone.{measured, newDifference, redone, measuredPass}
+use Rattle.network.specs.Redone.{Measure, measured, newDifference, redone, measuredPass}
 use Rattle.loops.specs.Row.{listed, listings}
 use Rattle.links.specs.Link.{Link, link, ownLink, turnedWay, turned, readFrom, readTo, joined, lowerFirst, closesOnItself}
 use Rattle.links.specs.Link.{lowestFrom, lowestLine, positive, begunWith, begun}
@@ -19,7 +19,7 @@ use Rattle.links.specs.Ends.{endsOf, endsAt, hasEnd, lowestWith, someIf,
 use Rattle.links.specs.Sketch.{Sketch, sketch, ifFound, spurOff, loopOff, mergedAt, step, steps, startOf, finished, sketchOf}
 use Rattle.links.specs.Sketch.{inAll, runOf}
 
-module _ (g : Line → ℤ) where
+module _ (g : Line → Measure) where
   -- a way, a link and a sketch over lines measured again: the marks, the lines and their senses stay
   abbrev measuredWay : List Pass → List Pass
   measuredWay w = map (measuredPass g) w

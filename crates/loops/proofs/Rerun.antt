@@ -13,7 +13,7 @@ use Rattle.network.specs.Closing.{closing}
 use Rattle.network.specs.Walk.{Pass, pass, wayLength}
 use Rattle.network.specs.Path.{shortest}
 use Rattle.network.specs.Subgraph.{only, numbers}
-use Rattle.network.specs.Redone.{measured, newDifference, redone, measuredPass, redonePass}
+use Rattle.network.specs.Redone.{Measure, measured, newDifference, redone, measuredPass, redonePass}
 use Rattle.network.proofs.Differences.{tree-same, treeLines-same, pieces-same, numbers-same, closing-same, only-same, shortest-same}
 use Rattle.loops.specs.Loops.{Loop, added, loopsFrom, loops}
 use Rattle.loops.specs.Row.{signed, listed, misclosure, closingNumber}
@@ -24,7 +24,7 @@ use Rattle.loops.proofs.Misclosure.{times-sense}
 
 -- ---- the loops run the same lines the same way
 
-module _ (g : Line → ℤ) where
+module _ (g : Line → Measure) where
   added-same : (c : ℕ) (path : List Pass) (sub : List ℕ) → added c (map (measuredPass g) path) sub ≡ added c path sub
   added-same c [] sub = refl
   added-same c (p ∷ []) sub = refl
@@ -58,7 +58,7 @@ module _ (g : Line → ℤ) where
       → closing (map (measured g) lines) (tree b (map (measured g) lines)) ≡ map (measured g) (closing lines (tree b lines))
   closing-lines-same b lines = ap (closing (map (measured g) lines)) (tree-same g b lines) ∙ closing-same g lines (tree b lines)
 
-  -- with other differences every loop runs the same lines the same way
+  -- with other differences and classes every loop runs the same lines the same way
   pub loops-same : (b : ℕ) (lines : List Line) → loops b (map (measured g) lines) ≡ map (map (measuredPass g)) (loops b lines)
   unfolding loops
   loops-same b lines =
@@ -116,8 +116,8 @@ module _ (n : ℕ) (d : ℤ) where
   -- a pass over another line is the same
   other-pass : (p : Pass) → (p .line .number ≡ n → ⊥) → redonePass n d p ≡ p
   other-pass p h =
-      ap (λ (t : Bool). pass (line (p .line .number) (p .line .from) (p .line .to) (cond t d (p .line .difference)) (p .line .length))
-      (p .forward)) (ne-eqb (p .line .number) n h)
+      ap (λ (t : Bool). pass (line (p .line .number) (p .line .from) (p .line .to) (cond t d (p .line .difference)) (p .line .length)
+      (p .line .class)) (p .forward)) (ne-eqb (p .line .number) n h)
 
   -- a loop without the line is the same, and so is its row
   pub rerun-keeps-other-loops : (lp : Loop) → runs n lp ≡ false → map (redonePass n d) lp ≡ lp
@@ -136,7 +136,8 @@ module _ (n : ℕ) (d : ℤ) where
   signed-add false a c = sym (negℤ-+ℤ a c)
 
   pass-moves : (l : Line) (p : Pass) → (p .line .number ≡ n → p .line ≡ l)
-      → signed (p .forward) (newDifference n d (p .line)) ≡ signed (p .forward) (p .line .difference) +ℤ (d -ℤ l .difference) *ℤ once p n
+      → signed (p .forward) (newDifference n d (p .line) .difference)
+      ≡ signed (p .forward) (p .line .difference) +ℤ (d -ℤ l .difference) *ℤ once p n
   unfolding once
   pass-moves l p h = go (eqb (p .line .number) n) refl
     where

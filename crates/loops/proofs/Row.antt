@@ -2,7 +2,7 @@
 use Prim.Native.Nat.{ℕ, zero, suc, _+_, _*_, _≤_, _<_}
 use native.Mathlib.Omega.{arith}
 use native.Mathlib.Nat.{mul-zero, mul-add, mul-assoc}
-use mathlib.Core.Path.{_≡_, refl, sym, _∙_, ap}
+use mathlib.Core.Path.{_≡_, refl, sym, _∙_, ap, ap₂}
 use mathlib.Core.Logic.{_↔_}
 use mathlib.Core.Bool.{Bool, true, false, cond}
 use mathlib.Core.List.{List, [], _∷_, _++_, map, List·Memᴰ, List·Memᴰ·head, List·Memᴰ·tail}
@@ -12,9 +12,12 @@ use lib.ListN.{length, drop}
 use lib.Seq.{drop-nil, drop-append-add}
 use borrow.Author.Tests.{leb-true, le-leb, lt-leb}
 use Rattle.book.specs.Limits.{leastJudged}
+use Rattle.book.specs.Version.{noClass}
+use Rattle.book.proofs.Versions.{no-class-tolerance}
 use Rattle.network.specs.Walk.{Pass, wayLength}
 use Rattle.loops.specs.Loops.{Loop}
-use Rattle.loops.specs.Row.{misclosure, total, judgedAs, judgedLength, lineAllows, allowances, within, verdict, rowWords, row, rows}
+use Rattle.loops.specs.Row.{misclosure, total, judgedAs, judgedLength, allowedBy, lineAllows, allowances, within, verdict}
+use Rattle.loops.specs.Row.{rowWords, row, rows}
 
 -- ---- the allowable
 
@@ -24,15 +27,29 @@ unfolding total
 total-times k f [] = sym (mul-zero k)
 total-times k f (x ∷ xs) = ap (λ (n : ℕ). k * f x + n) (total-times k f xs) ∙ sym (mul-add k (f x) (total (map f xs)))
 
--- the lines' allowances sum to t*t times the verdict's length
-allowances-sum : (t : ℕ) (lp : Loop) → total (allowances t lp) ≡ t * t * judgedLength lp
-unfolding allowances judgedLength
-allowances-sum t lp = total-times (t * t) (λ (p : Pass). judgedAs (p .line .length)) lp
+-- no line of the loop has a class: every loop of a version 1 book
+abbrev pub Unclassed : Loop → Type 0
+Unclassed lp = (p : Pass) → List·Memᴰ p lp → p .line .class ≡ noClass
 
--- what a loop's lines allow is 10*t*t*L, L being the verdict's length
-pub allowable : (t : ℕ) (lp : Loop) → 10 * total (allowances t lp) ≡ 10 * t * t * judgedLength lp
-allowable t lp =
-    ap (λ (n : ℕ). 10 * n) (allowances-sum t lp) ∙ sym (mul-assoc 10 (t * t) (judgedLength lp))
+-- then the lines' allowances are those at the one tolerance t
+single-tolerance : (t : ℕ) (lp : Loop) → Unclassed lp → allowances t lp ≡ map (λ p. allowedBy t (p .line .length)) lp
+unfolding allowances lineAllows
+single-tolerance t [] none = refl
+single-tolerance t (p ∷ ps) none =
+    ap₂ (λ (x : ℕ) (rest : List ℕ). allowedBy x (p .line .length) ∷ rest)
+    (no-class-tolerance t (p .line .class) (none p (List·Memᴰ·head refl)))
+    (single-tolerance t ps (λ q i. none q (List·Memᴰ·tail i)))
+
+-- which sum to t*t times the verdict's length
+allowances-sum : (t : ℕ) (lp : Loop) → Unclassed lp → total (allowances t lp) ≡ t * t * judgedLength lp
+unfolding judgedLength
+allowances-sum t lp none =
+    ap total (single-tolerance t lp none) ∙ total-times (t * t) (λ (p : Pass). judgedAs (p .line .length)) lp
+
+-- so that they allow 10*t*t*L, L being the verdict's length
+pub allowable : (t : ℕ) (lp : Loop) → Unclassed lp → 10 * total (allowances t lp) ≡ 10 * t * t * judgedLength lp
+allowable t lp none =
+    ap (λ (n : ℕ). 10 * n) (allowances-sum t lp none) ∙ sym (mul-assoc 10 (t * t) (judgedLength lp))
     ∙ ap (λ (n : ℕ). n * judgedLength lp) (sym (mul-assoc 10 t t))
 
 -- the verdict's length is the row's or more
@@ -61,7 +78,7 @@ module _ (t : ℕ) (lp : Loop) where
   abbrev allowed : ℕ
   allowed = 10 * total (allowances t lp)
 
-  -- "a loop is within exactly if m*m <= 10*t*t*L; equal is within"
+  -- "within exactly if m*m is at most 10 times the sum over its lines"
   pub within-exactly-if : (verdict t lp ≡ pos 0) ↔ (square ≤ allowed)
   unfolding verdict within
   within-exactly-if = (λ h. leb-true square allowed (verdict-of (leb square allowed) h), λ h. rw (le-leb square allowed h))

@@ -8,7 +8,7 @@ use lib.IntN.{ℤ}
 use lib.ListN.{length, getD, take, drop, length-append, length-map}
 use lib.Seq.{take-suc, split-at, take-at, drop-at, take-all}
 use Rattle.network.specs.Standing.{Line}
-use Rattle.network.specs.Redone.{measuredPass}
+use Rattle.network.specs.Redone.{Measure, measuredPass}
 use Rattle.network.specs.Walk.{Pass}
 use Rattle.network.specs.Codes.{codeOf, codes}
 use Rattle.loops.specs.Loops.{Loop, loopAt}
@@ -96,7 +96,7 @@ module _ {ls : List Loop} {starts runs : List ℕ} {count : ℕ} (t : Table ls s
 
 -- ---- a re-run changes no code
 
-module _ (g : Line → ℤ) where
+module _ (g : Line → Measure) where
   codes-same : (ps : List Pass) → codes (map (measuredPass g) ps) ≡ codes ps
   unfolding codes
   codes-same [] = refl

@@ -1,4 +1,4 @@
--- Document 01, "Loops": listing, misclosure, verdict and report row of a loop; the verdict as request 03 has it.
+-- Document 01, "Loops": listing, misclosure, verdict and report row of a loop; the verdict as requests 03 and 04 have it.
 -- Assumes nothing.
 use Prim.Native.Nat.{ℕ, zero, max, _+_, _*_}
 use mathlib.Core.Bool.{Bool, true, false, cond}
@@ -7,6 +7,7 @@ use lib.IntN.{ℤ, pos, negℤ, natAbs, _+ℤ_}
 use lib.Dec.{leb}
 use lib.ListN.{length}
 use Rattle.book.specs.Limits.{leastJudged}
+use Rattle.book.specs.Version.{toleranceOf}
 use Rattle.network.specs.Standing.{Line}
 use Rattle.network.specs.Path.{Pass, wayLength}
 use Rattle.loops.specs.Loops.{Loop}
@@ -43,16 +44,22 @@ unfoldable pub judgedLength : Loop → ℕ
 unfolding total
 judgedLength lp = total (map (λ p. judgedAs (p .line .length)) lp)
 
--- what one line of a loop allows, at the tolerance t: a tenth of its part in 10*t*t*L, L being the verdict's length
+-- "tolerance squared times length as in Req 03"
+abbrev pub allowedBy : ℕ → ℕ → ℕ
+allowedBy tolerance metres = tolerance * tolerance * judgedAs metres
+
+-- what one line of a loop allows in a book of tolerance t: by its class's tolerance, or by t where it has none
 unfoldable pub lineAllows : ℕ → Line → ℕ
-lineAllows t l = t * t * judgedAs (l .length)
+unfolding toleranceOf
+lineAllows t l = allowedBy (toleranceOf t (l .class)) (l .length)
 
 -- the allowances of a loop's lines
 unfoldable pub allowances : ℕ → Loop → List ℕ
 unfolding lineAllows
 allowances t lp = map (λ p. lineAllows t (p .line)) lp
 
--- "a loop is within exactly if m*m <= 10*t*t*L; equal is within": over the list of its lines' allowances
+-- "within exactly if m*m is at most 10 times the sum over its lines", "equal is within": over the list of its lines' allowances. Where no
+-- line has a class this is m*m <= 10*t*t*L, L being the verdict's length
 unfoldable pub within : List ℕ → ℤ → Bool
 unfolding total
 within allowed m = leb (natAbs m * natAbs m) (10 * total allowed)

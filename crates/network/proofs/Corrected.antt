@@ -10,8 +10,8 @@ use lib.ListN.{length, set, drop, length-set, length-drop}
 use lib.Seq.{drop-set-lt, drop-set-add}
 use borrow.Author.Tests.{eq-eqb, ne-eqb}
 use Rattle.book.specs.Limits.{leastLength}
-use Rattle.book.specs.Line.{lineWords, fromField, toField, differenceField, lengthField, standingField}
-use Rattle.book.specs.Line.{place, field, fromAt, toAt, lengthAt, standingAt}
+use Rattle.book.specs.Line.{lineWords, fromField, toField, differenceField, lengthField, standingField, classField}
+use Rattle.book.specs.Line.{place, field, fromAt, toAt, lengthAt, standingAt, classAt}
 use Rattle.book.proofs.Places.{field-set, field-kept, line-kept}
 use Rattle.network.specs.Standing.{Line, line, keep, standingFrom, standing}
 use Rattle.network.specs.Sound.{Placed, Sound}
@@ -57,6 +57,7 @@ module _ (k : ℕ) (book : List ℤ) (f : ℕ) (z : ℤ) (inside : f < lineWords
         same toField (lit< tt),
         same differenceField (lit< tt),
         same lengthField (lit< tt),
+        same classField (lit< tt),
       )
       (ap (λ (ls : List ℤ). keep (standingAt book 0) (lineAt k book 0) (standingFrom (suc k) ls))
       (ap (λ (n : ℕ). drop lineWords (set book n z)) on ∙ drop-set-add lineWords book (place i f) z))
@@ -67,7 +68,8 @@ module _ (k : ℕ) (book : List ℤ) (f : ℕ) (z : ℤ) (inside : f < lineWords
 -- ---- re-run: "sets the line's difference to the new one"
 
 other-line : (n : ℕ) (d : ℤ) (l : Line) → (l .number ≡ n → ⊥) → measured (newDifference n d) l ≡ l
-other-line n d l h = ap (λ (t : Bool). line (l .number) (l .from) (l .to) (cond t d (l .difference)) (l .length)) (ne-eqb (l .number) n h)
+other-line n d l h =
+    ap (λ (t : Bool). line (l .number) (l .from) (l .to) (cond t d (l .difference)) (l .length) (l .class)) (ne-eqb (l .number) n h)
 
 redone-none : (n : ℕ) (d : ℤ) (lines : List Line) → ((l : Line) → List·Memᴰ l lines → l .number ≡ n → ⊥) → redone n d lines ≡ lines
 redone-none n d [] h = refl
@@ -87,7 +89,7 @@ rerun-from k zero book d h =
     let n : k + 0 ≡ k = omega arith in
     let rest = standingFrom (suc k) (drop lineWords book) in
     let others : redone k d rest ≡ rest = redone-none k d rest (λ l i z. omega (arith, from-on (suc k) (drop lineWords book) l i, z)) in
-    let new = line k (natAbs (fromAt book 0)) (natAbs (toAt book 0)) d (natAbs (lengthAt book 0)) in
+    let new = line k (natAbs (fromAt book 0)) (natAbs (toAt book 0)) d (natAbs (lengthAt book 0)) (classAt book 0) in
     let its : measured (newDifference k d) (lineAt k book 0) ≡ new
     = rw (eq-eqb k k refl) in
     set-first k book differenceField d (lit< tt) first
@@ -96,6 +98,7 @@ rerun-from k zero book d h =
       same fromField (lit< tt) (λ e. omega arith),
       same toField (lit< tt) (λ e. omega arith),
       same lengthField (lit< tt) (λ e. omega arith),
+      same classField (lit< tt) (λ e. omega arith),
       field-set book 0 differenceField d (omega arith),
       n,
       standing-first k book first,

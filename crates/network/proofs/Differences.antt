@@ -1,4 +1,4 @@
--- Nothing of the tree, the closing lines or the paths reads a difference: with other differences they are the same. Assumes nothing.
+-- Nothing of the tree, the closing lines or the paths reads a difference or a class: with others they are the same. Assumes nothing.
 use Prim.Native.Nat.{ℕ, zero, suc, _≤_, _<_}
 use mathlib.Core.Path.{_≡_, refl, sym, _∙_, ap, ap₂, subst}
 use mathlib.Core.Bool.{Bool, true, false, not, _&&_}
@@ -9,7 +9,7 @@ use lib.IntN.{ℤ}
 use Rattle.book.specs.Limits.{leastLength}
 use Rattle.network.specs.Standing.{Line}
 use Rattle.network.specs.Sound.{Placed, Rising, none-left, then, Sound}
-use Rattle.network.specs.Redone.{measured, measuredPass}
+use Rattle.network.specs.Redone.{Measure, measured, measuredPass}
 use Rattle.network.specs.Tree.{Entry, entry, Tree, Candidate, candidate, orElse, distance, score, farOf, far, lowerOf, lowestOf}
 use Rattle.network.specs.Tree.{lowest, firstOut, next, step, grow, marks, tree, pieces, roots1, treeLines, lines1}
 use Rattle.network.specs.Closing.{insert, insertOf, sameLine, closerOf, closersAt, justLines, closing}
@@ -20,7 +20,7 @@ map-append : {A B : Type 0} (f : A → B) (xs ys : List A) → map f (xs ++ ys) 
 map-append f [] ys = refl
 map-append f (x ∷ xs) ys = ap (λ (l : List _). f x ∷ l) (map-append f xs ys)
 
-module _ (g : Line → ℤ) where
+module _ (g : Line → Measure) where
   -- an entry of the tree over lines measured again
   abbrev pub measuredEntry : Entry → Entry
   measuredEntry e = entry (e .mark) (e .dist) (Option·map (measured g) (e .by))

@@ -12,7 +12,7 @@ use lib.Seq.{drop-drop}
 use Rattle.laws.specs.Tests.{eqZ}
 use Rattle.laws.specs.Range.{Between}
 use Rattle.laws.proofs.Inside.{eqZ-true}
-use Rattle.book.specs.Line.{lineWords, fromField, toField, differenceField, lengthField, standingField, standingAt, lineCount}
+use Rattle.book.specs.Line.{lineWords, fromField, toField, differenceField, lengthField, standingField, classField, standingAt, lineCount}
 use Rattle.book.proofs.Places.{field-from, field-on}
 use Rattle.network.specs.Standing.{Line, keep, standingFrom, standing}
 use Rattle.network.specs.Field.{HasLine, lineAt, StandsAt, standsFrom}
@@ -28,7 +28,8 @@ standing-short k (f ∷ []) h = refl
 standing-short k (f ∷ t ∷ []) h = refl
 standing-short k (f ∷ t ∷ d ∷ []) h = refl
 standing-short k (f ∷ t ∷ d ∷ n ∷ []) h = refl
-standing-short k (f ∷ t ∷ d ∷ n ∷ s ∷ rest) h = absurd (omega arith)
+standing-short k (f ∷ t ∷ d ∷ n ∷ s ∷ []) h = refl
+standing-short k (f ∷ t ∷ d ∷ n ∷ s ∷ c ∷ rest) h = absurd (omega arith)
 
 -- else its first line comes before those of the rest
 pub standing-first : (k : ℕ) (book : List ℤ) → lineWords ≤ length book
@@ -39,7 +40,8 @@ standing-first k (f ∷ []) h = absurd (omega arith)
 standing-first k (f ∷ t ∷ []) h = absurd (omega arith)
 standing-first k (f ∷ t ∷ d ∷ []) h = absurd (omega arith)
 standing-first k (f ∷ t ∷ d ∷ n ∷ []) h = absurd (omega arith)
-standing-first k (f ∷ t ∷ d ∷ n ∷ s ∷ rest) h = refl
+standing-first k (f ∷ t ∷ d ∷ n ∷ s ∷ []) h = absurd (omega arith)
+standing-first k (f ∷ t ∷ d ∷ n ∷ s ∷ c ∷ rest) h = refl
 
 -- ---- line by line
 
@@ -55,11 +57,23 @@ module _ (P : ℕ → List ℤ → Type 0) (short : (k : ℕ) (book : List ℤ) 
 
 -- one line further into the book
 pub line-on : (n : ℕ) (book : List ℤ) (j : ℕ) → lineAt n (drop lineWords book) j ≡ lineAt n book (suc j)
-line-on n book j = rw (field-on book j fromField, field-on book j toField, field-on book j differenceField, field-on book j lengthField)
+line-on n book j = rw (
+  field-on book j fromField,
+  field-on book j toField,
+  field-on book j differenceField,
+  field-on book j lengthField,
+  field-on book j classField,
+)
 
 line-from : (n : ℕ) (book : List ℤ) (i j : ℕ) → lineAt n (drop (i * lineWords) book) j ≡ lineAt n book (i + j)
 line-from n book i j =
-    rw (field-from book i j fromField, field-from book i j toField, field-from book i j differenceField, field-from book i j lengthField)
+    rw (
+      field-from book i j fromField,
+      field-from book i j toField,
+      field-from book i j differenceField,
+      field-from book i j lengthField,
+      field-from book i j classField,
+    )
 
 -- a line that stands, in front of others
 pub record Kept (s : ℤ) (x l : Line) : Type 0 where

@@ -5,7 +5,7 @@ use mathlib.Core.Path.{_≡_}
 use mathlib.Core.List.{List}
 use lib.IntN.{ℤ, pos, natAbs}
 use lib.ListN.{length, drop}
-use Rattle.book.specs.Line.{lineWords, place, fromAt, toAt, differenceAt, lengthAt, standingAt}
+use Rattle.book.specs.Line.{lineWords, place, fromAt, toAt, differenceAt, lengthAt, standingAt, classAt}
 use Rattle.network.specs.Standing.{Line, line, standingFrom}
 
 -- the book has a line i; lines are counted from 0 here
@@ -14,7 +14,8 @@ HasLine book i = place i lineWords ≤ length book
 
 -- line i of the book under the number n
 abbrev pub lineAt : ℕ → List ℤ → ℕ → Line
-lineAt n book i = line n (natAbs (fromAt book i)) (natAbs (toAt book i)) (differenceAt book i) (natAbs (lengthAt book i))
+lineAt n book i =
+    line n (natAbs (fromAt book i)) (natAbs (toAt book i)) (differenceAt book i) (natAbs (lengthAt book i)) (classAt book i)
 
 -- line i of the book stands, and under the number n it is l
 pub record StandsAt (book : List ℤ) (i n : ℕ) (l : Line) : Type 0 where

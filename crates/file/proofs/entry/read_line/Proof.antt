@@ -5,6 +5,7 @@ use lib.IntN.{pos}
 use lib.ListN.{length-set}
 use mir.Syntax.{w32}
 use mir.Val.{toZ}
+use mir.Facts.{toZ-ofZ}
 use Rattle.laws.proofs.Signed.{stored}
 use Rattle.laws.proofs.Lists.{filled}
 use Rattle.file.specs.Entry.{lineNumbers}
@@ -26,7 +27,9 @@ returns c =
     let e₁ = stored (c₄ .plain2 .result) (c₄ .plain2 .ok) (c₄ .plain2 .ensures ∙ ap pos (c₃ .be22 .ensures .0)) in
     let e₂ = stored (c₆ .signed4 .result) (c₆ .signed4 .ok) (c₆ .signed4 .ensures ∙ ap (toZ w32) (c₅ .be4 .ensures .0)) in
     let e₃ = stored (c .plain3 .result) (c .plain3 .ok) (c .plain3 .ensures ∙ ap pos (c₇ .be42 .ensures .0)) in
-    rw (e₀, e₁, e₂, e₃) (filled (_ ∷ _ ∷ _ ∷ _ ∷ _ ∷ []) (c₁ .before .before .args .out .now) (c₁ .before .before .pre .1))
+    let entry = c₁ .before .before in
+    rw (e₀, e₁, e₂, e₃, toZ-ofZ (entry .fits .standing), toZ-ofZ (entry .fits .class))
+    (filled (_ ∷ _ ∷ _ ∷ _ ∷ _ ∷ _ ∷ []) (entry .args .out .now) (entry .pre .1))
 
 pub read-line-spec : {M : Type 1} → statement M
 read-line-spec =
@@ -44,6 +47,7 @@ read-line-spec =
     (λ c. search needs)  -- slice-set-from-to
     (λ c. search needs)  -- slice-set-from-difference
     (λ c. search needs)  -- slice-set-from-length
-    (λ c. simp length-set (omega arith))  -- slice-set-of-out
-    (λ c. search needs)  -- same-length
+    (λ c. simp length-set (omega arith))  -- slice-set-from-standing
+    (λ c. simp length-set (omega arith))  -- slice-set-from-class
+    (λ c. simp length-set (omega arith))  -- same-length
     returns)
