@@ -119,15 +119,17 @@ module _ (book : Lent) where
         let p₃ = past (torn heldWords (book .held)) 4 0 _ k (p₂ .1) in
         let p₄ = past (torn lineWords (book .lines)) 4 0 _ k (p₃ .1) in
         let p₅ = past (ltb 0 (firstBadHeld (book .b) (book .held))) 6 (firstBadHeld (book .b) (book .held)) _ k (p₄ .1) in
-        let p₆ = past (ltb 0 line) 7 line _ k (p₅ .1) in
-        (record {
-          version = p₁ .0;
-          inside = p₂ .0;
-          held-whole = p₃ .0;
-          lines-whole = p₄ .0;
-          held-good = p₅ .0;
-          lines-good = p₆ .0;
-        }, cc)
+        let p₆ = past (ltb 0 line) 7 line _ k (p₅ .1) in (
+          record {
+            version = p₁ .0;
+            inside = p₂ .0;
+            held-whole = p₃ .0;
+            lines-whole = p₄ .0;
+            held-good = p₅ .0;
+            lines-good = p₆ .0;
+          },
+          cc,
+        )
 
     -- the counts of a book that passes are those that were lent
     pub tested-counts : k ≡ countsOf book

@@ -9,7 +9,8 @@ use lib.ListN.{length, getD}
 use lib.Dec.{eqb}
 use borrow.Author.Tests.{eq-eqb, ne-eqb}
 use Rattle.book.specs.Good.{GoodLines}
-use Rattle.book.specs.Line.{lineCount, differenceAt, lengthAt}
+use Rattle.book.specs.Line.{lineCount, differenceAt, lengthAt, classAt}
+use Rattle.book.specs.Version.{toleranceOf}
 use Rattle.book.specs.declared.Book.{Book}
 use Rattle.network.specs.Standing.{Line, standing}
 use Rattle.network.specs.Codes.{codeOf, codes}
@@ -21,7 +22,7 @@ use Rattle.loops.specs.Report.{loopsOf}
 use Rattle.loops.proofs.EachLoop.{loop-runs-lines, loop-has-a-line, loop-has-few-lines}
 use Rattle.loops.proofs.Sounding.{lines-sound}
 use Rattle.loops.proofs.Table.{codes-length}
-use Rattle.rows.specs.Sums.{lineOf, lengthBy, allowsBy, riseBy, sumOf, lengthOf, allowsOf, riseOf, verdictOf, rowOf}
+use Rattle.rows.specs.Sums.{lineOf, lengthBy, toleranceBy, allowsBy, riseBy, sumOf, lengthOf, allowsOf, riseOf, verdictOf, rowOf}
 use Rattle.rows.specs.Sums.{Measured, Runs, RunIn}
 
 -- ---- where a standing line stands
@@ -32,6 +33,7 @@ pub record Place (ls : List ℤ) (l : Line) : Type 0 where
   pub number : l .number ≡ suc i
   pub difference : differenceAt ls i ≡ l .difference
   pub length : natAbs (lengthAt ls i) ≡ l .length
+  pub class : classAt ls i ≡ l .class
 
 place-of : (ls : List ℤ) (l : Line) → List·Memᴰ l (standing ls) → Place ls l
 place-of ls l m = let w = of-standing ls l m in record {
@@ -40,6 +42,7 @@ place-of ls l m = let w = of-standing ls l m in record {
   number = ap (λ (k : Line). k .number) (w .1 .its);
   difference = sym (ap (λ (k : Line). k .difference) (w .1 .its));
   length = sym (ap (λ (k : Line). k .length) (w .1 .its));
+  class = sym (ap (λ (k : Line). k .class) (w .1 .its));
 }
 
 -- its code leads there
@@ -93,10 +96,17 @@ module _ (ls : List ℤ) where
   unfolding lengthOf
   length-is lp f = sum-is (lengthBy ls) (λ (p : Pass). p .line .length) length-one lp f ∙ lengths-are lp
 
+  tolerance-one : (t : ℕ) (p : Pass) → List·Memᴰ (p .line) (standing ls)
+      → toleranceBy t ls (codeOf (p .forward) (p .line .number)) ≡ toleranceOf t (p .line .class)
+  unfolding toleranceBy
+  tolerance-one t p m =
+      let w = place-of ls (p .line) m in
+      rw (code-line (p .forward) (p .line .number) (w .i) (w .number)) (ap (toleranceOf t) (w .class))
+
   allows-one : (t : ℕ) (p : Pass) → List·Memᴰ (p .line) (standing ls)
       → allowsBy t ls (codeOf (p .forward) (p .line .number)) ≡ lineAllows t (p .line)
   unfolding allowsBy lineAllows
-  allows-one t p m = rw (length-one p m)
+  allows-one t p m = rw (tolerance-one t p m, length-one p m)
 
   allows-is : (t : ℕ) (lp : Loop) → Stand lp → allowsOf t ls (codes lp) ≡ total (allowances t lp)
   unfolding allowsOf allowances
@@ -143,6 +153,7 @@ module _ (k : Book) (ls : List ℤ) (good : GoodLines k ls) where
     few-lines = omega (arith, good .good .whole, good .good .few);
     differences = λ i h. good .good .each i (omega (arith, good .good .whole)) .difference;
     lengths = λ i h. good .good .each i (omega (arith, good .good .whole)) .long;
+    classes = λ i h. good .classes i (omega (arith, good .good .whole));
   }
 
   module _ (lp : Loop) (m : List·Memᴰ lp (loopsOf (k .marks) ls)) where

@@ -14,9 +14,10 @@ use Rattle.laws.proofs.Tests.{cond-ind}
 use Rattle.laws.proofs.Size.{size-neg}
 use Rattle.laws.proofs.Lists.{filled}
 use Rattle.book.specs.Limits.{mostLines, mostDifference, mostLength, mostTolerance}
-use Rattle.book.specs.Line.{lineCount, differenceAt}
+use Rattle.book.specs.Line.{lineCount, differenceAt, classAt}
+use Rattle.book.proofs.Versions.{tolerance-at-most}
 use Rattle.loops.specs.Row.{judgedAs, rowWords, rowClosing, rowCount, rowLength, rowMisclosure, rowVerdict}
-use Rattle.rows.specs.Sums.{lineOf, lengthBy, allowsBy, riseBy, sumOf, lengthOf, allowsOf, riseOf, verdictOf, rowOf}
+use Rattle.rows.specs.Sums.{lineOf, lengthBy, toleranceBy, allowsBy, riseBy, sumOf, lengthOf, allowsOf, riseOf, verdictOf, rowOf}
 use Rattle.rows.specs.Sums.{mostAllowed, squareLimit, Measured, Runs, LinesIn, RunIn}
 
 -- the run from place j on begins with what stands at j
@@ -71,11 +72,16 @@ pub length-size : (ls : List ℤ) (code : ℕ) → Measured ls → Runs ls code 
 unfolding lengthBy
 length-size ls code m r = m .lengths (lineOf code) (line-there r) .high
 
+pub tolerance-size : (t : ℕ) (ls : List ℤ) (code : ℕ) → t ≤ mostTolerance → Measured ls → Runs ls code → toleranceBy t ls code ≤ mostTolerance
+unfolding toleranceBy
+tolerance-size t ls code ht m r = tolerance-at-most t (classAt ls (lineOf code)) ht (m .classes (lineOf code) (line-there r))
+
 pub allows-size : (t : ℕ) (ls : List ℤ) (code : ℕ) → t ≤ mostTolerance → Measured ls → Runs ls code → allowsBy t ls code ≤ mostAllowed
 unfolding allowsBy
 allows-size t ls code ht m r =
     let longest : judgedAs (lengthBy ls code) ≤ mostLength = omega (arith, length-size ls code m r) in
-    mul-le-mul (mul-le-mul ht ht) longest
+    let wide = tolerance-size t ls code ht m r in
+    mul-le-mul (mul-le-mul wide wide) longest
 
 pub rise-size : (ls : List ℤ) (code : ℕ) → Measured ls → Runs ls code → natAbs (riseBy ls code) ≤ mostDifference
 unfolding riseBy

@@ -7,8 +7,9 @@ use lib.ListN.{length, getD}
 use lib.Dec.{eqb, leb}
 use Rattle.laws.specs.Range.{Between}
 use Rattle.book.specs.Limits.{mostMarks, mostLines, mostTolerance, mostDifference, leastLength, mostLength}
-use Rattle.book.specs.Line.{lineCount, differenceAt, lengthAt}
-use Rattle.loops.specs.Row.{judgedAs}
+use Rattle.book.specs.Line.{lineCount, differenceAt, lengthAt, classAt}
+use Rattle.book.specs.Version.{toleranceOf, Classed}
+use Rattle.loops.specs.Row.{allowedBy}
 
 -- a size from which a misclosure is over without squaring
 abbrev pub squareLimit : ℕ
@@ -22,10 +23,15 @@ lineOf code = code / 2 - 1
 unfoldable pub lengthBy : List ℤ → ℕ → ℕ
 lengthBy ls code = natAbs (lengthAt ls (lineOf code))
 
--- what it allows, at the tolerance t
+-- its tolerance, in a book of tolerance t
+unfoldable pub toleranceBy : ℕ → List ℤ → ℕ → ℕ
+unfolding toleranceOf
+toleranceBy t ls code = toleranceOf t (classAt ls (lineOf code))
+
+-- what it allows there
 unfoldable pub allowsBy : ℕ → List ℤ → ℕ → ℕ
-unfolding lengthBy
-allowsBy t ls code = t * t * judgedAs (lengthBy ls code)
+unfolding toleranceBy lengthBy
+allowsBy t ls code = allowedBy (toleranceBy t ls code) (lengthBy ls code)
 
 -- and what any line allows at most
 abbrev pub mostAllowed : ℕ
@@ -56,7 +62,7 @@ unfolding riseBy
 riseOf ls [] = pos 0
 riseOf ls (code ∷ run) = riseBy ls code +ℤ riseOf ls run
 
--- "a loop is within exactly if m*m <= 10*t*t*L; equal is within", over what its lines allow; 0 within, 1 over
+-- "within exactly if m*m is at most 10 times the sum over its lines", of what they allow; 0 within, 1 over
 unfoldable pub verdictOf : ℕ → ℤ → ℤ
 verdictOf allowed m = cond (leb (natAbs m * natAbs m) (10 * allowed)) (pos 0) (pos 1)
 
@@ -66,11 +72,12 @@ unfolding lengthOf allowsOf riseOf verdictOf
 rowOf t ls run =
     pos (getD run 0 0 / 2) ∷ pos (length run) ∷ pos (lengthOf ls run) ∷ riseOf ls run ∷ verdictOf (allowsOf t ls run) (riseOf ls run) ∷ []
 
--- the count of lines, and every line's difference and length, are within their limits
+-- the count of lines, and every line's difference, length and class, are within their limits
 pub record Measured (ls : List ℤ) : Type 0 where
   pub few-lines : lineCount ls ≤ mostLines
   pub differences : (i : ℕ) → i < lineCount ls → natAbs (differenceAt ls i) ≤ mostDifference
   pub lengths : (i : ℕ) → i < lineCount ls → Between leastLength mostLength (lengthAt ls i)
+  pub classes : (i : ℕ) → i < lineCount ls → Classed (classAt ls i)
 
 -- the code runs a line of the book
 pub record Runs (ls : List ℤ) (code : ℕ) : Type 0 where

@@ -9,9 +9,10 @@ ghost use Rattle.book.specs.Good.{GoodLines};
 ghost use Rattle.loops.specs.Row.{judgedAs, rowWords};
 ghost use Rattle.loops.specs.Report.{loopsOf, reportOf};
 ghost use Rattle.loops.specs.Table.{Table};
-ghost use Rattle.rows.specs.Sums.{lengthBy, allowsBy, riseBy, lengthOf, allowsOf, riseOf, verdictOf, rowOf, mostAllowed};
-ghost use Rattle.rows.specs.Sums.{Measured, Runs, LinesIn, RunIn};
+ghost use Rattle.rows.specs.Sums.{lengthBy, toleranceBy, allowsBy, riseBy, lengthOf, allowsOf, riseOf, verdictOf, rowOf};
+ghost use Rattle.rows.specs.Sums.{mostAllowed, Measured, Runs, LinesIn, RunIn};
 use book::Book;
+use book::class;
 use book::line::Line;
 
 // "A report row is five numbers": how many, which is which, and how many the report of any book has.
@@ -51,14 +52,25 @@ fn judged_as(metres: usize) -> usize
     metres
 }
 
-// What it allows, at the tolerance t.
+// Its tolerance, in a book of tolerance t.
+fn tolerance_by(lines: &[i64], code: usize, t: usize) -> usize
+    requires { ⌜ Measured (now lines) ⌝
+        ∗ ⌜ Runs (now lines) code ⌝
+        ∗ ⌜ t ≤ mostTolerance ⌝ }
+    ensures { λ r. ⌜ (r ≡ toleranceBy t (now (lines .entry)) code) × (r ≤ mostTolerance) ⌝ }
+{
+    class::tolerance(lines[(code / 2 - 1) * Line::WORDS + Line::CLASS], t)
+}
+
+// What it allows there.
 fn allows_by(lines: &[i64], code: usize, t: usize) -> usize
     requires { ⌜ Measured (now lines) ⌝
         ∗ ⌜ Runs (now lines) code ⌝
         ∗ ⌜ t ≤ mostTolerance ⌝ }
     ensures { λ r. ⌜ (r ≡ allowsBy t (now (lines .entry)) code) × (r ≤ mostAllowed) ⌝ }
 {
-    t * t * judged_as(length_by(lines, code))
+    let tolerance = tolerance_by(lines, code, t);
+    tolerance * tolerance * judged_as(length_by(lines, code))
 }
 
 // Its difference, in the sense of the code.
@@ -89,7 +101,7 @@ pub fn run_length(lines: &[i64], run: &[u16]) -> usize
     sum
 }
 
-// What the lines of a run allow, at the tolerance t.
+// What the lines of a run allow, in a book of tolerance t.
 fn run_allows(lines: &[i64], run: &[u16], t: usize) -> usize
     requires { ⌜ Measured (now lines) ⌝
         ∗ ⌜ LinesIn (now lines) (now run) ⌝
@@ -156,7 +168,7 @@ fn write_row(
     out[ROW_VERDICT] = verdict;
 }
 
-// The row of the loop with this run, at the tolerance t.
+// The row of the loop with this run, in a book of tolerance t.
 pub fn row_of(lines: &[i64], run: &[u16], out: &mut [i64], t: usize)
     requires { ⌜ Measured (now lines) ⌝
         ∗ ⌜ RunIn (now lines) (now run) ⌝

@@ -11,19 +11,21 @@ use Rattle.rows.proofs.allows_by.Tie as tie
 
 mul-result : tie.Need-mul-result
 mul-result c =
-    let q : c .args .t * c .args .t ≤ mostTolerance * mostTolerance = mul-le-mul (c .pre .1 .1) (c .pre .1 .1) in
+    let h = c .tolerance-by .ensures .1 in
+    let q : c .tolerance-by .result * c .tolerance-by .result ≤ mostTolerance * mostTolerance = mul-le-mul h h in
     omega arith
 
 -- what is answered, and that it is small
-allowed : (c : tie.After-judged-as) → (let entry : tie.Start = search in
-    let r = entry .args .t * entry .args .t * c .judged-as .result in
+allowed : (c : tie.After-judged-as) → (let entry : tie.Start = search in let x : tie.After-tolerance-by = search in
+    let r = x .tolerance-by .result * x .tolerance-by .result * c .judged-as .result in
     (r ≡ allowsBy (entry .args .t) (entry .args .lines .now) (entry .args .code)) × (r ≤ mostAllowed))
 unfolding allowsBy
 allowed c =
     let entry : tie.Start = search in
+    let x : tie.After-tolerance-by = search in
     let l : tie.After-length-by = search in
     let p = entry .pre in
-    rw (c .judged-as .ensures, l .length-by .ensures) (refl, allows-size _ _ _ (p .1 .1) (p .0) (p .1 .0))
+    rw (c .judged-as .ensures, l .length-by .ensures, x .tolerance-by .ensures .0) (refl, allows-size _ _ _ (p .1 .1) (p .0) (p .1 .0))
 
 mul-result-2 : tie.Need-mul-result-2
 mul-result-2 c = omega (arith, allowed c .1)
@@ -35,6 +37,7 @@ pub allows-by-spec : {M : Type 1} → statement M
 allows-by-spec =
     tie.close
     (tie.spec
+    (λ c κs. search needs)  -- tolerance-by-requires
     mul-result
     (λ c κs. search needs)  -- length-by-requires
     (λ c κs. search needs)  -- judged-as-requires
