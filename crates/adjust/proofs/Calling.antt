@@ -30,11 +30,11 @@ good-entries k book g = record {
 module _ (book : Lent) (out : List ℤ) where
   pub by-refusal : (r : Refusal) → testOf book ≡ Refused r → adjustOf book out ≡ adjusted (refusedWith r) out
   unfolding adjustOf
-  by-refusal = if-refused book (λ r. adjusted (refusedWith r) out) (λ k. adjustGood k (book .held) (book .lines) out)
+  by-refusal = if-refused (testOf book) (λ r. adjusted (refusedWith r) out) (λ k. adjustGood k (book .held) (book .lines) out)
 
   pub by-good-book : (k : Book) → testOf book ≡ Good k → adjustOf book out ≡ adjustGood k (book .held) (book .lines) out
   unfolding adjustOf
-  by-good-book = if-good book (λ r. adjusted (refusedWith r) out) (λ k. adjustGood k (book .held) (book .lines) out)
+  by-good-book = if-good (testOf book) (λ r. adjusted (refusedWith r) out) (λ k. adjustGood k (book .held) (book .lines) out)
 
 -- what is given by an answer and the heights that it leaves
 module _ (a : Adjusted) (z out : List ℤ) where

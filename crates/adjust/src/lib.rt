@@ -40,26 +40,38 @@ pub(crate) fn settled_at(sweeps: usize) -> Adjusted
 
 // The adjusted heights of the marks. Refusals 4, 6, 7, 10, 11, then 12 or 13 by whichever comes first; a refusal leaves the heights as
 // they were.
-pub fn adjust(b: i64, t: i64, held: &[i64], lines: &[i64], heights: &mut [i64]) -> Adjusted
+pub fn adjust(
+    version: i64,
+    b: i64,
+    t: i64,
+    held: &[i64],
+    lines: &[i64],
+    heights: &mut [i64],
+) -> Adjusted
     ensures { λ r. ⌜ adjusted r (now (heights .exit))
-        ≡ adjustOf (lent b t (now (held .entry)) (now (lines .entry))) (now (heights .entry)) ⌝ }
+        ≡ adjustOf (lent version b t (now (held .entry)) (now (lines .entry))) (now (heights .entry)) ⌝ }
 {
-    match book::test(b, t, held, lines) {
+    match book::test(version, b, t, held, lines) {
         Tested::Refused(r) => refused(r),
         Tested::Good(book) => heights::adjust_good(book, held, lines, heights),
     }
 }
 
 // A line's correction rate by the lent heights. Refusals 4, 6, 7, 8 and 13.
-pub fn rate(b: i64, t: i64, held: &[i64], lines: &[i64], heights: &[i64], line: i64) -> RateAnswer
-    ensures { λ r. ⌜ r ≡ rateAnswer (lent b t (now (held .entry)) (now (lines .entry))) (now (heights .entry)) line ⌝ }
+pub fn rate(
+    version: i64,
+    b: i64,
+    t: i64,
+    held: &[i64],
+    lines: &[i64],
+    heights: &[i64],
+    line: i64,
+) -> RateAnswer
+    ensures { λ r. ⌜ r ≡ rateAnswer (lent version b t (now (held .entry)) (now (lines .entry))) (now (heights .entry)) line ⌝ }
 {
-    if signed::same(signed::signed_count(heights.len()), b) {
-        let tested = book::test(b, t, held, lines);
-        return match tested {
-            Tested::Refused(r) => rates::refused(r),
-            Tested::Good(book) => rates::good_rate(lines, heights, book, line),
-        };
+    let outside = !signed::same(signed::signed_count(heights.len()), b);
+    match book::test_beside(outside, version, b, t, held, lines) {
+        Tested::Refused(r) => rates::refused(r),
+        Tested::Good(book) => rates::good_rate(lines, heights, book, line),
     }
-    rates::refuse(4, 0)
 }

@@ -28,7 +28,7 @@ use Rattle.book.specs.declared.Book.{Book}
 use Rattle.book.specs.declared.Refusal.{Refusal}
 use Rattle.book.specs.declared.Tested.{Tested}
 use Rattle.book.specs.declared.Tested.the-variants.{Good, Refused}
-use Rattle.book.proofs.Versions.{natural-tolerance, versioned, small-tolerance, classes}
+use Rattle.book.proofs.Versions.{natural-tolerance, versioned, known-version, small-tolerance, classes}
 
 none-first : (n : ℕ) → ltb 0 n ≡ false → n ≡ 0
 none-first n e = let z = ltb-false 0 n e in omega arith
@@ -259,6 +259,7 @@ module _ (book : Lent) where
 -- a good book has good lines
 pub good-lines : (k : Book) (book : Lent) → GoodBook k book → GoodLines k (book .lines)
 good-lines k book g = record {
+  known-version = known-version (g .by-version);
   a-mark = g .a-mark;
   few-marks = g .few-marks;
   small-tolerance = small-tolerance (g .by-version);

@@ -78,6 +78,10 @@ module _ {lines : List ℤ} {n : ℕ} where
 
   -- ---- what the work on the lines uses
 
+  pub known-version : {version t : ℕ} → Versioned lines n version t → version ≤ mostVersion
+  known-version (single l h c) = omega arith
+  known-version (classed c) = omega arith
+
   pub small-tolerance : {version t : ℕ} → Versioned lines n version t → t ≤ mostTolerance
   small-tolerance (single l h c) = h
   small-tolerance (classed c) = omega arith

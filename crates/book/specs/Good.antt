@@ -7,7 +7,7 @@ use Prim.Native.Nat.{ℕ, _*_, _≤_, _<_}
 use lib.ListN.{length}
 use lib.IntN.{ℤ, pos, natAbs}
 use Rattle.laws.specs.Range.{Between}
-use Rattle.book.specs.Limits.{leastMarks, mostMarks, mostLines, mostHeld, leastTolerance, mostTolerance}
+use Rattle.book.specs.Limits.{mostVersion, leastMarks, mostMarks, mostLines, mostHeld, leastTolerance, mostTolerance}
 use Rattle.book.specs.Limits.{mostDifference, leastLength, mostLength, mostHeldHeight, leastClass, mostClass}
 use Rattle.book.specs.Version.{noClass, Classed}
 use Rattle.book.specs.Held.{heldWords, markAt, heightAt}
@@ -59,9 +59,10 @@ pub record GoodBook (k : Book) (book : Lent) : Type 0 where
   pub held-good : HeldEntries (book .held) (k .marks) (k .held)
   pub lines-good : Lines (book .lines) (k .marks) (k .lines)
 
--- what the work on the lines uses of it: its counts, its tolerance, that every line is good, and that its class, if it has one, is one of
--- the table's
+-- what the work on the lines uses of it: its version, its counts, its tolerance, that every line is good, and that its class, if it has
+-- one, is one of the table's
 pub record GoodLines (k : Book) (lines : List ℤ) : Type 0 where
+  pub known-version : k .version ≤ mostVersion
   pub a-mark : leastMarks ≤ k .marks
   pub few-marks : k .marks ≤ mostMarks
   pub small-tolerance : k .tolerance ≤ mostTolerance

@@ -75,7 +75,7 @@ module _ (file : List ℕ) (held lines : List ℤ) where
 
   body : (k : Book) → ReadOrRefused (bodyOf file k held lines)
   unfolding bodyOf GoodFile
-  body k = either-way (bookIn file k) _ _ ReadOrRefused bad good
+  body k = either-way (testOf (bookIn file k)) _ _ ReadOrRefused bad good
     where
       bad : (r : Refusal) → testOf (bookIn file k) ≡ Refused r → ReadOrRefused (answered held lines (refusedWith r))
       bad r e = let w = tested-numbered (bookIn file k) r e in refuses (r .number) (r .place) (w .low) (omega (arith, w .high)) (w .near)

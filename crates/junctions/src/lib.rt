@@ -56,6 +56,7 @@ fn refused(refusal: Refusal) -> Sketched
 
 // The sketch of the book. A refusal leaves each output as it was.
 pub fn sketch(
+    version: i64,
     b: i64,
     t: i64,
     held: &[i64],
@@ -66,10 +67,10 @@ pub fn sketch(
     run: &mut [i64],
 ) -> Sketched
     ensures { λ r. ⌜ drawing r (lists (now (links .exit)) (now (spurs .exit)) (now (loops .exit)) (now (run .exit)))
-        ≡ sketchCall (lent b t (now (held .entry)) (now (lines .entry)))
+        ≡ sketchCall (lent version b t (now (held .entry)) (now (lines .entry)))
         (lists (now (links .entry)) (now (spurs .entry)) (now (loops .entry)) (now (run .entry))) ⌝ }
 {
-    match book::test(b, t, held, lines) {
+    match book::test(version, b, t, held, lines) {
         Tested::Refused(r) => refused(r),
         Tested::Good(book) => sketch_good(book, lines, links, spurs, loops, run),
     }

@@ -119,7 +119,7 @@ given-small b out (refused number place) few h = answer-small number place 0 (h 
 pub adjust-small : (book : Lent) (heights : List ℤ) → SmallAdjusted (adjustOf book heights .answer)
 unfolding adjustOf adjustGood
 adjust-small book heights =
-    either-way book _ _ (λ (o : Given). SmallAdjusted (o .answer))
+    either-way (testOf book) _ _ (λ (o : Given). SmallAdjusted (o .answer))
     (λ r e. let n = tested-numbered book r e in answer-small (r .number) (r .place) 0 (omega (arith, n .high)) (n .near) (omega arith))
     (λ k e.
     cond-ind (λ (o : Given). SmallAdjusted (o .answer)) (ltb (length heights) (k .marks)) _ _

@@ -18,12 +18,14 @@ use Rattle.book.specs.Limits.{mostDifference, mostLines}
 use Rattle.book.specs.Line.{differenceOut, standingAt}
 use Rattle.book.specs.Height.{workHeightOut}
 use Rattle.book.specs.Lent.{Lent}
-use Rattle.book.specs.Test.{refusal, testOf}
+use Rattle.book.specs.Test.{refusal, testOf, testBeside}
 use Rattle.book.specs.declared.Book.{Book}
 use Rattle.book.specs.declared.Refusal.{Refusal}
+use Rattle.book.specs.declared.Tested.{Tested}
 use Rattle.book.specs.declared.Tested.the-variants.{Good, Refused}
 use Rattle.book.proofs.IfGood.{either-way}
-use Rattle.book.proofs.Goods.{tested-good, tested-numbered, good-lines}
+use Rattle.book.proofs.Goods.{Numbered, tested-good, tested-numbered, beside-passes, beside-numbered, good-lines}
+use Rattle.book.proofs.Versions.{known-version, small-tolerance}
 use Rattle.network.specs.Standing.{standing}
 use Rattle.network.proofs.Entries.{tree-lines-count}
 use Rattle.book.specs.Good.{GoodLines}
@@ -43,7 +45,7 @@ use Rattle.junctions.specs.Call as junctions
 use Rattle.junctions.specs.Call.{Lists, Drawing, listsOf, anyShort, sketchIn, drawnInto, sketchGood, sketchCall}
 use Rattle.junctions.proofs.Few.{few}
 use Rattle.rates.specs.Rates as rates
-use Rattle.rates.specs.Rates.{lineRate, firstHigh, goodRate, rateAnswer}
+use Rattle.rates.specs.Rates.{lineRate, firstHigh, goodRate, heightsOut, rateAnswer}
 use Rattle.rates.proofs.Rating.{marks-of}
 use Rattle.file.specs.Read.{readOf}
 use Rattle.file.proofs.Reading.{ReadOrRefused, read-or-refused}
@@ -60,14 +62,16 @@ read-small file held lines = go (read-or-refused file held lines)
     go (inl r) = let g = r .good in
         subst SmallRead (sym (r .answer)) (record {
           refusal = record { number = omega arith; place = omega arith };
+          version = omega (arith, known-version (g .by-version));
           b = omega (arith, g .few-marks);
-          t = omega (arith, g .small-tolerance);
+          t = omega (arith, small-tolerance (g .by-version));
           h = omega (arith, g .held-good .few);
           n = omega (arith, g .lines-good .few);
         })
     go (inr f) =
         subst SmallRead (sym (f .answer)) (record {
           refusal = record { number = omega (arith, f .high); place = omega (arith, f .near) };
+          version = omega arith;
           b = omega arith;
           t = omega arith;
           h = omega arith;
@@ -123,8 +127,11 @@ sketched-small k lines g =
 
 module _ (book : Lent) where
   -- the test's own refusals
+  numbered-small : (r : Refusal) → Numbered r → SmallAnswer (survey.refusedWith r)
+  numbered-small r n = refusal-small (r .number) (r .place) (omega (arith, n .high)) (n .near)
+
   tested-small : (r : Refusal) → testOf book ≡ Refused r → SmallAnswer (survey.refusedWith r)
-  tested-small r e = let n = tested-numbered book r e in refusal-small (r .number) (r .place) (omega (arith, n .high)) (n .near)
+  tested-small r e = numbered-small r (tested-numbered book r e)
 
   good-of : (k : Book) → testOf book ≡ Good k → GoodLines k (book .lines)
   good-of k e = good-lines k book (tested-good book k e)
@@ -132,7 +139,7 @@ module _ (book : Lent) where
   pub survey-small : (rows : List ℤ) → SmallAnswer (surveyOf book rows .answer)
   unfolding surveyOf surveyGood
   survey-small rows =
-      either-way book _ _ (λ (s : Surveyed). SmallAnswer (s .answer)) tested-small (λ k e.
+      either-way (testOf book) _ _ (λ (s : Surveyed). SmallAnswer (s .answer)) tested-small (λ k e.
       cond-ind (λ (s : Surveyed). SmallAnswer (s .answer)) (ltb (length rows)
       (length (reportOf (k .marks) (k .tolerance) (book .lines)))) _ _
       (λ _. refusal-small 10 0 (omega arith) (omega arith))
@@ -140,11 +147,12 @@ module _ (book : Lent) where
 
   module _ (report : List ℤ) (number : ℤ) where
     -- a correction leaves a good book good
-    corrected-small : (new : List ℤ) → ((k : Book) → testOf book ≡ Good k → noLine (book .lines) number ≡ false → GoodLines k new)
-        → SmallAnswer (correctOf book report number new .answer)
+    corrected-small : (tested : Tested) (new : List ℤ) → ((r : Refusal) → tested ≡ Refused r → SmallAnswer (survey.refusedWith r))
+        → ((k : Book) → tested ≡ Good k → noLine (book .lines) number ≡ false → GoodLines k new)
+        → SmallAnswer (correctOf tested book report number new .answer)
     unfolding correctOf correctGood
-    corrected-small new good =
-        either-way book _ _ (λ (s : Corrected). SmallAnswer (s .answer)) tested-small (λ k e.
+    corrected-small tested new bad good =
+        either-way tested _ _ (λ (s : Corrected). SmallAnswer (s .answer)) bad (λ k e.
         cond-ind (λ (s : Corrected). SmallAnswer (s .answer)) (noLine (book .lines) number) _ _
         (λ _. refusal-small 8 0 (omega arith) (omega arith))
         (λ stands.
@@ -155,16 +163,17 @@ module _ (book : Lent) where
     pub rerun-small : (difference : ℤ) → SmallAnswer (rerunOf book report number difference .answer)
     unfolding rerunOf differenceOut
     rerun-small difference =
-        cond-ind (λ (s : Corrected). SmallAnswer (s .answer)) (differenceOut difference) _ _
-        (λ _. refusal-small 4 0 (omega arith) (omega arith))
-        (λ inside. corrected-small (rerunLines (book .lines) number difference)
-        (λ k e stands. rerun-lines-good k (book .lines) (good-of k e) number (natAbs number - 1) (stands-of (book .lines) number stands)
-        difference (size-within mostDifference difference inside)))
+        let outside = differenceOut difference in
+        corrected-small (testBeside outside book) (rerunLines (book .lines) number difference)
+        (λ r e. numbered-small r (beside-numbered book outside r e))
+        (λ k e stands. let p = beside-passes book outside k e in
+        rerun-lines-good k (book .lines) (good-of k (p .1)) number (natAbs number - 1) (stands-of (book .lines) number stands)
+        difference (size-within mostDifference difference (p .0)))
 
     pub withdraw-small : SmallAnswer (withdrawOf book report number .answer)
     unfolding withdrawOf
     withdraw-small =
-        corrected-small (withdrawLines (book .lines) number)
+        corrected-small (testOf book) (withdrawLines (book .lines) number) tested-small
         (λ k e stands. withdrawn-lines-good k (book .lines) (good-of k e) number (natAbs number - 1)
         (stands-of (book .lines) number stands))
 
@@ -175,7 +184,7 @@ module _ (book : Lent) where
     pub listing-small : (number : ℤ) → SmallListed (listingOf book number out .answer)
     unfolding listingOf listingGood
     listing-small number =
-        either-way book _ _ (λ (o : Listing). SmallListed (o .answer)) untested-small (λ k e.
+        either-way (testOf book) _ _ (λ (o : Listing). SmallListed (o .answer)) untested-small (λ k e.
         cond-ind (λ (o : Listing). SmallListed (o .answer)) (outZ (pos 1) (pos (length (loopsOf (k .marks) (book .lines)))) number) _ _
         (λ _. unlisted-small 8 0 (omega arith) (omega arith))
         (λ _. list-small (map listed (loopAt (loopsOf (k .marks) (book .lines)) (natAbs number - 1))) out small))
@@ -183,13 +192,13 @@ module _ (book : Lent) where
     pub listings-small : SmallListed (listingsOf book out .answer)
     unfolding listingsOf listingsGood
     listings-small =
-        either-way book _ _ (λ (o : Listing). SmallListed (o .answer)) untested-small
+        either-way (testOf book) _ _ (λ (o : Listing). SmallListed (o .answer)) untested-small
         (λ k e. list-small (listings (loopsOf (k .marks) (book .lines))) out small)
 
     pub not-checked-small : SmallListed (notCheckedOf book out .answer)
     unfolding notCheckedOf
     not-checked-small =
-        either-way book _ _ (λ (o : Listing). SmallListed (o .answer)) untested-small
+        either-way (testOf book) _ _ (λ (o : Listing). SmallListed (o .answer)) untested-small
         (λ k e. list-small (uncheckedOf (k .marks) (book .lines)) out small)
 
   module _ (heights : List ℤ) (line : ℤ) where
@@ -220,18 +229,16 @@ module _ (book : Lent) where
     pub rate-small : SmallRate (rateAnswer book heights line)
     unfolding rateAnswer
     rate-small =
-        cond-ind SmallRate (eqZ (pos (length heights)) (book .b)) _ _
-        (λ same.
-        either-way book _ _ SmallRate
-        (λ r e. let n = tested-numbered book r e in rate-refusal-small (r .number) (r .place) (omega (arith, n .high)) (n .near))
-        (λ k e. let g = tested-good book k e in good-small k (g .lines-good .few)
-        (omega (arith, marks-of book k e (length heights) same, g .few-marks))))
-        (λ _. rate-refusal-small 4 0 (omega arith) (omega arith))
+        let outside = heightsOut book heights in
+        either-way (testBeside outside book) _ _ SmallRate
+        (λ r e. let n = beside-numbered book outside r e in rate-refusal-small (r .number) (r .place) (omega (arith, n .high)) (n .near))
+        (λ k e. let p = beside-passes book outside k e in let g = tested-good book k (p .1) in
+        good-small k (g .lines-good .few) (omega (arith, marks-of book k (p .1) heights (p .0), g .few-marks)))
 
   pub sketch-small : (out : Lists) → SmallSketched (sketchCall book out .answer)
   unfolding sketchCall sketchGood drawnInto
   sketch-small out =
-      either-way book _ _ (λ (o : Drawing). SmallSketched (o .answer))
+      either-way (testOf book) _ _ (λ (o : Drawing). SmallSketched (o .answer))
       (λ r e. let n = tested-numbered book r e in unsketched-small (r .number) (r .place) (omega (arith, n .high)) (n .near))
       (λ k e.
       cond-ind (λ (o : Drawing). SmallSketched (o .answer)) (anyShort (listsOf (sketchIn (k .marks) (book .lines))) out) _ _

@@ -23,6 +23,7 @@ signedRefusal r = record { number = pos (r .number); place = pos (r .place) }
 
 pub record SmallRead (a : read.ReadAnswer) : Type 0 where
   pub refusal : SmallRefusal (a .refusal)
+  pub version : Small (a .version)
   pub b : Small (a .b)
   pub t : Small (a .t)
   pub h : Small (a .h)
@@ -31,7 +32,15 @@ pub record SmallRead (a : read.ReadAnswer) : Type 0 where
 unfoldable pub signedRead : read.ReadAnswer → ReadAnswer
 signedRead a =
     let r = signedRefusal (a .refusal) in
-    record { number = r .number; place = r .place; b = pos (a .b); t = pos (a .t); h = pos (a .h); n = pos (a .n) }
+    record {
+      number = r .number;
+      place = r .place;
+      version = pos (a .version);
+      b = pos (a .b);
+      t = pos (a .t);
+      h = pos (a .h);
+      n = pos (a .n);
+    }
 
 pub record ReadNow : Type 0 where
   pub answer : ReadAnswer

@@ -41,6 +41,7 @@ fn signed_refusal(r: Refusal) -> SignedRefusal
 pub struct ReadAnswer {
     pub number: i64,
     pub place: i64,
+    pub version: i64,
     pub b: i64,
     pub t: i64,
     pub h: i64,
@@ -56,6 +57,7 @@ fn read_answer(a: file::ReadAnswer) -> ReadAnswer
     ReadAnswer {
         number: r.number,
         place: r.place,
+        version: signed::signed_count(a.version),
         b: signed::signed_count(a.b),
         t: signed::signed_count(a.t),
         h: signed::signed_count(a.h),
@@ -96,6 +98,7 @@ fn survey_answer(a: survey::Answer) -> Answer
 
 #[no_mangle]
 pub extern "C" fn level_survey(
+    version: i64,
     b: i64,
     t: i64,
     held: &[i64],
@@ -103,13 +106,14 @@ pub extern "C" fn level_survey(
     rows: &mut [i64],
 ) -> Answer
     ensures { λ r. ⌜ surveyNow r (now (rows .exit))
-        ≡ ofSurvey (surveyOf (lent b t (now (held .entry)) (now (lines .entry))) (now (rows .entry))) ⌝ }
+        ≡ ofSurvey (surveyOf (lent version b t (now (held .entry)) (now (lines .entry))) (now (rows .entry))) ⌝ }
 {
-    survey_answer(survey::survey(b, t, held, lines, rows))
+    survey_answer(survey::survey(version, b, t, held, lines, rows))
 }
 
 #[no_mangle]
 pub extern "C" fn level_rerun(
+    version: i64,
     b: i64,
     t: i64,
     held: &[i64],
@@ -119,13 +123,14 @@ pub extern "C" fn level_rerun(
     difference: i64,
 ) -> Answer
     ensures { λ r. ⌜ correctionNow r (now (lines .exit)) (now (report .exit))
-        ≡ ofCorrection (rerunOf (lent b t (now (held .entry)) (now (lines .entry))) (now (report .entry)) line difference) ⌝ }
+        ≡ ofCorrection (rerunOf (lent version b t (now (held .entry)) (now (lines .entry))) (now (report .entry)) line difference) ⌝ }
 {
-    survey_answer(survey::rerun(b, t, held, lines, report, line, difference))
+    survey_answer(survey::rerun(version, b, t, held, lines, report, line, difference))
 }
 
 #[no_mangle]
 pub extern "C" fn level_withdraw(
+    version: i64,
     b: i64,
     t: i64,
     held: &[i64],
@@ -134,9 +139,9 @@ pub extern "C" fn level_withdraw(
     line: i64,
 ) -> Answer
     ensures { λ r. ⌜ correctionNow r (now (lines .exit)) (now (report .exit))
-        ≡ ofCorrection (withdrawOf (lent b t (now (held .entry)) (now (lines .entry))) (now (report .entry)) line) ⌝ }
+        ≡ ofCorrection (withdrawOf (lent version b t (now (held .entry)) (now (lines .entry))) (now (report .entry)) line) ⌝ }
 {
-    survey_answer(survey::withdraw(b, t, held, lines, report, line))
+    survey_answer(survey::withdraw(version, b, t, held, lines, report, line))
 }
 
 // What the two listings answer.
@@ -162,6 +167,7 @@ fn listing_answer(a: lists::Listed) -> Listed
 
 #[no_mangle]
 pub extern "C" fn level_listing(
+    version: i64,
     b: i64,
     t: i64,
     held: &[i64],
@@ -170,13 +176,14 @@ pub extern "C" fn level_listing(
     out: &mut [i64],
 ) -> Listed
     ensures { λ r. ⌜ listingNow r (now (out .exit))
-        ≡ ofListing (listingOf (lent b t (now (held .entry)) (now (lines .entry))) number (now (out .entry))) ⌝ }
+        ≡ ofListing (listingOf (lent version b t (now (held .entry)) (now (lines .entry))) number (now (out .entry))) ⌝ }
 {
-    listing_answer(lists::listing(b, t, held, lines, number, out))
+    listing_answer(lists::listing(version, b, t, held, lines, number, out))
 }
 
 #[no_mangle]
 pub extern "C" fn level_listings(
+    version: i64,
     b: i64,
     t: i64,
     held: &[i64],
@@ -184,13 +191,14 @@ pub extern "C" fn level_listings(
     out: &mut [i64],
 ) -> Listed
     ensures { λ r. ⌜ listingNow r (now (out .exit))
-        ≡ ofListing (listingsOf (lent b t (now (held .entry)) (now (lines .entry))) (now (out .entry))) ⌝ }
+        ≡ ofListing (listingsOf (lent version b t (now (held .entry)) (now (lines .entry))) (now (out .entry))) ⌝ }
 {
-    listing_answer(lists::listings(b, t, held, lines, out))
+    listing_answer(lists::listings(version, b, t, held, lines, out))
 }
 
 #[no_mangle]
 pub extern "C" fn level_not_checked(
+    version: i64,
     b: i64,
     t: i64,
     held: &[i64],
@@ -198,9 +206,9 @@ pub extern "C" fn level_not_checked(
     out: &mut [i64],
 ) -> Listed
     ensures { λ r. ⌜ listingNow r (now (out .exit))
-        ≡ ofListing (notCheckedOf (lent b t (now (held .entry)) (now (lines .entry))) (now (out .entry))) ⌝ }
+        ≡ ofListing (notCheckedOf (lent version b t (now (held .entry)) (now (lines .entry))) (now (out .entry))) ⌝ }
 {
-    listing_answer(lists::not_checked(b, t, held, lines, out))
+    listing_answer(lists::not_checked(version, b, t, held, lines, out))
 }
 
 // What the sketch answers.
@@ -232,6 +240,7 @@ fn sketch_answer(a: junctions::Sketched) -> Sketched
 
 #[no_mangle]
 pub extern "C" fn level_sketch(
+    version: i64,
     b: i64,
     t: i64,
     held: &[i64],
@@ -242,10 +251,10 @@ pub extern "C" fn level_sketch(
     run: &mut [i64],
 ) -> Sketched
     ensures { λ r. ⌜ sketchNow r (lists (now (links .exit)) (now (spurs .exit)) (now (loops .exit)) (now (run .exit)))
-        ≡ ofSketch (sketchCall (lent b t (now (held .entry)) (now (lines .entry)))
+        ≡ ofSketch (sketchCall (lent version b t (now (held .entry)) (now (lines .entry)))
         (lists (now (links .entry)) (now (spurs .entry)) (now (loops .entry)) (now (run .entry)))) ⌝ }
 {
-    sketch_answer(junctions::sketch(b, t, held, lines, links, spurs, loops, run))
+    sketch_answer(junctions::sketch(version, b, t, held, lines, links, spurs, loops, run))
 }
 
 // What the adjustment answers.
@@ -271,6 +280,7 @@ fn adjust_answer(a: adjust::Adjusted) -> Adjusted
 
 #[no_mangle]
 pub extern "C" fn level_adjust(
+    version: i64,
     b: i64,
     t: i64,
     held: &[i64],
@@ -278,9 +288,9 @@ pub extern "C" fn level_adjust(
     heights: &mut [i64],
 ) -> Adjusted
     ensures { λ r. ⌜ adjustNow r (now (heights .exit))
-        ≡ ofAdjust (adjustOf (lent b t (now (held .entry)) (now (lines .entry))) (now (heights .entry))) ⌝ }
+        ≡ ofAdjust (adjustOf (lent version b t (now (held .entry)) (now (lines .entry))) (now (heights .entry))) ⌝ }
 {
-    adjust_answer(adjust::adjust(b, t, held, lines, heights))
+    adjust_answer(adjust::adjust(version, b, t, held, lines, heights))
 }
 
 // What the rate call answers: withdrawn is 1 of a withdrawn line, else 0.
@@ -327,6 +337,7 @@ fn rate_answer(a: RateAnswer) -> Rated
 
 #[no_mangle]
 pub extern "C" fn level_rate(
+    version: i64,
     b: i64,
     t: i64,
     held: &[i64],
@@ -334,7 +345,7 @@ pub extern "C" fn level_rate(
     heights: &[i64],
     line: i64,
 ) -> Rated
-    ensures { λ r. ⌜ r ≡ signedRate (rateAnswer (lent b t (now (held .entry)) (now (lines .entry))) (now (heights .entry)) line) ⌝ }
+    ensures { λ r. ⌜ r ≡ signedRate (rateAnswer (lent version b t (now (held .entry)) (now (lines .entry))) (now (heights .entry)) line) ⌝ }
 {
-    rate_answer(adjust::rate(b, t, held, lines, heights, line))
+    rate_answer(adjust::rate(version, b, t, held, lines, heights, line))
 }

@@ -41,11 +41,19 @@ pub(crate) fn entered(entries: usize) -> Listed
 }
 
 // The lines of one loop of the book, by the loop's number from 1, its closing line first. A refusal leaves the output as it was.
-pub fn listing(b: i64, t: i64, held: &[i64], lines: &[i64], number: i64, out: &mut [i64]) -> Listed
+pub fn listing(
+    version: i64,
+    b: i64,
+    t: i64,
+    held: &[i64],
+    lines: &[i64],
+    number: i64,
+    out: &mut [i64],
+) -> Listed
     ensures { λ r. ⌜ listing r (now (out .exit))
-        ≡ listingOf (lent b t (now (held .entry)) (now (lines .entry))) number (now (out .entry)) ⌝ }
+        ≡ listingOf (lent version b t (now (held .entry)) (now (lines .entry))) number (now (out .entry)) ⌝ }
 {
-    match book::test(b, t, held, lines) {
+    match book::test(version, b, t, held, lines) {
         Tested::Refused(r) => refused(r),
         Tested::Good(book) => loop_lists::listing_good(book, lines, number, out),
     }
@@ -53,20 +61,34 @@ pub fn listing(b: i64, t: i64, held: &[i64], lines: &[i64], number: i64, out: &m
 
 // The lines of all loops of the book, one loop after the other, each as its listing has them; the count of a loop's lines is the second
 // number of its row. A refusal leaves the output as it was.
-pub fn listings(b: i64, t: i64, held: &[i64], lines: &[i64], out: &mut [i64]) -> Listed
-    ensures { λ r. ⌜ listing r (now (out .exit)) ≡ listingsOf (lent b t (now (held .entry)) (now (lines .entry))) (now (out .entry)) ⌝ }
+pub fn listings(
+    version: i64,
+    b: i64,
+    t: i64,
+    held: &[i64],
+    lines: &[i64],
+    out: &mut [i64],
+) -> Listed
+    ensures { λ r. ⌜ listing r (now (out .exit)) ≡ listingsOf (lent version b t (now (held .entry)) (now (lines .entry))) (now (out .entry)) ⌝ }
 {
-    match book::test(b, t, held, lines) {
+    match book::test(version, b, t, held, lines) {
         Tested::Refused(r) => refused(r),
         Tested::Good(book) => loop_lists::listings_good(book, lines, out),
     }
 }
 
 // The standing lines that no closed circuit passes, by rising number. A refusal leaves the output as it was.
-pub fn not_checked(b: i64, t: i64, held: &[i64], lines: &[i64], out: &mut [i64]) -> Listed
-    ensures { λ r. ⌜ listing r (now (out .exit)) ≡ notCheckedOf (lent b t (now (held .entry)) (now (lines .entry))) (now (out .entry)) ⌝ }
+pub fn not_checked(
+    version: i64,
+    b: i64,
+    t: i64,
+    held: &[i64],
+    lines: &[i64],
+    out: &mut [i64],
+) -> Listed
+    ensures { λ r. ⌜ listing r (now (out .exit)) ≡ notCheckedOf (lent version b t (now (held .entry)) (now (lines .entry))) (now (out .entry)) ⌝ }
 {
-    match book::test(b, t, held, lines) {
+    match book::test(version, b, t, held, lines) {
         Tested::Refused(r) => refused(r),
         Tested::Good(book) => watch::not_checked_good(book, lines, out),
     }

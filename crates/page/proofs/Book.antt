@@ -25,9 +25,9 @@ use Rattle.page.specs.Page.{loopLines, loopsPage}
 module _ (k : Book) (ls : List ℤ) (g : GoodLines k ls) where
   -- the head and the loops
   pub loops-put : {f : Found} → f ≡ foundIn (k .marks) ls → {out out₁ out₂ : List ℕ} {r s : ℕ}
-      → Put out out₁ 0 r (headText (k .marks) (k .lines) (f .pieces) (f .count))
+      → Put out out₁ 0 r (headText (k .version) (k .marks) (k .lines) (f .pieces) (f .count))
       → Put out₁ out₂ r s (loopLines (k .tolerance) 1 (loopsOf (k .marks) ls))
-      → Put out out₂ 0 s (loopsPage (k .marks) (k .tolerance) (k .lines) ls)
+      → Put out out₂ 0 s (loopsPage k ls)
   unfolding loopsPage
   loops-put e p q = (rw e at p) then q
 

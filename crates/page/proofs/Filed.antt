@@ -1,5 +1,5 @@
 -- The text of a file is that of what the reader gives. Assumes nothing.
-use Prim.Native.Nat.{ℕ, _+_, _*_, _≤_}
+use Prim.Native.Nat.{ℕ, _*_, _≤_}
 use native.Mathlib.Omega.{arith}
 use mathlib.Core.Path.{_≡_, refl, sym, _∙_, ap, subst}
 use mathlib.Core.Bool.{cond}
@@ -22,8 +22,7 @@ use Rattle.file.specs.Owed.{BookRead}
 use Rattle.file.specs.declared.Head as head
 use Rattle.file.specs.declared.Head.{Head}
 use Rattle.file.specs.declared.ReadAnswer.{ReadAnswer}
-use Rattle.file.specs.declared.entry.Kind.the-variants.{Line}
-use Rattle.file.proofs.Entries.{entries-length}
+use Rattle.file.proofs.Entries.{lines-length}
 use Rattle.file.proofs.Heads.{head-states, head-numbered}
 use Rattle.file.proofs.Reading.{zero-is-read}
 use Rattle.book.specs.Good.{GoodLines}
@@ -32,7 +31,7 @@ use Rattle.page.specs.Filed.{BookText, statedText, fileText, bookLines, 
 
 -- the book that was read
 abbrev pub bookRead : ReadAnswer → Book
-bookRead a = record { marks = a .b; tolerance = a .t; held = a .h; lines = a .n }
+bookRead a = record { version = a .version; marks = a .b; tolerance = a .t; held = a .h; lines = a .n }
 
 -- of what was read: the book's text, or the refusal's line
 unfoldable readText : BookText → Outcome → List ℕ
@@ -41,20 +40,15 @@ readText text o =
     cond (eqb (a .refusal .number) 0) (text (bookRead a) (bookLines (bookRead a) (o .lines)))
     (refusedText (a .refusal .number) (a .refusal .place))
 
-lines-length : (file : List ℕ) (h n : ℕ) → length (linesOf file h n) ≡ n * lineWords
-unfolding linesOf
-lines-length file h n = entries-length Line file (13 + h * 10) n
-
 module _ (file : List ℕ) (held lines : List ℤ) (held-room : mostHeld * heldWords ≤ length held)
     (lines-room : mostLines * lineWords ≤ length lines) where
   room-text : (text : BookText) (k : Book) → k .held ≤ mostHeld → k .lines ≤ mostLines
-      → readText text (roomOf file k held lines) ≡ text k (linesOf file (k .held) (k .lines))
+      → readText text (roomOf file k held lines) ≡ text k (linesOf file k)
   unfolding readText roomOf
   room-text text k h n = rw (
     le-ltb (length held) (k .held * 2) (omega arith),
     le-ltb (length lines) (k .lines * lineWords) (omega arith),
-    take-at (linesOf file (k .held) (k .lines)) (drop (k .lines * lineWords) lines) (k .lines * lineWords)
-        (lines-length file (k .held) (k .lines)),
+    take-at (linesOf file k) (drop (k .lines * lineWords) lines) (k .lines * lineWords) (lines-length file k),
   )
 
   body-text : (text : BookText) (k : Book) → k .held ≤ mostHeld → k .lines ≤ mostLines
@@ -65,7 +59,7 @@ module _ (file : List ℕ) (held lines : List ℤ) (held-room : mostHeld * heldW
       go : (o : Tested) → testOf (bookIn file k) ≡ o
           → readText text (ifGood o (λ r. answered held lines (refusedWith r)) (λ _. roomOf file k held lines))
           ≡ ifGood o (λ r. refusedText (r .number) (r .place))
-          (λ _. text k (linesOf file (k .held) (k .lines)))
+          (λ _. text k (linesOf file k))
       go (Refused r) e =
           let w = tested-numbered (bookIn file k) r e in
           rw (ne-eqb (r .number) 0 (λ z. omega (arith, w .low)))
@@ -98,11 +92,11 @@ module _ (file : List ℕ) (held lines : List ℤ) (held-room : mostHeld * heldW
           subst (λ (x : Outcome). BookRead file held lines x) (sym e)
           (zero-is-read file held lines (sym (ap (λ (x : Outcome). x .answer .refusal .number) e) ∙ zero))
 
-      lines-are : bookLines (r .book) (o .lines) ≡ linesOf file (r .book .held) (r .book .lines)
+      lines-are : bookLines (r .book) (o .lines) ≡ linesOf file (r .book)
       lines-are =
           ap (take (r .book .lines * lineWords)) (r .lines-now)
-          ∙ take-at (linesOf file (r .book .held) (r .book .lines)) (drop (r .book .lines * lineWords) lines)
-          (r .book .lines * lineWords) (lines-length file (r .book .held) (r .book .lines))
+          ∙ take-at (linesOf file (r .book)) (drop (r .book .lines * lineWords) lines) (r .book .lines * lineWords)
+          (lines-length file (r .book))
 
       good-read : GoodLines (bookRead (o .answer)) (bookLines (bookRead (o .answer)) (o .lines))
       good-read =

@@ -1,5 +1,5 @@
--- No report is longer than the room that the report program lends: 512 loops of at most 1,338 bytes, a head of 122 and 2,577 for the last
--- line are 687,755.
+-- No report is longer than the room that the report program lends: 512 loops of at most 1,338 bytes, a head of 141 and 2,577 for the last
+-- line are 687,774.
 -- Assumes nothing.
 use Prim.Native.Nat.{ℕ, suc, _+_, _*_, _≤_}
 use native.Mathlib.Nat.{le-of-eq, le-trans}
@@ -36,7 +36,7 @@ use Rattle.text.specs.Put.{Put}
 use Rattle.text.proofs.Puts.{put-whole}
 use Rattle.text.proofs.Room.{LoopNumbers, head-room, loop-room, not-checked-room, refused-room}
 use Rattle.page.specs.Filed.{BookText, fileText}
-use Rattle.page.specs.Page.{loopLine, loopLines, loopsPage, bookPage, reportText, pageOf}
+use Rattle.page.specs.Page.{loopLine, loopLines, loopsPage, bookPage, pageOf}
 use Rattle.page.proofs.Filed.{refused-filed, book-filed}
 
 -- the bytes that the report program lends
@@ -85,7 +85,7 @@ module _ (k : Book) (ls : List ℤ) (g : GoodLines k ls) where
       let r = loops-room (suc number) lps (λ x i. h x (List·Memᴰ·tail i)) (omega arith) in
       rw length-append (omega arith)
 
-  book-fits : Fits (bookPage (k .marks) (k .tolerance) (k .lines) ls)
+  book-fits : Fits (bookPage k ls)
   unfolding bookPage loopsPage piecesOf
   book-fits =
       let b = k .marks in
@@ -94,9 +94,9 @@ module _ (k : Book) (ls : List ℤ) (g : GoodLines k ls) where
       let n = few-loops k ls g in
       let p = tree-lines-count b (standing ls) sound in
       le-trans
-      (together (headText b (k .lines) (piecesOf b ls) (length lps)) (loopLines (k .tolerance) 1 lps) (notCheckedText list)
-      (head-room b (k .lines) (piecesOf b ls) (length lps) (omega (arith, g .few-marks)) (omega (arith, g .good .few))
-      (omega (arith, g .few-marks)) (omega (arith, g .good .few)))
+      (together (headText (k .version) b (k .lines) (piecesOf b ls) (length lps)) (loopLines (k .tolerance) 1 lps) (notCheckedText list)
+      (head-room (k .version) b (k .lines) (piecesOf b ls) (length lps) (omega (arith, g .known-version)) (omega (arith, g .few-marks))
+      (omega (arith, g .good .few)) (omega (arith, g .few-marks)) (omega (arith, g .good .few)))
       (loops-room 1 lps (λ lp i. i) (omega (arith, g .good .few)))
       (not-checked-room list (few-listed k ls g) (listed-numbers k ls g)))
       (omega (arith, g .good .few))
@@ -131,7 +131,7 @@ module _ (text : BookText) (most : ℕ) (refusals : 53 ≤ most)
 
 pub page-fits : (file : List ℕ) → length (pageOf file) ≤ pageRoom
 unfolding pageOf
-page-fits = file-fits reportText pageRoom (omega arith) book-fits
+page-fits = file-fits bookPage pageRoom (omega arith) book-fits
 
 -- so that the program prints the whole report: what it hands on are the bytes up to the place after the page
 pub page-whole : (file out out′ : List ℕ) (next : ℕ) → pageRoom ≤ length out → Put out out′ 0 next (pageOf file)

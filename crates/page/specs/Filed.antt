@@ -16,7 +16,7 @@ use Rattle.file.specs.declared.Head as head
 use Rattle.file.specs.declared.Head.{Head}
 use Rattle.text.specs.Report.{refusedText}
 
--- what is printed of a good book: of its counts and its lines
+-- what is printed of a good book: of its version, its counts and its lines
 abbrev pub BookText : Type 0
 BookText = Book → List ℤ → List ℕ
 
@@ -26,7 +26,7 @@ unfolding refusedText testOf heldOf linesOf
 statedText text file (head.the-variants.Refused number) = refusedText number 0
 statedText text file (head.the-variants.States k) =
     ifGood (testOf (bookIn file k)) (λ r. refusedText (r .number) (r .place))
-    (λ _. text k (linesOf file (k .held) (k .lines)))
+    (λ _. text k (linesOf file k))
 
 -- of a file
 unfoldable pub fileText : BookText → List ℕ → List ℕ

@@ -23,20 +23,19 @@ unfolding loopLine
 loopLines t number [] = []
 loopLines t number (lp ∷ rest) = loopLine t number lp ++ loopLines t (suc number) rest
 
--- the report of a book of b marks and n lines up to its loops
-unfoldable pub loopsPage : ℕ → ℕ → ℕ → List ℤ → List ℕ
+-- the report of a book up to its loops
+unfoldable pub loopsPage : BookText
 unfolding headText loopLines loopsOf piecesOf
-loopsPage b t n lines = headText b n (piecesOf b lines) (length (loopsOf b lines)) ++ loopLines t 1 (loopsOf b lines)
+loopsPage k lines =
+    let loops = loopsOf (k .marks) lines in
+    headText (k .version) (k .marks) (k .lines) (piecesOf (k .marks) lines) (length loops) ++ loopLines (k .tolerance) 1 loops
 
 -- and with the lines that are not checked
-unfoldable pub bookPage : ℕ → ℕ → ℕ → List ℤ → List ℕ
+unfoldable pub bookPage : BookText
 unfolding loopsPage notCheckedText uncheckedOf
-bookPage b t n lines = loopsPage b t n lines ++ notCheckedText (uncheckedOf b lines)
-
-abbrev pub reportText : BookText
-reportText k lines = bookPage (k .marks) (k .tolerance) (k .lines) lines
+bookPage k lines = loopsPage k lines ++ notCheckedText (uncheckedOf (k .marks) lines)
 
 -- of a file
 unfoldable pub pageOf : List ℕ → List ℕ
 unfolding fileText bookPage
-pageOf file = fileText reportText file
+pageOf file = fileText bookPage file

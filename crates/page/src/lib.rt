@@ -75,6 +75,7 @@ fn read_book(file: &[u8], lines: &mut [i64]) -> Tested
         return Tested::Refused(refusal);
     }
     Tested::Good(Book {
+        version: read.version,
         marks: read.b,
         tolerance: read.t,
         held: read.h,

@@ -11,13 +11,21 @@ use book::Book;
 fn put_loops_of(book: Book, lines: &[i64], out: &mut [u8]) -> usize
     requires { ⌜ GoodLines book (now lines) ⌝ }
     ensures { λ r. ⌜ Put (now (out .entry)) (now (out .exit)) 0 r
-        (loopsPage (book .marks) (book .tolerance) (book .lines) (now (lines .entry))) ⌝ }
+        (loopsPage book (now (lines .entry))) ⌝ }
 {
     let mut starts = [0u64; table::STARTS];
     let mut runs = [0u16; table::RUNS];
     let found = table::find_loops(book, lines, &mut starts[..], &mut runs[..]);
     let count = found.count;
-    let at = text::head_text(out, 0, book.marks, book.lines, found.pieces, count);
+    let at = text::head_text(
+        out,
+        0,
+        book.version,
+        book.marks,
+        book.lines,
+        found.pieces,
+        count,
+    );
     loop_lines::put_loops(book, lines, &starts[..], &runs[..], count, out, at)
 }
 
@@ -36,7 +44,7 @@ fn put_unchecked(book: Book, lines: &[i64], out: &mut [u8], at: usize) -> usize
 pub(crate) fn put_book(book: Book, lines: &[i64], out: &mut [u8]) -> usize
     requires { ⌜ GoodLines book (now lines) ⌝ }
     ensures { λ r. ⌜ Put (now (out .entry)) (now (out .exit)) 0 r
-        (bookPage (book .marks) (book .tolerance) (book .lines) (now (lines .entry))) ⌝ }
+        (bookPage book (now (lines .entry))) ⌝ }
 {
     let at = put_loops_of(book, lines, out);
     put_unchecked(book, lines, out, at)

@@ -9,19 +9,18 @@ use lib.ListN.{length, getD}
 use lib.IntN.{ℤ, pos, natAbs}
 use borrow.Author.Tests.{ltb-true, ltb-false, eqb-true}
 use Rattle.laws.specs.Tests.{eqZ}
+use Rattle.laws.proofs.Tests.{not-false}
 use Rattle.laws.proofs.Scans.{none-bad}
 use Rattle.laws.proofs.Size.{size-within}
 use Rattle.book.specs.Limits.{mostHeight}
 use Rattle.book.specs.Height.{workHeightOut}
 use Rattle.book.specs.Lent.{Lent}
-use Rattle.book.specs.Test.{refusal, testOf}
+use Rattle.book.specs.Test.{testOf}
 use Rattle.fields.specs.Heights.{Working}
-use Rattle.rates.specs.Rates.{firstHigh, refusedWith, goodRate, rateAnswer}
+use Rattle.rates.specs.Rates.{firstHigh, heightsOut}
 use Rattle.book.specs.declared.Book.{Book}
-use Rattle.book.specs.declared.Refusal.{Refusal}
-use Rattle.book.specs.declared.Tested.the-variants.{Good, Refused}
+use Rattle.book.specs.declared.Tested.the-variants.{Good}
 use Rattle.book.proofs.Goods.{tested-good}
-use Rattle.rates.specs.declared.RateAnswer.{RateAnswer}
 use Rattle.fields.proofs.Setting.{past-end}
 
 -- lent heights none of which is outside
@@ -36,24 +35,10 @@ working-lent hs b e z = record { all = e; inside = λ j. by j (ltb j (length hs)
     by j false t = rw (past-end hs j (ltb-false j (length hs) t)) zero-le
 
 -- b heights
-pub marks-of : (book : Lent) (k : Book) → testOf book ≡ Good k → (n : ℕ) → eqZ (pos n) (book .b) ≡ true → n ≡ k .marks
-unfolding eqZ
-marks-of book k e n q =
+pub marks-of : (book : Lent) (k : Book) → testOf book ≡ Good k → (heights : List ℤ) → heightsOut book heights ≡ false
+    → length heights ≡ k .marks
+unfolding eqZ heightsOut
+marks-of book k e heights q =
     let g = tested-good book k e in
-    eqb-true n (k .marks) (subst (λ (z : ℤ). eqZ (pos n) z ≡ true) (g .marks) q)
-
--- the answer by the tests
-module _ (book : Lent) (heights : List ℤ) (line : ℤ) (r : RateAnswer) where
-  pub rate-four : eqZ (pos (length heights)) (book .b) ≡ false → r ≡ refusedWith (refusal 4 0) → r ≡ rateAnswer book heights line
-  unfolding rateAnswer
-  rate-four q e = rw q e
-
-  pub rate-refused : eqZ (pos (length heights)) (book .b) ≡ true → (f : Refusal) → testOf book ≡ Refused f → r ≡ refusedWith f
-      → r ≡ rateAnswer book heights line
-  unfolding rateAnswer
-  rate-refused q f h e = rw (q, h) e
-
-  pub rate-good : eqZ (pos (length heights)) (book .b) ≡ true → (k : Book) → testOf book ≡ Good k
-      → r ≡ goodRate heights (book .lines) k line → r ≡ rateAnswer book heights line
-  unfolding rateAnswer
-  rate-good q k h e = rw (q, h) e
+    let same = not-false (eqZ (pos (length heights)) (book .b)) q in
+    eqb-true (length heights) (k .marks) (subst (λ (z : ℤ). eqZ (pos (length heights)) z ≡ true) (g .marks) same)

@@ -1,7 +1,7 @@
 -- Document 01, "Adjustment": correction rates.
 -- Assumes nothing.
 use Prim.Native.Nat.{ℕ, _-_, _≤_}
-use mathlib.Core.Bool.{false, cond}
+use mathlib.Core.Bool.{Bool, false, not, cond}
 use mathlib.Core.List.{List}
 use lib.Dec.{ltb}
 use lib.ListN.{length, getD}
@@ -14,7 +14,7 @@ use Rattle.book.specs.Limits.{mostDifference}
 use Rattle.book.specs.Line.{lengthAt, standingAt, lineAt}
 use Rattle.book.specs.Height.{workHeightOut}
 use Rattle.book.specs.Lent.{Lent}
-use Rattle.book.specs.Test.{refusal, noRefusal, testOf, ifGood}
+use Rattle.book.specs.Test.{refusal, noRefusal, testBeside, ifGood}
 use Rattle.fields.specs.Heights.{height}
 use Rattle.book.specs.declared.Refusal.{Refusal}
 use Rattle.book.specs.declared.Book.{Book}
@@ -79,10 +79,12 @@ goodRate heights lines book line =
     (cond (ltb 0 (firstHigh heights)) (refusedWith (refusal 13 (firstHigh heights)))
     (lineRate heights lines (natAbs line) (natAbs line - 1)))
 
--- 4: "heights lent to be read not b in number"; then the book's own refusals
+-- 4: "heights lent to be read not b in number"
+unfoldable pub heightsOut : Lent → List ℤ → Bool
+heightsOut book heights = not (eqZ (pos (length heights)) (book .b))
+
+-- with it the book's own refusals, then the others
 unfoldable pub rateAnswer : Lent → List ℤ → ℤ → RateAnswer
-unfolding refusedWith goodRate testOf
+unfolding refusedWith goodRate heightsOut testBeside
 rateAnswer book heights line =
-    cond (eqZ (pos (length heights)) (book .b))
-    (ifGood (testOf book) refusedWith (λ k. goodRate heights (book .lines) k line))
-    (refusedWith (refusal 4 0))
+    ifGood (testBeside (heightsOut book heights) book) refusedWith (λ k. goodRate heights (book .lines) k line)

@@ -6,6 +6,7 @@ use mathlib.Core.List.{List, List·Memᴰ}
 use Prim.Native.Nat.{ℕ, suc, _-_, _≤_, _<_}
 use native.Mathlib.Decide.{ℕ-discrete}
 use native.Mathlib.Omega.{arith}
+use lib.Dec.{lit<}
 use lib.ListN.{length, set, length-set}
 use lib.Seq.{getD-set-same, getD-set-other}
 use lib.IntN.{ℤ, pos, natAbs}
@@ -14,8 +15,9 @@ use Rattle.laws.proofs.Tests.{or-left, or-right, eqZ-apart}
 use Rattle.laws.specs.Range.{Between}
 use Rattle.laws.proofs.Size.{between}
 use Rattle.book.specs.Limits.{mostDifference, mostLines}
-use Rattle.book.specs.Line.{fromField, toField, differenceField, lengthField, standingField, place, field, differenceAt, standingAt}
-use Rattle.book.specs.Line.{lineWords, lineCount}
+use Rattle.book.specs.Line.{fromField, toField, differenceField, lengthField, standingField, classField, place, field, differenceAt}
+use Rattle.book.specs.Line.{standingAt, lineWords, lineCount}
+use Rattle.book.proofs.Places.{field-kept}
 use Rattle.book.specs.Good.{GoodLine, GoodLines}
 use Rattle.book.specs.declared.Book.{Book}
 use Rattle.network.specs.Standing.{standing}
@@ -99,26 +101,30 @@ module _ (b : ℕ) (lines : List ℤ) (i p : ℕ) (v : ℤ) (inside : place i p 
       new (no h) = rw (same standingField (λ z. h (omega arith))) (g .standing)
 
 module _ (k : Book) (lines : List ℤ) (good : GoodLines k lines) (number : ℤ) (i : ℕ) (stands : Stands lines number i) where
-  with-lines : (p : ℕ) (v : ℤ) → ((j : ℕ) → GoodLine (k .marks) lines j → GoodLine (k .marks) (set lines p v) j)
-      → GoodLines k (set lines p v)
-  with-lines p v h = record {
+  -- a number before the class set leaves the classes as they were
+  with-lines : (f : ℕ) (v : ℤ) → f < classField
+      → ((j : ℕ) → GoodLine (k .marks) lines j → GoodLine (k .marks) (set lines (place i f) v) j)
+      → GoodLines k (set lines (place i f) v)
+  with-lines f v before h = record {
+    known-version = good .known-version;
     a-mark = good .a-mark;
     few-marks = good .few-marks;
     small-tolerance = good .small-tolerance;
-    good = record { few = good .good .few; whole = length-set lines p v ∙ good .good .whole; each = λ j l. h j (good .good .each j l) };
+    classes = λ j l. rw (field-kept lines i f v classField (omega arith) (lit< tt) (λ e. omega arith) j) (good .classes j l);
+    good = record { few = good .good .few; whole = length-set lines (place i f) v ∙ good .good .whole; each = λ j l. h j (good .good .each j l) };
   }
 
   -- with a difference inside its limit, or withdrawn, the line leaves the book good
   pub rerun-lines-good : (difference : ℤ) → natAbs difference ≤ mostDifference → GoodLines k (rerunLines lines number difference)
   unfolding rerunLines
   rerun-lines-good d small =
-      rw (place-is stands differenceField) (with-lines (place i differenceField) d
+      rw (place-is stands differenceField) (with-lines differenceField d (lit< tt)
       (λ j g. rerun-good (k .marks) lines i differenceField d (omega (arith, has-line stands)) j g refl small))
 
   pub withdrawn-lines-good : GoodLines k (withdrawLines lines number)
   unfolding withdrawLines
   withdrawn-lines-good =
-      rw (place-is stands standingField) (with-lines (place i standingField) (pos 0)
+      rw (place-is stands standingField) (with-lines standingField (pos 0) (lit< tt)
       (λ j g. withdrawal-good (k .marks) lines i standingField (pos 0) (omega (arith, has-line stands)) j g refl refl))
 
   -- the line itself, as a standing line

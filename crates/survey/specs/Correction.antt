@@ -1,4 +1,4 @@
--- What re-run and withdrawal answer, and what the book's lines and its kept report then hold: refusals 4, 6, 7, 8 and 9.
+-- What re-run and withdrawal answer, and what the book's lines and its kept report then hold: refusals 3, 4, 6, 7, 8 and 9.
 -- Assumes nothing.
 use mathlib.Core.Bool.{Bool, cond, _||_}
 use mathlib.Core.List.{List, _++_}
@@ -8,8 +8,9 @@ use lib.IntN.{ℤ, pos, natAbs}
 use Rattle.laws.specs.Tests.{outZ, eqZ}
 use Rattle.book.specs.Line.{place, differenceField, standingField, lineCount, standingAt, differenceOut}
 use Rattle.book.specs.Lent.{Lent}
-use Rattle.book.specs.Test.{refusal, testOf, ifGood}
+use Rattle.book.specs.Test.{refusal, testOf, testBeside, ifGood}
 use Rattle.book.specs.declared.Book.{Book}
+use Rattle.book.specs.declared.Tested.{Tested}
 unfoldable pub use Rattle.kept.specs.Other.{sameNumbers, otherReport}
 use Rattle.loops.specs.Report.{reportOf}
 use Rattle.survey.specs.Report.{refusedWith, counted}
@@ -42,11 +43,11 @@ correctGood k lines report number new =
     (cond (otherReport report before) (corrected (refusedWith (refusal 9 0)) lines report)
     (corrected (counted (k .marks) new) new (updated report before (reportOf (k .marks) (k .tolerance) new))))
 
--- and of a lent book's
-unfoldable pub correctOf : Lent → List ℤ → ℤ → List ℤ → Corrected
-unfolding correctGood testOf
-correctOf book report number new =
-    ifGood (testOf book) (λ r. corrected (refusedWith r) (book .lines) report)
+-- and of a lent book's, by what its test gave
+unfoldable pub correctOf : Tested → Lent → List ℤ → ℤ → List ℤ → Corrected
+unfolding correctGood
+correctOf tested book report number new =
+    ifGood tested (λ r. corrected (refusedWith r) (book .lines) report)
     (λ k. correctGood k (book .lines) report number new)
 
 -- the place in the slice of a line's k-th number, by the line's number from 1
@@ -63,11 +64,10 @@ withdrawLines lines number = set lines (placeOf number standingField) (pos 0)
 
 -- 4 is also "a new difference outside its limit"
 unfoldable pub rerunOf : Lent → List ℤ → ℤ → ℤ → Corrected
-unfolding correctOf rerunLines differenceOut
+unfolding correctOf rerunLines differenceOut testBeside
 rerunOf book report number difference =
-    cond (differenceOut difference) (corrected (refusedWith (refusal 4 0)) (book .lines) report)
-    (correctOf book report number (rerunLines (book .lines) number difference))
+    correctOf (testBeside (differenceOut difference) book) book report number (rerunLines (book .lines) number difference)
 
 unfoldable pub withdrawOf : Lent → List ℤ → ℤ → Corrected
-unfolding correctOf withdrawLines
-withdrawOf book report number = correctOf book report number (withdrawLines (book .lines) number)
+unfolding correctOf withdrawLines testOf
+withdrawOf book report number = correctOf (testOf book) book report number (withdrawLines (book .lines) number)

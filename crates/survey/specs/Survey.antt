@@ -1,4 +1,4 @@
--- What the survey answers, and what the lent rows then hold: refusals 4, 6, 7 and 10.
+-- What the survey answers, and what the lent rows then hold: refusals 3, 4, 6, 7 and 10.
 -- Assumes nothing.
 use mathlib.Core.Bool.{cond}
 use mathlib.Core.List.{List, _++_}

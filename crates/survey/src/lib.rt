@@ -49,10 +49,10 @@ pub(crate) fn count_of(found: Found) -> Answer
 }
 
 // The loops of the book as rows. A refusal leaves the rows as they were.
-pub fn survey(b: i64, t: i64, held: &[i64], lines: &[i64], rows: &mut [i64]) -> Answer
-    ensures { λ r. ⌜ surveyed r (now (rows .exit)) ≡ surveyOf (lent b t (now (held .entry)) (now (lines .entry))) (now (rows .entry)) ⌝ }
+pub fn survey(version: i64, b: i64, t: i64, held: &[i64], lines: &[i64], rows: &mut [i64]) -> Answer
+    ensures { λ r. ⌜ surveyed r (now (rows .exit)) ≡ surveyOf (lent version b t (now (held .entry)) (now (lines .entry))) (now (rows .entry)) ⌝ }
 {
-    match book::test(b, t, held, lines) {
+    match book::test(version, b, t, held, lines) {
         Tested::Refused(r) => refused(r),
         Tested::Good(book) => report::survey_good(book, lines, rows),
     }
@@ -61,6 +61,7 @@ pub fn survey(b: i64, t: i64, held: &[i64], lines: &[i64], rows: &mut [i64]) -> 
 // The line's difference becomes the new one, and the kept report that of the book as it then stands. A refusal leaves lines and report as
 // they were.
 pub fn rerun(
+    version: i64,
     b: i64,
     t: i64,
     held: &[i64],
@@ -70,12 +71,10 @@ pub fn rerun(
     difference: i64,
 ) -> Answer
     ensures { λ r. ⌜ corrected r (now (lines .exit)) (now (report .exit))
-        ≡ rerunOf (lent b t (now (held .entry)) (now (lines .entry))) (now (report .entry)) line difference ⌝ }
+        ≡ rerunOf (lent version b t (now (held .entry)) (now (lines .entry))) (now (report .entry)) line difference ⌝ }
 {
-    if Line::outside_difference(difference) {
-        return refuse(4, 0);
-    }
-    match book::test(b, t, held, lines) {
+    let outside = Line::outside_difference(difference);
+    match book::test_beside(outside, version, b, t, held, lines) {
         Tested::Refused(r) => refused(r),
         Tested::Good(book) => correct::rerun_good(book, lines, report, line, difference),
     }
@@ -83,6 +82,7 @@ pub fn rerun(
 
 // The line's standing becomes 0, and the kept report that of the book as it then stands. A refusal leaves lines and report as they were.
 pub fn withdraw(
+    version: i64,
     b: i64,
     t: i64,
     held: &[i64],
@@ -91,9 +91,9 @@ pub fn withdraw(
     line: i64,
 ) -> Answer
     ensures { λ r. ⌜ corrected r (now (lines .exit)) (now (report .exit))
-        ≡ withdrawOf (lent b t (now (held .entry)) (now (lines .entry))) (now (report .entry)) line ⌝ }
+        ≡ withdrawOf (lent version b t (now (held .entry)) (now (lines .entry))) (now (report .entry)) line ⌝ }
 {
-    match book::test(b, t, held, lines) {
+    match book::test(version, b, t, held, lines) {
         Tested::Refused(r) => refused(r),
         Tested::Good(book) => correct::withdraw_good(book, lines, report, line),
     }

@@ -51,11 +51,19 @@ unfolding verdictText bytes
 verdict-room verdict =
     cond-ind (λ (t : List ℕ). length t ≤ 8) (eqZ verdict (pos 0)) (bytes " WITHIN:") (bytes " OVER:") (λ _. omega arith) (λ _. omega arith)
 
-pub head-room : (marks lines pieces loops : ℕ) → marks < 2 ^ 64 → lines < 2 ^ 64 → pieces < 2 ^ 64 → loops < 2 ^ 64
-    → length (headText marks lines pieces loops) ≤ 122
+pub head-room : (version marks lines pieces loops : ℕ) → version < 2 ^ 64 → marks < 2 ^ 64 → lines < 2 ^ 64 → pieces < 2 ^ 64
+    → loops < 2 ^ 64
+    → length (headText version marks lines pieces loops) ≤ 141
 unfolding headText bytes
-head-room marks lines pieces loops m n p l =
-    simp length-append (omega (arith, machine-room marks m, machine-room lines n, machine-room pieces p, machine-room loops l))
+head-room version marks lines pieces loops v m n p l =
+    simp length-append (omega (
+      arith,
+      machine-room version v,
+      machine-room marks m,
+      machine-room lines n,
+      machine-room pieces p,
+      machine-room loops l,
+    ))
 
 pub refused-room : (number place : ℕ) → number < 2 ^ 64 → place < 2 ^ 64 → length (refusedText number place) ≤ 53
 unfolding refusedText bytes

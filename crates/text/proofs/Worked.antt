@@ -14,7 +14,7 @@ use Rattle.text.specs.Sketch.{sketchHeadText, measuredText, linkText, sp
 abbrev minus : ℕ → ℤ
 minus n = negℤ (pos n)
 
-pub report : headText 5 7 1 3
+pub report : headText 1 5 7 1 3
     ++ loopText 1 (pos 4450) (minus 40000) (pos 1) (pos 6 ∷ minus 1 ∷ pos 5 ∷ [])
     ++ loopText 2 (pos 7600) (minus 5000) (pos 0) (pos 4 ∷ pos 5 ∷ minus 7 ∷ [])
     ++ loopText 3 (pos 6750) (pos 65000) (pos 1) (pos 3 ∷ pos 2 ∷ minus 6 ∷ minus 7 ∷ [])

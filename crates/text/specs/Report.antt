@@ -11,10 +11,11 @@ use Rattle.text.specs.Number.{decimal, signedText}
 
 -- LEVEL BOOK 1
 -- MARKS 5 LINES 7 PIECES 1 LOOPS 3
-unfoldable pub headText : ℕ → ℕ → ℕ → ℕ → List ℕ
-headText marks lines pieces loops =
-    bytes "LEVEL BOOK 1\n"
-    ++ bytes "MARKS " ++ decimal marks ++ bytes " LINES " ++ decimal lines
+-- request 04: "The program's first line names the version"
+unfoldable pub headText : ℕ → ℕ → ℕ → ℕ → ℕ → List ℕ
+headText version marks lines pieces loops =
+    bytes "LEVEL BOOK " ++ decimal version
+    ++ bytes "\nMARKS " ++ decimal marks ++ bytes " LINES " ++ decimal lines
     ++ bytes " PIECES " ++ decimal pieces ++ bytes " LOOPS " ++ decimal loops
     ++ bytes "\n"
 

@@ -11,14 +11,17 @@ pub mod sketch;
 pub fn head_text(
     out: &mut [u8],
     at: usize,
+    version: usize,
     marks: usize,
     lines: usize,
     pieces: usize,
     loops: usize,
 ) -> usize
-    ensures { λ r. ⌜ Put (now (out .entry)) (now (out .exit)) at r (headText marks lines pieces loops) ⌝ }
+    ensures { λ r. ⌜ Put (now (out .entry)) (now (out .exit)) at r (headText version marks lines pieces loops) ⌝ }
 {
-    let at = put(out, at, b"LEVEL BOOK 1\nMARKS ");
+    let at = put(out, at, b"LEVEL BOOK ");
+    let at = put_number(out, at, version);
+    let at = put(out, at, b"\nMARKS ");
     let at = put_number(out, at, marks);
     let at = put(out, at, b" LINES ");
     let at = put_number(out, at, lines);

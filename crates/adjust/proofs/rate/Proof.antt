@@ -1,68 +1,55 @@
-use mathlib.Core.Path.{_≡_, sym, _∙_}
-use lib.ListN.{length}
-use lib.IntN.{pos}
+use mathlib.Core.Path.{_≡_, sym, _∙_, ap}
+use mathlib.Core.Bool.{Bool, not}
 use mir.Facts.{toZ-ofZ}
-use Rattle.laws.specs.Tests.{eqZ}
 use Rattle.laws.proofs.Signed.{stored}
 use Rattle.book.specs.Lent.{lent}
-use Rattle.book.specs.Test.{testOf}
+use Rattle.book.specs.Test.{testBeside}
+use Rattle.book.proofs.Goods.{beside-passes}
 use Rattle.fields.proofs.Stands.{lines-of}
-use Rattle.rates.proofs.Rating.{marks-of, rate-four, rate-refused, rate-good}
+use Rattle.rates.specs.Rates.{heightsOut, rateAnswer}
+use Rattle.rates.proofs.Rating.{marks-of}
 use borrow.Author.Needs.{needs}
 use Rattle.adjust.proofs.rate.Statement.{statement}
 use Rattle.adjust.proofs.rate.Tie as tie
 
-count-read : (c : tie.After-same) → (let s = c .before .before in eqZ (pos (length (s .args .heights .now))) (s .args .b) ≡ c .same .result)
-count-read c =
+-- whether the heights are not b in number, as the code has it
+flag : (c : tie.After-same) → (let s = c .before .before in let a = s .args in
+    not (c .same .result) ≡ heightsOut (lent (a .version) (a .b) (a .t) (a .held .now) (a .lines .now)) (a .heights .now))
+unfolding heightsOut
+flag c =
     let s = c .before .before in
     let k = c .before .signed-count in
-    sym (c .same .ensures ∙ rw (stored (k .result) (k .ok) (k .ensures), toZ-ofZ (s .fits .b)))
+    ap not (c .same .ensures ∙ rw (stored (k .result) (k .ok) (k .ensures), toZ-ofZ (s .fits .b)))
 
-test-read : (c : tie.After-test)
-    → (let s : tie.Start = search in testOf (lent (s .args .b) (s .args .t) (s .args .held .now) (s .args .lines .now)) ≡ c .test .result)
-test-read c =
-    let s : tie.Start = search in
-    sym (c .test .ensures ∙ rw (toZ-ofZ (s .fits .b), toZ-ofZ (s .fits .t)))
+-- what the test answered, at the numbers that were lent
+tested : (c : tie.After-test-beside) → (let s : tie.Start = search in let a = s .args in
+    let book = lent (a .version) (a .b) (a .t) (a .held .now) (a .lines .now) in
+    c .test-beside .result ≡ testBeside (heightsOut book (a .heights .now)) book)
+tested c = let d : tie.After-same = search in rw (← (flag d)) (c .test-beside .ensures ∙ search needs)
 
 good-rate-requires : tie.Need-good-rate-requires
 good-rate-requires c κs =
-    let then1 : tie.Then1 = search in
-    let after-same : tie.After-same = search in
     let s : tie.Start = search in
-    let k = c .before .tested2 .given in
-    let e = test-read (c .before .before .before) ∙ k .1 in (
-      lines-of (lent (s .args .b) (s .args .t) (s .args .held .now) (s .args .lines .now)) (k .0 .0) e,
-      marks-of
-          (lent (s .args .b) (s .args .t) (s .args .held .now) (s .args .lines .now)) (k .0 .0) e (length (s .args .heights .now))
-          (count-read after-same ∙ then1 .if1 .taken),
-    )
+    let after-test : tie.After-test-beside = search in
+    let known : tie.After-book = search in
+    let a = s .args in
+    let k = known .book .given in
+    let book = lent (a .version) (a .b) (a .t) (a .held .now) (a .lines .now) in
+    let p = beside-passes book _ (k .0 .0) (sym (tested after-test) ∙ k .1) in
+    (lines-of book (k .0 .0) (p .1), marks-of book (k .0 .0) (p .1) (a .heights .now) (p .0))
 
 returns : tie.Need-returns
+unfolding rateAnswer
 returns c =
-    let after-test : tie.After-test = search in
-    let then1 : tie.Then1 = search in
-    let after-same : tie.After-same = search in
-    let s : tie.Start = search in
-    let k = c .before .before .tested .given in
-    rate-refused (lent (s .args .b) (s .args .t) (s .args .held .now) (s .args .lines .now)) (s .args .heights .now) (s .args .line)
-    (c .refused .result) (count-read after-same ∙ then1 .if1 .taken) (k .0 .0) (test-read after-test ∙ k .1) (c .refused .ensures)
+    let after-test : tie.After-test-beside = search in
+    rw (← (tested after-test), c .before .before .r .given .1) (c .refused .ensures)
 
 returns-2 : tie.Need-returns-2
+unfolding rateAnswer
 returns-2 c =
-    let after-test : tie.After-test = search in
-    let then1 : tie.Then1 = search in
-    let after-same : tie.After-same = search in
-    let s : tie.Start = search in
-    let k = c .before .before .tested2 .given in
-    rate-good (lent (s .args .b) (s .args .t) (s .args .held .now) (s .args .lines .now)) (s .args .heights .now) (s .args .line)
-    (c .good-rate .result) (count-read after-same ∙ then1 .if1 .taken) (k .0 .0) (test-read after-test ∙ k .1)
-    (c .good-rate .ensures ∙ rw (toZ-ofZ (s .fits .line)))
-
-returns-3 : tie.Need-returns-3
-returns-3 c =
-    let s : tie.Start = search in
-    rate-four (lent (s .args .b) (s .args .t) (s .args .held .now) (s .args .lines .now)) (s .args .heights .now) (s .args .line)
-    (c .refuse .result) (count-read (c .before .before) ∙ c .before .if1 .left) (c .refuse .ensures)
+    let after-test : tie.After-test-beside = search in
+    let known : tie.After-book = search in
+    rw (← (tested after-test), known .book .given .1) (c .good-rate .ensures ∙ search needs)
 
 pub rate-spec : {M : Type 1} → statement M
 rate-spec =
@@ -70,12 +57,10 @@ rate-spec =
     (tie.spec
     (λ c κs. search needs)  -- signed-count-requires
     (λ c κs. search needs)  -- same-requires
-    (λ c κs. search needs)  -- test-requires
-    (λ c. search needs)  -- enum-known-tested
+    (λ c κs. search needs)  -- test-beside-requires
+    (λ c. search needs)  -- enum-known-r
     (λ c κs. search needs)  -- refused-requires
-    (λ c. search needs)  -- enum-known-tested-2
+    (λ c. search needs)  -- enum-known-book
     good-rate-requires
     returns
-    returns-2
-    (λ c κs. search needs)  -- refuse-requires
-    returns-3)
+    returns-2)

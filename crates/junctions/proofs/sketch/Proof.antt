@@ -8,7 +8,7 @@ use Rattle.junctions.proofs.sketch.Statement.{statement}
 use Rattle.junctions.proofs.sketch.Tie as tie
 
 -- what the test answered, at the numbers that were lent
-tested : (c : tie.After-test) → (let a = c .before .args in c .test .result ≡ testOf (lent (a .b) (a .t) (a .held .now) (a .lines .now)))
+tested : (c : tie.After-test) → (let a = c .before .args in c .test .result ≡ testOf (lent (a .version) (a .b) (a .t) (a .held .now) (a .lines .now)))
 tested c = c .test .ensures ∙ search needs
 
 sketch-good-requires : tie.Need-sketch-good-requires
@@ -17,7 +17,7 @@ sketch-good-requires c κs =
     let after-test : tie.After-test = search in
     let entry : tie.Start = search in
     let a = entry .args in
-    good-lines _ _ (tested-good (lent (a .b) (a .t) (a .held .now) (a .lines .now)) (after-book .book .given .0 .0)
+    good-lines _ _ (tested-good (lent (a .version) (a .b) (a .t) (a .held .now) (a .lines .now)) (after-book .book .given .0 .0)
     (sym (tested after-test) ∙ after-book .book .given .1))
 
 returns : tie.Need-returns

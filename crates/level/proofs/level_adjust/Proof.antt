@@ -10,7 +10,7 @@ use Rattle.level.proofs.level_adjust.Tie as tie
 -- what the call below answered, at the numbers that were lent
 called : (c : tie.After-adjust)
     → (let a = c .before .before .args in c .adjust .result
-    ≡ adjustOf (lent (a .b) (a .t) (a .held .now) (a .lines .now)) (a .heights .now) .answer)
+    ≡ adjustOf (lent (a .version) (a .b) (a .t) (a .held .now) (a .lines .now)) (a .heights .now) .answer)
 called c = ap (λ (o : Given). o .answer) (c .adjust .ensures) ∙ search needs
 
 adjust-answer-requires : tie.Need-adjust-answer-requires
@@ -18,7 +18,7 @@ adjust-answer-requires c κs =
     let r = c .before in
     let s = r .before .before in
     let a = s .args in
-    subst SmallAdjusted (sym (called r)) (adjust-small (lent (a .b) (a .t) (a .held .now) (a .lines .now)) (a .heights .now))
+    subst SmallAdjusted (sym (called r)) (adjust-small (lent (a .version) (a .b) (a .t) (a .held .now) (a .lines .now)) (a .heights .now))
 
 returns : tie.Need-returns
 returns c = rw (c .adjust-answer .ensures) (ap ofAdjust (c .before .before .adjust .ensures) ∙ search needs)

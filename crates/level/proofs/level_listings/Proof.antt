@@ -11,7 +11,7 @@ use Rattle.level.proofs.level_listings.Tie as tie
 -- what the call below answered, at the numbers that were lent
 called : (c : tie.After-listings)
     → (let a = c .before .before .args in c .listings .result
-    ≡ listingsOf (lent (a .b) (a .t) (a .held .now) (a .lines .now)) (a .out .now) .answer)
+    ≡ listingsOf (lent (a .version) (a .b) (a .t) (a .held .now) (a .lines .now)) (a .out .now) .answer)
 called c = ap (λ (o : Listing). o .answer) (c .listings .ensures) ∙ search needs
 
 listing-answer-requires : tie.Need-listing-answer-requires
@@ -19,7 +19,7 @@ listing-answer-requires c κs =
     let r = c .before in
     let s = r .before .before in
     let a = s .args in
-    subst SmallListed (sym (called r)) (listings-small (lent (a .b) (a .t) (a .held .now) (a .lines .now)) (a .out .now)
+    subst SmallListed (sym (called r)) (listings-small (lent (a .version) (a .b) (a .t) (a .held .now) (a .lines .now)) (a .out .now)
     (omega (arith, s .good)))
 
 returns : tie.Need-returns

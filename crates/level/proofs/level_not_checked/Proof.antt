@@ -12,7 +12,7 @@ use Rattle.level.proofs.level_not_checked.Tie as tie
 -- what the call below answered, at the numbers that were lent
 called : (c : tie.After-not-checked)
     → (let a = c .before .before .args in c .not-checked .result
-    ≡ notCheckedOf (lent (a .b) (a .t) (a .held .now) (a .lines .now)) (a .out .now) .answer)
+    ≡ notCheckedOf (lent (a .version) (a .b) (a .t) (a .held .now) (a .lines .now)) (a .out .now) .answer)
 called c = ap (λ (o : Listing). o .answer) (c .not-checked .ensures) ∙ search needs
 
 listing-answer-requires : tie.Need-listing-answer-requires
@@ -20,7 +20,7 @@ listing-answer-requires c κs =
     let r = c .before in
     let s = r .before .before in
     let a = s .args in
-    subst SmallListed (sym (called r)) (not-checked-small (lent (a .b) (a .t) (a .held .now) (a .lines .now)) (a .out .now)
+    subst SmallListed (sym (called r)) (not-checked-small (lent (a .version) (a .b) (a .t) (a .held .now) (a .lines .now)) (a .out .now)
     (omega (arith, s .good)))
 
 returns : tie.Need-returns

@@ -10,14 +10,14 @@ use Rattle.level.proofs.level_rerun.Tie as tie
 -- what the call below answered, at the numbers that were lent
 called : (c : tie.After-rerun)
     → (let a = c .before .before .before .args in c .rerun .result
-    ≡ rerunOf (lent (a .b) (a .t) (a .held .now) (a .lines .now)) (a .report .now) (a .line) (a .difference) .answer)
+    ≡ rerunOf (lent (a .version) (a .b) (a .t) (a .held .now) (a .lines .now)) (a .report .now) (a .line) (a .difference) .answer)
 called c = ap (λ (o : Corrected). o .answer) (c .rerun .ensures) ∙ search needs
 
 survey-answer-requires : tie.Need-survey-answer-requires
 survey-answer-requires c κs =
     let r = c .before .before in
     let a = r .before .before .before .args in
-    subst SmallAnswer (sym (called r)) (rerun-small (lent (a .b) (a .t) (a .held .now) (a .lines .now)) (a .report .now) (a .line)
+    subst SmallAnswer (sym (called r)) (rerun-small (lent (a .version) (a .b) (a .t) (a .held .now) (a .lines .now)) (a .report .now) (a .line)
     (a .difference))
 
 returns : tie.Need-returns

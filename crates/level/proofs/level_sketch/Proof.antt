@@ -9,7 +9,7 @@ use Rattle.level.proofs.level_sketch.Tie as tie
 
 -- what the call below answered, at the numbers that were lent
 called : (c : tie.After-sketch) → (let s : tie.Start = search in let a = s .args in
-    c .sketch .result ≡ sketchCall (lent (a .b) (a .t) (a .held .now) (a .lines .now))
+    c .sketch .result ≡ sketchCall (lent (a .version) (a .b) (a .t) (a .held .now) (a .lines .now))
     (lists (a .links .now) (a .spurs .now) (a .loops .now) (a .run .now)) .answer)
 called c = ap (λ (o : Drawing). o .answer) (c .sketch .ensures) ∙ search needs
 
@@ -18,7 +18,7 @@ sketch-answer-requires c κs =
     let after-sketch : tie.After-sketch = search in
     let s : tie.Start = search in
     let a = s .args in
-    subst SmallSketched (sym (called after-sketch)) (sketch-small (lent (a .b) (a .t) (a .held .now) (a .lines .now))
+    subst SmallSketched (sym (called after-sketch)) (sketch-small (lent (a .version) (a .b) (a .t) (a .held .now) (a .lines .now))
     (lists (a .links .now) (a .spurs .now) (a .loops .now) (a .run .now)))
 
 returns : tie.Need-returns

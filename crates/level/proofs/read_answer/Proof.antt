@@ -10,6 +10,7 @@ use Rattle.level.proofs.read_answer.Tie as tie
 returns : tie.Need-returns
 unfolding signedRead
 returns c =
+    let c₅ : tie.After-signed-count5 = search in
     let c₄ : tie.After-signed-count4 = search in
     let c₃ : tie.After-signed-count3 = search in
     let c₂ : tie.After-signed-count2 = search in
@@ -26,6 +27,7 @@ returns c =
       stored _ (c₂ .signed-count2 .ok) (c₂ .signed-count2 .ensures),
       stored _ (c₃ .signed-count3 .ok) (c₃ .signed-count3 .ensures),
       stored _ (c₄ .signed-count4 .ok) (c₄ .signed-count4 .ensures),
+      stored _ (c₅ .signed-count5 .ok) (c₅ .signed-count5 .ensures),
     )
 
 pub read-answer-spec : {M : Type 1} → statement M
@@ -37,4 +39,5 @@ read-answer-spec =
     (λ c κs. search needs)  -- signed-count-requires-2
     (λ c κs. search needs)  -- signed-count-requires-3
     (λ c κs. search needs)  -- signed-count-requires-4
+    (λ c κs. search needs)  -- signed-count-requires-5
     returns)

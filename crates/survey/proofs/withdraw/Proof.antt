@@ -9,7 +9,7 @@ use Rattle.survey.proofs.withdraw.Tie as tie
 
 -- what the test answered, at the numbers that were lent
 tested : (c : tie.After-test)
-    → (let a = c .before .before .args in c .test .result ≡ testOf (lent (a .b) (a .t) (a .held .now) (a .lines .now)))
+    → (let a = c .before .before .args in c .test .result ≡ testOf (lent (a .version) (a .b) (a .t) (a .held .now) (a .lines .now)))
 tested c = c .test .ensures ∙ search needs
 
 withdraw-good-requires : tie.Need-withdraw-good-requires
@@ -18,7 +18,7 @@ withdraw-good-requires c κs =
     let entry : tie.Start = search in
     let g = c .before .before .before in
     let a = entry .args in
-    good-lines _ _ (tested-good (lent (a .b) (a .t) (a .held .now) (a .lines .now)) (g .book .given .0 .0)
+    good-lines _ _ (tested-good (lent (a .version) (a .b) (a .t) (a .held .now) (a .lines .now)) (g .book .given .0 .0)
     (sym (tested after-test) ∙ g .book .given .1))
 
 returns : tie.Need-returns

@@ -17,14 +17,18 @@ returns c =
     let lines-name = lines .before .before .before .before in
     let marks = lines-name .before .before .before .before .before in
     let marks-name = marks .before .before .before .before in
-    marks-name .put .ensures
-    then marks .put-number .ensures
-    then lines-name .put2 .ensures
-    then lines .put-number2 .ensures
-    then pieces-name .put3 .ensures
-    then pieces .put-number3 .ensures
-    then loops-name .put4 .ensures
-    then loops .put-number4 .ensures
+    let version = marks-name .before .before .before .before .before in
+    let name = version .before .before .before .before in
+    name .put .ensures
+    then version .put-number .ensures
+    then marks-name .put2 .ensures
+    then marks .put-number2 .ensures
+    then lines-name .put3 .ensures
+    then lines .put-number3 .ensures
+    then pieces-name .put4 .ensures
+    then pieces .put-number4 .ensures
+    then loops-name .put5 .ensures
+    then loops .put-number5 .ensures
     then end .put-byte .ensures
 
 pub head-text-spec : {M : Type 1} → statement M
@@ -43,6 +47,9 @@ head-text-spec =
     (λ c. refl)  -- slice-aggregate-put-4
     (λ c κs. tt)  -- put-requires-4
     (λ c κs. tt)  -- put-number-requires-4
+    (λ c. refl)  -- slice-aggregate-put-5
+    (λ c κs. tt)  -- put-requires-5
+    (λ c κs. tt)  -- put-number-requires-5
     (λ c κs. tt)  -- put-byte-requires
     (λ c. put-length (returns c))  -- same-length
     returns)
