@@ -1,16 +1,17 @@
 #!/usr/bin/env python3
-"""Writes crates/afternoon/stdin (the worked network's file and the steps of an afternoon) and, from a reading of document 01 of its own,
-crates/afternoon/stdout (what the program must print of them). Run it after a change of the steps; --check only compares."""
+"""Writes crates/afternoon/stdin (two stories, each the worked network's file and the steps taken on it) and, from a reading of document 01
+and request 04 of its own, crates/afternoon/stdout (what the program must print of them). Run it after a change of the steps; --check only
+compares."""
 import struct
 
 import stored
-from reader_cases import DIFFERENCE, HEIGHT, UNTOUCHED, WORKED, answer
-from survey_cases import ROW, survey
+from reader_cases import DIFFERENCE, LINE, UNTOUCHED, WORKED, opened, worked_with
+from survey_cases import ROW, refusal, survey
 
 SURVEY, RERUN, WITHDRAW, PEN_IN_HELD, PEN_IN_LINES, PEN_IN_REPORT, READ = range(7)
 PLACES = 20
 HELD_NAMES = ["MARK", "HEIGHT"]
-LINE_NAMES = ["FROM", "TO", "DIFFERENCE", "LENGTH", "STANDING"]
+LINE_NAMES = ["FROM", "TO", "DIFFERENCE", "LENGTH", "STANDING", "CLASS"]
 ROW_NAMES = ["CLOSING LINE", "LINES", "LENGTH", "MISCLOSURE", "VERDICT"]
 
 
@@ -77,6 +78,9 @@ STEPS = [
     rerun("The length is left.", 6, 0),
     pen("Line 2 from a mark to itself.", PEN_IN_LINES, 2, "TO", 2),
     withdraw("The first such line is named.", 6),
+    pen("Line 1 has a class, in a book of version 1.", PEN_IN_LINES, 1, "CLASS", 0),
+    withdraw("Now that one is named.", 6),
+    pen("Mended.", PEN_IN_LINES, 1, "CLASS", -1),
     pen("Mended.", PEN_IN_LINES, 2, "TO", 3),
     pen("Mended.", PEN_IN_LINES, 3, "LENGTH", 1000),
     withdraw("No such line and a report too short: the lower number.", 8, lent=0),
@@ -108,32 +112,44 @@ STEPS = [
 ]
 
 
+# The same network as version 2. Lines 1, 5 and 6 are loop 1: with line 6 of class 0 it is within up to 21,927, with class 1 up to 22,182.
+CLASSED = worked_with(4, 2, 3, 4, 4, 0, 1)
+CLASSED_STEPS = [
+    read("A week later the book comes back with a class for each line."),
+    resurvey("Each loop is judged by the classes of its lines."),
+    rerun("Line 6 comes back. It is of class 0, and its loop stays over.", 6, 2428000),
+    pen("The class was a slip of the pen.", PEN_IN_LINES, 6, "CLASS", 1),
+    rerun("The verdict is another: not this book's report.", 6, 2428000),
+    resurvey("With class 1 the loop is within."),
+    pen("There is no class 5.", PEN_IN_LINES, 6, "CLASS", 5),
+    rerun("The line is named.", 7, 4821000),
+    pen("Nor is a line without a class in this book.", PEN_IN_LINES, 6, "CLASS", -1),
+    withdraw("The line is named.", 7),
+    pen("Mended.", PEN_IN_LINES, 6, "CLASS", 1),
+    pen("A line stands or is withdrawn.", PEN_IN_LINES, 4, "STANDING", 2),
+    resurvey("The line is named."),
+    pen("Mended.", PEN_IN_LINES, 4, "STANDING", 1),
+    rerun("Line 7 is run again, and keeps its class.", 7, 4821000),
+    withdraw("Line 6 goes, and keeps its class.", 6),
+    pen("A withdrawn line of no class.", PEN_IN_LINES, 6, "CLASS", 5),
+    withdraw("It is tested like any other.", 3),
+    pen("Mended.", PEN_IN_LINES, 6, "CLASS", 1),
+    withdraw("Line 3 goes.", 3),
+    resurvey("A survey of the corrected book into the kept report changes nothing."),
+]
+
+
 def number(x):
     return struct.pack(">HI", int(x < 0), abs(x))
 
 
-def bad_held(b, held):
-    for i in range(0, len(held), 2):
-        if not (1 <= held[i] <= b and abs(held[i + 1]) <= HEIGHT) or held[i] in held[:i:2]:
-            return i // 2 + 1
-    return 0
-
-
-def bad_line(b, lines):
-    for i, (a, z, difference, length, standing) in enumerate(lines):
-        if not (1 <= a <= b and 1 <= z <= b and a != z and abs(difference) <= DIFFERENCE and 10 <= length <= 100000 and standing in (0, 1)):
-            return i + 1
-    return 0
-
-
-def called(b, t, held, lines, report, kind, lent, line, difference):
+def called(version, b, t, held, lines, report, kind, lent, line, difference):
     """The answer; lines and report are changed as the call changes them. Refusals by rising number."""
-    if kind == RERUN and abs(difference) > DIFFERENCE:
-        return 4, 0, 0, 0
-    if bad_held(b, held):
-        return 6, bad_held(b, held), 0, 0
-    if bad_line(b, lines):
-        return 7, bad_line(b, lines), 0, 0
+    number, place = refusal(version, b, t, held, lines)
+    if number != 3 and kind == RERUN and abs(difference) > DIFFERENCE:
+        number, place = 4, 0
+    if number:
+        return number, place, 0, 0
     before, _ = survey(b, t, lines)
     if kind == SURVEY:
         if lent < len(before):
@@ -176,35 +192,40 @@ def call_words(kind, a, line, difference, lines_were, lines, was, report):
     return text
 
 
-def played():
+def played(file, steps):
     text, held, lines, report = "", [], [], [UNTOUCHED] * PLACES
-    for note, kind, lent, which, value in STEPS:
+    for note, kind, lent, which, value in steps:
         text += note + "\n"
         if kind == READ:
-            b, t, h, n, held, numbers = answer(WORKED)
-            lines = [list(numbers[i : i + 5]) for i in range(0, 5 * n, 5)]
-            text += f"  READ: 0 AT 0, MARKS {b}, LINES {n}\n"
+            version, b, t, held, lines = opened(file)
+            text += f"  READ: 0 AT 0, VERSION {version}, MARKS {b}, LINES {len(lines)}\n"
         elif kind == PEN_IN_HELD:
             text += change("HELD", HELD_NAMES, which, held[which], value)
             held[which] = value
         elif kind == PEN_IN_LINES:
-            text += change("LINE", LINE_NAMES, which, lines[which // 5][which % 5], value)
-            lines[which // 5][which % 5] = value
+            text += change("LINE", LINE_NAMES, which, lines[which // LINE][which % LINE], value)
+            lines[which // LINE][which % LINE] = value
         elif kind == PEN_IN_REPORT:
             text += change("ROW", ROW_NAMES, which, report[which], value)
             report[which] = value
         else:
             lines_were, was = flat(lines), list(report)
-            a = called(b, t, held, lines, report, kind, lent, which, value)
+            a = called(version, b, t, held, lines, report, kind, lent, which, value)
             text += call_words(kind, a, which, value, lines_were, lines, was, report)
     return text
 
 
+def story(file, steps):
+    """A story as the program reads it: how long its file and its steps are, the file, the steps."""
+    taken = b"".join(struct.pack(">HHH", len(s[0]), s[1], s[2]) + number(s[3]) + number(s[4]) + s[0].encode() for s in steps)
+    return struct.pack(">HH", len(file), len(taken)) + file + taken
+
+
 def files():
-    steps = b"".join(struct.pack(">HHH", len(s[0]), s[1], s[2]) + number(s[3]) + number(s[4]) + s[0].encode() for s in STEPS)
-    given = struct.pack(">H", len(WORKED)) + WORKED + steps
+    stories = [(WORKED, STEPS), (CLASSED, CLASSED_STEPS)]
+    given = b"".join(story(*one) for one in stories)
     assert len(given) <= 16384, len(given)
-    return {"crates/afternoon/stdin": given, "crates/afternoon/stdout": played().encode()}
+    return {"crates/afternoon/stdin": given, "crates/afternoon/stdout": "".join(played(*one) for one in stories).encode()}
 
 
 if __name__ == "__main__":

@@ -1,23 +1,18 @@
 #!/usr/bin/env python3
 """Writes the book files of books/ from the tables below. Run it after a change of the tables; --check only compares."""
 import stored
-from reader_cases import book, held, line
+from reader_cases import WORKED_LINES, book, classed_book, classed_line, held, line
 
 
 def file_of(tolerance, marks, heights, lines):
     return book(marks, tolerance, [held(*h) for h in heights], [line(*l) for l in lines])
 
 
-# from, to, difference in micrometres, length in metres
-WORKED = [
-    (1, 3, 6_345_000, 1600),
-    (2, 3, 4_235_000, 2500),
-    (5, 2, 3_060_000, 1000),
-    (5, 1, 920_000, 4000),
-    (1, 4, 3_895_000, 1600),
-    (4, 3, 2_410_000, 1250),
-    (5, 4, 4_820_000, 2000),
-]
+def classed_file_of(marks, heights, lines):
+    return classed_book(marks, [held(*h) for h in heights], [classed_line(*l) for l in lines])
+
+
+# Each line is from, to, difference in micrometres, length in metres; in a version 2 book class and standing too.
 
 # Six marks, seven equal links: two squares side by side, 1-2-5-4 and 2-3-6-5.
 FIGURE = [
@@ -66,15 +61,29 @@ PARALLEL = [
     (1, 2, 1_050_000, 600),
 ]
 
+# Version 2. A triangle of class 0 and beside it a ring with lines of classes 2 and 4: 9 mm are over in the triangle, 15 mm within in the
+# ring, and no one tolerance judges both so. Line 8, misread by a metre, is withdrawn, and no circuit passes line 7.
+THREE_CLASSES = [
+    (1, 2, 2_315_400, 1240, 0, 1),
+    (2, 3, -1_120_300, 1510, 0, 1),
+    (3, 1, -1_186_100, 1250, 0, 1),
+    (3, 4, 846_200, 900, 2, 1),
+    (4, 5, -431_500, 820, 4, 1),
+    (5, 2, 720_600, 680, 4, 1),
+    (5, 6, 1_064_000, 540, 2, 1),
+    (6, 4, 367_800, 610, 4, 0),
+]
+
 BOOKS = {
-    "worked": file_of(120, 5, [(1, 100_000_000)], WORKED),
+    "worked": file_of(120, 5, [(1, 100_000_000)], WORKED_LINES),
     "memorandum_figure": file_of(40, 6, [(1, 0)], FIGURE),
     "memorandum_network": file_of(40, 16, [(1, 0)], [(*ends, 0, 100) for ends in NETWORK]),
     "past_the_last_junction": file_of(80, 7, [(1, 52_310_000)], PAST_THE_LAST_JUNCTION),
     "two_pieces": file_of(40, 5, [(1, 0), (4, 10_000_000)], TWO_PIECES),
     "parallel_lines": file_of(40, 2, [(1, 0)], PARALLEL),
+    "three_classes": classed_file_of(6, [(1, 250_000_000)], THREE_CLASSES),
     # the worked network with line 3 run from mark 5 to itself
-    "damaged": file_of(120, 5, [(1, 100_000_000)], WORKED[:2] + [(5, 5, 3_060_000, 1000)] + WORKED[3:]),
+    "damaged": file_of(120, 5, [(1, 100_000_000)], WORKED_LINES[:2] + [(5, 5, 3_060_000, 1000)] + WORKED_LINES[3:]),
 }
 
 

@@ -1,15 +1,14 @@
 #!/usr/bin/env python3
-"""Writes crates/list_cases/stdin (books, one case after the other) and, from a slow reading of document 01 of its own,
+"""Writes crates/list_cases/stdin (books, one case after the other) and, from a slow reading of document 01 and request 04 of its own,
 crates/list_cases/stdout (what the program must print of them). Run it after a change of the cases; --check only compares."""
 import struct
 
 import stored
 import survey_cases
-from afternoon import bad_held, bad_line
 from books import BOOKS
 from page_cases import not_checked, ring
-from reader_cases import UNTOUCHED, WORKED, answer, book, held, line, shown
-from survey_cases import loops_of
+from reader_cases import UNTOUCHED, WORKED, book, held, line, opened, shown
+from survey_cases import loops_of, refusal
 
 LENT = 20
 WITHDRAWN = 3
@@ -52,18 +51,9 @@ def not_checked_listed(lines, out):
     return printed("not checked", listed(not_checked(lines), out), out)
 
 
-def refusal(b, t, helds, lines):
-    """4, 6 or 7 with its place, by rising number; 0 of a good book."""
-    if t < 1:
-        return 4, 0
-    if bad_held(b, helds):
-        return 6, bad_held(b, helds)
-    return (7, bad_line(b, lines)) if bad_line(b, lines) else (0, 0)
-
-
-def spoilt_listed(name, b, t, helds, lines, out):
+def spoilt_listed(name, version, b, t, helds, lines, out):
     """The three lists of a book that may be refused: the refusal, with the output as it was, or what they are."""
-    number, place = refusal(b, t, helds, lines)
+    number, place = refusal(version, b, t, helds, lines)
     if number:
         return f"{name}\n" + "".join(printed(call, (number, place, 0), out) for call in ("loop 1", "all loops", "not checked"))
     loops, _ = loops_of(b, t, lines)
@@ -71,21 +61,31 @@ def spoilt_listed(name, b, t, helds, lines, out):
     return f"{name}\n" + first + all_listed(loops, out) + not_checked_listed(lines, out)
 
 
-def outcome(file, lent):
-    b, t, _, n, helds, numbers = answer(file)
-    lines = [numbers[5 * i : 5 * i + 5] for i in range(n)]
-    out = [UNTOUCHED] * lent
-    text = loops_listed(b, t, lines, out) + not_checked_listed(lines, out)
-    if n >= WITHDRAWN:
-        lines[WITHDRAWN - 1][4] = 0
-    text += f"line {WITHDRAWN} withdrawn\n" + not_checked_listed(lines, out) + loops_listed(b, t, lines, out)
+def spoilt(version, b, t, helds, lines, out):
+    """The book told as of either version, spoilt number by number, and told as of neither."""
+    text = spoilt_listed("version 1, t 1", 1, b, 1, helds, lines, out) + spoilt_listed("version 2, t 0", 2, b, 0, helds, lines, out)
+    if lines:
+        lines[-1][5] = 5
+    text += spoilt_listed("the last line of class 5", version, b, t, helds, lines, out)
     if lines:
         lines[-1][0] = 0
-    text += spoilt_listed("the last line from mark 0", b, t, helds, lines, out)
+    text += spoilt_listed("the last line from mark 0", version, b, t, helds, lines, out)
     if helds:
         helds[-2] = 0
-    text += spoilt_listed("the last held entry of mark 0", b, t, helds, lines, out)
-    return text + spoilt_listed("a tolerance of 0", b, 0, helds, lines, out)
+    text += spoilt_listed("the last held entry of mark 0", version, b, t, helds, lines, out)
+    text += spoilt_listed("version 1, t 0", 1, b, 0, helds, lines, out) + spoilt_listed("version 2, t 1", 2, b, 1, helds, lines, out)
+    text += spoilt_listed("version 0", 0, b, t, helds, lines, out) + spoilt_listed("version 3, t 1001", 3, b, 1001, helds, lines, out)
+    return text + spoilt_listed("version 255", 255, b, t, helds, lines, out)
+
+
+def outcome(file, lent):
+    version, b, t, helds, lines = opened(file)
+    out = [UNTOUCHED] * lent
+    text = loops_listed(b, t, lines, out) + not_checked_listed(lines, out)
+    if len(lines) >= WITHDRAWN:
+        lines[WITHDRAWN - 1][4] = 0
+    text += f"line {WITHDRAWN} withdrawn\n" + not_checked_listed(lines, out) + loops_listed(b, t, lines, out)
+    return text + spoilt(version, b, t, helds, lines, out)
 
 
 def in_a_ring(marks):
@@ -95,8 +95,11 @@ def in_a_ring(marks):
 
 def cases():
     """Name, how many numbers of output are lent, and the book."""
-    for name, file in survey_cases.cases():
+    for name, file in survey_cases.networks():
         yield name, LENT, file
+    for name, file in survey_cases.classed_networks():
+        yield name, LENT, file
+    yield "three classes and a withdrawn line", LENT, BOOKS["three_classes"]
     yield "two pieces, a mark held in each", LENT, BOOKS["two_pieces"]
     yield "512 parallel lines", LENT, book(2, 40, lines=[line(1 + i % 2, 2 - i % 2, i % 3 - 1, 10 + i % 7) for i in range(512)])
     yield "two rings that share a mark", LENT, book(7, 60, lines=in_a_ring([4, 1, 2, 3]) + in_a_ring([6, 4, 7, 5]))

@@ -1,7 +1,8 @@
 #!/usr/bin/env python3
 """Writes crates/sketch_cases/stdin (book files, one case after the other) and, from a slow reading of document 02's junction sketch of its
-own, crates/sketch_cases/stdout (their sketches, and what is answered of some of them as books in memory, with lines withdrawn). Run it
-after a change of the cases; --check only compares. Writes the Memorandum's network and its sketch for crates/sketch too."""
+own, crates/sketch_cases/stdout (their sketches, and what is answered of some of them as books in memory, with lines withdrawn and told as
+of versions that are not theirs). Run it after a change of the cases; --check only compares. Writes the Memorandum's network and its sketch
+for crates/sketch too."""
 import random
 import struct
 
@@ -9,10 +10,11 @@ import stored
 from books import BOOKS, NETWORK
 from list_cases import in_a_ring
 from page_cases import NAME_BYTES, ring
-from reader_cases import LARGEST, UNTOUCHED, WORKED, answer, book, held, line, shown
+from reader_cases import ALL_CLASS_4, LARGEST, UNTOUCHED, WORKED, answer, book, classed_book, classed_line, held, line, opened, shown
+from survey_cases import refusal
 
 # A link, a spur or a loop is its first mark, its last mark and its lines in their order, negative where a line is run from its to to its
-# from. A file's lines all stand; sketch, sketch_answer and sketch_text are of a book in memory, whose lines may be withdrawn.
+# from. sketch, sketch_answer and sketch_text are of a book in memory, whose lines may be withdrawn.
 
 
 def lowest_line(link):
@@ -106,24 +108,20 @@ def sketch_text(b, lines):
     return text
 
 
-def lines_in(n, numbers):
-    return [numbers[5 * i : 5 * i + 5] for i in range(n)]
-
-
 def file_text(file):
-    """What the sketch program prints of a file."""
-    read = answer(file)
-    if len(read) == 2:
-        return "REFUSED %d AT %d\n" % read
-    b, _, _, n, _, numbers = read
-    return sketch_text(b, lines_in(n, numbers))
+    """What the sketch program prints of a file, the same for both versions."""
+    if len(answer(file)) == 2:
+        return "REFUSED %d AT %d\n" % answer(file)
+    _, b, _, _, lines = opened(file)
+    return sketch_text(b, lines)
 
 
-# Places for the links, spurs, loops and lines of any book.
+# Places for the links, spurs, loops and lines of any book; and one in each.
 MUCH_ROOM = (2560, 2560, 2560, 512)
+ONE_EACH = (1, 1, 1, 1)
 
 
-def printed(name, number, lists, room):
+def printed(name, number, place, lists, room):
     """An answer, and what outputs of so many places then hold: nothing new after a refusal."""
     outputs = [[UNTOUCHED] * places for places in room]
     counts = [0, 0, 0, 0]
@@ -131,19 +129,38 @@ def printed(name, number, lists, room):
         counts = [len(numbers) // words for numbers, words in zip(lists, (5, 5, 5, 1))]
         for output, numbers in zip(outputs, lists):
             output[: len(numbers)] = numbers
-    return f"{name}: " + " ".join(str(x) for x in (number, 0, *counts)) + "".join(" |" + shown(output) for output in outputs) + "\n"
+    return f"{name}: " + " ".join(str(x) for x in (number, place, *counts)) + "".join(" |" + shown(output) for output in outputs) + "\n"
 
 
 def sketched(name, lists, room):
     """The sketch of a good book, or 10 where any of the four is too short."""
     short = any(places < len(numbers) for places, numbers in zip(room, lists))
-    return printed(name, 10 if short else 0, lists, room)
+    return printed(name, 10 if short else 0, 0, lists, room)
+
+
+def tested(name, version, b, t, helds, lines, lists, room):
+    """The sketch of a book that may be refused."""
+    number, place = refusal(version, b, t, helds, lines)
+    return printed(name, number, place, lists, room) if number else sketched(name, lists, room)
+
+
+def told_otherwise(version, b, t, helds, lines, lists):
+    """The book told as of either version, with a last line of no class, and told as of no version."""
+    text = ""
+    for told in (1, 2):
+        for t_told in (0, 1):
+            text += tested(f"version {told}, t {t_told}", told, b, t_told, helds, lines, lists, ONE_EACH)
+    if lines:
+        lines[-1][5] = 5
+    text += tested("class 5", version, b, t, helds, lines, lists, ONE_EACH)
+    for told, room in ((0, ONE_EACH), (3, ONE_EACH), (255, MUCH_ROOM)):
+        text += tested(f"version {told}", told, b, t, helds, lines, lists, room)
+    return text
 
 
 def in_memory(file, every):
     """What is answered of a file's book with the last of each so many lines withdrawn."""
-    b, _, _, n, _, numbers = answer(file)
-    lines = lines_in(n, numbers)
+    version, b, t, helds, lines = opened(file)
     for withdrawn in lines[every - 1 :: every]:
         withdrawn[4] = 0
     lists = sketch_answer(b, lines)
@@ -151,7 +168,7 @@ def in_memory(file, every):
     text = sketched("much room", lists, MUCH_ROOM) + sketched("just enough", lists, fitting)
     for i, name in enumerate(("fewer links", "fewer spurs", "fewer loops", "a shorter run")):
         text += sketched(name, lists, [max(0, places - (i == j)) for j, places in enumerate(fitting)])
-    return text + printed("a tolerance of 0", 4, lists, MUCH_ROOM)
+    return text + told_otherwise(version, b, t, helds, lines, lists)
 
 
 # Request 01's own text for the Memorandum's network.
@@ -304,10 +321,26 @@ def large():
     yield "a ring of 256 lines, each as great as can be", ring(10**8)
 
 
+def classed():
+    """Version 2 books, some with lines that are withdrawn in the file."""
+    yield "the worked network, every line of class 4", ALL_CLASS_4
+    yield "version 2, no line", classed_book(5)
+    yield "version 2, no line stands", classed_book(3, lines=[classed_line(1, 2, 5, 10, k, 0) for k in range(5)])
+    ring_of_5 = [classed_line(a, z, 3 * a, 10 + a, a % 5) for a, z in around([1, 2, 3, 4, 5])]
+    yield "version 2, a withdrawn line across a ring", classed_book(5, lines=[classed_line(2, 4, 7, 20, 4, 0)] + ring_of_5)
+    yield "version 2, a withdrawn line opens the ring", classed_book(5, lines=ring_of_5[:4] + [classed_line(5, 1, 7, 20, 4, 0)])
+    for standing in (2, 3):
+        yield f"version 2, {standing} of five parallel lines stand", classed_book(
+            2, lines=[classed_line(1, 2, 9 * k, 10 + k, k, int(k < standing)) for k in range(5)])
+
+
 def refused():
     yield "nothing at all", b""
     yield "one byte too many", WORKED + b"\0"
-    yield "version 2", book(version=2)
+    yield "version 3", book(version=3)
+    yield "version 2 with version 1's tolerance", book(version=2)
+    yield "version 2, 12-byte lines", classed_book(lines=[line(1, 2)])
+    yield "version 2, a line of no class", classed_book(lines=[classed_line(1, 2), classed_line(2, 3, class_=5, standing=0)])
     yield "no mark", book(b=0)
     yield "a wrong count", book(lines=[line(1, 2)], n=2)
     yield "a mark held twice, and a wrong line", book(helds=[held(1), held(2), held(1)], lines=[line(1, 1)])
@@ -343,6 +376,7 @@ def cases():
     yield from thinned(5, trees())
     yield from thinned(NO_LINE, thetas())
     yield from thinned(7, large())
+    yield from thinned(6, classed())
     yield from thinned(NO_LINE, refused())
     for seed in range(100):
         yield from thinned((NO_LINE, 1, 2, 3)[seed % 4] if seed < 16 else TEXT_ALONE, any_books(seed))

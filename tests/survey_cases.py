@@ -1,13 +1,45 @@
 #!/usr/bin/env python3
-"""Writes crates/survey_cases/stdin (books, one case after the other) and, from a slow reading of document 01 and request 03 of its own,
-crates/survey_cases/stdout (what the program must print of them). Run it after a change of the cases; --check only compares."""
+"""Writes crates/survey_cases/stdin (books, one case after the other) and, from a slow reading of document 01 and requests 03 and 04 of its
+own, crates/survey_cases/stdout (what the program must print of them). Run it after a change of the cases; --check only compares."""
 import random
 import struct
 
 import stored
-from reader_cases import UNTOUCHED, WORKED, book, digest, held, line, shown
+from reader_cases import (ALL_CLASS_4, DIFFERENCE, HEIGHT, UNTOUCHED, WORKED, book, classed_book, classed_line, digest, held, line, opened,
+                          shown, worked_with)
 
 ROW = 5
+# Of classes 0 to 4, in tenths of mm per root km.
+TOLERANCES = [40, 50, 60, 80, 120]
+NO_VERSIONS = {"0": 0, "3": 3, "255": 255, "-1": -1, "2^32 + 1": 2**32 + 1, "2^63 - 1": 2**63 - 1}
+
+
+def bad_held(b, helds):
+    for i in range(0, len(helds), 2):
+        if not (1 <= helds[i] <= b and abs(helds[i + 1]) <= HEIGHT) or helds[i] in helds[:i:2]:
+            return i // 2 + 1
+    return 0
+
+
+def bad_line(version, b, lines):
+    classes = [-1] if version == 1 else range(5)
+    for i, (a, z, difference, length, standing, class_) in enumerate(lines):
+        if not (1 <= a <= b and 1 <= z <= b and a != z and abs(difference) <= DIFFERENCE and 10 <= length <= 100000):
+            return i + 1
+        if standing not in (0, 1) or class_ not in classes:
+            return i + 1
+    return 0
+
+
+def refusal(version, b, t, helds, lines):
+    """Of a lent book 3, 4, 6 or 7 with its place, by rising number; 0 of a good one."""
+    if version not in (1, 2):
+        return 3, 0
+    if not 1 <= b <= 256 or not (1 <= t <= 1000 if version == 1 else t == 0):
+        return 4, 0
+    if bad_held(b, helds):
+        return 6, bad_held(b, helds)
+    return (7, bad_line(version, b, lines)) if bad_line(version, b, lines) else (0, 0)
 
 
 def tree_and_closing(b, lines):
@@ -42,7 +74,7 @@ def path(lines, usable, start, goal):
     while nearer:
         nearer = False
         for i in usable:
-            a, z, _, length, _ = lines[i]
+            a, z, _, length, *_ = lines[i]
             for x, y in ((a, z), (z, a)):
                 if x in near and near[x] + length < near.get(y, 10**12):
                     near[y], nearer = near[x] + length, True
@@ -50,7 +82,7 @@ def path(lines, usable, start, goal):
     while at != goal:
         steps = []
         for i in usable:
-            a, z, _, length, _ = lines[i]
+            a, z, _, length, *_ = lines[i]
             if a == at and near.get(z, 10**12) + length == near[at]:
                 steps.append((i, z, 1))
             if z == at and near.get(a, 10**12) + length == near[at]:
@@ -58,6 +90,16 @@ def path(lines, usable, start, goal):
         i, at, sense = min(steps)
         way.append((i, sense))
     return way
+
+
+def tolerance(t, line):
+    """By the line's class; the book's own where it has none."""
+    return t if line[5] == -1 else TOLERANCES[line[5]]
+
+
+def allowed(t, loop, lines):
+    """The greatest square of a misclosure that is within."""
+    return 10 * sum(tolerance(t, lines[i]) ** 2 * max(lines[i][3], 250) for i, _ in loop)
 
 
 def loops_of(b, t, lines):
@@ -70,9 +112,8 @@ def loops_of(b, t, lines):
             usable.add(c)
         loop = [(c, 1)] + way
         length = sum(lines[i][3] for i, _ in loop)
-        judged = sum(max(lines[i][3], 250) for i, _ in loop)
         misclosure = sum(sense * lines[i][2] for i, sense in loop)
-        loops.append((loop, length, misclosure, misclosure**2 > 10 * t * t * judged))
+        loops.append((loop, length, misclosure, misclosure**2 > allowed(t, loop, lines)))
     return loops, pieces
 
 
@@ -108,15 +149,36 @@ def corrections(b, t, lines, report):
     return text
 
 
-def outcome(file):
-    length, version, t, b, h, n = struct.unpack(">IBHHHH", file[:13])
-    at = 13 + 10 * h
-    lines = [[*struct.unpack(">HHiI", file[at + 12 * i : at + 12 * i + 12]), 1] for i in range(n)]
-    report = [UNTOUCHED] * 2600
+def surveyed(name, version, b, t, helds, lines, report):
+    number, place = refusal(version, b, t, helds, lines)
+    if number:
+        return printed(name, (number, place, 0, 0), report, lines)
     rows, pieces = survey(b, t, lines)
     report[: len(rows)] = rows
-    text = printed("survey", (0, 0, len(rows) // ROW, pieces), report, lines)
-    return text + corrections(b, t, lines, report)
+    return printed(name, (0, 0, len(rows) // ROW, pieces), report, lines)
+
+
+def told_otherwise(version, b, t, helds, lines, report):
+    """A book none of whose lines stands, told as of either version, with a last line of no class, and told as of no version."""
+    text = ""
+    for told in (1, 2):
+        for t_told in (0, 1):
+            text += surveyed(f"  version {told}, t {t_told}", told, b, t_told, helds, lines, report)
+    if lines:
+        lines[-1][5] = 5
+    text += surveyed("  class 5", version, b, t, helds, lines, report)
+    for name, told in NO_VERSIONS.items():
+        text += surveyed(f"  version {name}", told, b, t, helds, lines, report)
+    # 3 before 4: the new difference is outside its limit
+    text += printed("  version 3, re-run", (3, 0, 0, 0), report, lines)
+    return text + printed("  version 0, withdrawn", (3, 0, 0, 0), report, lines)
+
+
+def outcome(file):
+    version, b, t, helds, lines = opened(file)
+    report = [UNTOUCHED] * 2600
+    text = surveyed("survey", version, b, t, helds, lines, report)
+    return text + corrections(b, t, lines, report) + told_otherwise(version, b, t, helds, lines, report)
 
 
 def squares(order):
@@ -163,7 +225,75 @@ def short_lines():
     yield "short lines, a withdrawal turns nothing", parallel(10_000, 11_000, 12_000)
 
 
-def cases():
+def pair(first, second, misclosure, lengths=(1000, 1000)):
+    """Two lines between two marks, of these classes, that close so; the second is not shorter and closes the loop."""
+    return classed_book(2, lines=[classed_line(1, 2, 0, lengths[0], first), classed_line(1, 2, misclosure, lengths[1], second)])
+
+
+def classed_parallel(*lines):
+    """Lines of 1,000 m from mark 1 to mark 2: class and difference of each."""
+    return classed_book(2, lines=[classed_line(1, 2, difference, 1000, class_) for class_, difference in lines])
+
+
+def classed_ring(misclosure, metres, classes):
+    """One loop with a line of each of these classes, all of one length, that closes so."""
+    last = len(classes)
+    return classed_book(last, lines=[
+        classed_line(i + 1, (i + 1) % last + 1, 0 if i else misclosure, metres, class_) for i, class_ in enumerate(classes)])
+
+
+def each_at_its_edge(more):
+    """For each class two marks with two lines of it, of 1,000 m in all, so much over what they just allow: 100 times the tolerance."""
+    once = [(2 * k + 1, 2 * k + 2, 100 * own + more, 500, k) for k, own in enumerate(TOLERANCES)]
+    again = [(a, z, 0, 500, k) for a, z, _, _, k in once]
+    return classed_book(10, lines=[classed_line(*l) for l in once + again])
+
+
+def classed_scattered(seed, b, n, lengths):
+    """Lines of any class between any marks, about one of four withdrawn."""
+    dice = random.Random(seed)
+    pairs = [dice.sample(range(1, b + 1), 2) for _ in range(n)]
+    return classed_book(b, [held(dice.randint(1, b), 7)], [
+        classed_line(a, z, dice.randint(-2000, 2000) * 10, dice.choice(lengths), dice.randint(0, 4), int(dice.random() > 0.25))
+        for a, z in pairs])
+
+
+def verdicts_by_class():
+    """Request 04: what each line allows is by its class. Line 1 is re-run to 10,000 and then withdrawn, before the others."""
+    for misclosure in (12_649, 12_650, -12_649, -12_650):
+        yield f"classes 0 and 4, {misclosure}", pair(0, 4, misclosure)
+    for misclosure in (4000, 4001):
+        yield f"280 m of class 0 and 320 m of class 2, {misclosure}", pair(0, 2, misclosure, (280, 320))
+    for misclosure in (6324, 6325):
+        yield f"40 m of class 4 and 250 m of class 0, {misclosure}", pair(4, 0, misclosure, (40, 250))
+    yield "each class at its edge", each_at_its_edge(0)
+    yield "each class one micrometre over its edge", each_at_its_edge(1)
+    for misclosure in (16_881, 16_882, -16_881, -16_882):
+        yield f"all five classes in one loop, {misclosure}", classed_ring(misclosure, 1000, range(5))
+    for misclosure in (8440, 8441):
+        yield f"five lines of 40 m and of five classes, {misclosure}", classed_ring(misclosure, 40, (4, 2, 0, 3, 1))
+    yield "the worked network, every line of class 4", ALL_CLASS_4
+    yield "the worked network, mixed classes", worked_with(0, 1, 2, 3, 4, 3, 2)
+    yield "classes, a re-run turns it within", classed_parallel((0, 0), (4, 22_649))
+    yield "classes, a re-run turns it over", classed_parallel((0, 12_000), (4, 22_650))
+    yield "classes, a withdrawal turns it over", classed_parallel((4, 10_000), (0, 20_000), (0, 14_000))
+    yield "classes, a withdrawal turns it within", classed_parallel((0, 10_000), (4, 25_000), (4, 24_000))
+
+
+def classed_networks():
+    """Version 2 books of which the lists are wanted too."""
+    yield "version 2, no line", classed_book(5)
+    yield "version 2, one mark", classed_book(1)
+    yield "version 2, no line stands", classed_book(3, lines=[classed_line(1, 2, 5, 10, k, 0) for k in range(5)])
+    yield "version 2, a withdrawn line opens the ring", classed_book(4, lines=[
+        classed_line(1, 2, 5, 100, 0), classed_line(2, 3, 5, 100, 1), classed_line(3, 4, 5, 100, 2, 0), classed_line(4, 1, 5, 100, 3)])
+    yield "version 2, a withdrawn line beside a standing", classed_book(3, lines=[
+        classed_line(1, 2, 5, 10, 4, 0), classed_line(1, 2, 9, 100, 0), classed_line(2, 3, 7, 10, 0), classed_line(3, 1, -16, 10, 0)])
+    for seed in range(4):
+        yield f"scattered, classes, {seed}", classed_scattered(300 + seed, 7, 14, [10, 20, 300])
+
+
+def networks():
     yield "the worked network", WORKED
     yield "no line", book(5, 120)
     yield "one mark", book(1, 120)
@@ -184,6 +314,12 @@ def cases():
         yield f"scattered, many lengths, {seed}", scattered(200 + seed, 9, 14, list(range(10, 500)))
 
 
+def cases():
+    yield from networks()
+    yield from verdicts_by_class()
+    yield from classed_networks()
+
+
 def files():
     given, wanted = b"", ""
     for name, file in cases():
@@ -191,6 +327,7 @@ def files():
         given += name.ljust(48).encode() + struct.pack(">H", len(file)) + file
         wanted += f"{name:48}\n" + outcome(file)
     assert len(given) <= 131072, len(given)
+    assert survey(5, 0, opened(ALL_CLASS_4)[4]) == survey(5, 120, opened(WORKED)[4])
     return {"crates/survey_cases/stdin": given, "crates/survey_cases/stdout": wanted.encode()}
 
 
