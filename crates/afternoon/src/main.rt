@@ -1,8 +1,8 @@
-// Plays an afternoon on the worked network: re-runs, withdrawals and tries that are refused, one step after the other. Of each it says in
-// words what was answered, what changed in the book, and what the kept report then holds.
-// On standard input: the length of the book's file (2 bytes), the file, and the steps. A step: the length of its note, its kind and how
-// many numbers of the report are lent (2 bytes each), a line or place and a new number (6 bytes each: 1 if negative, in 2, and the size),
-// the note. tests/afternoon.py makes the steps and, on its own, what is printed of them.
+// Plays two stories on the worked network, of version 1 and of version 2: re-runs, withdrawals and tries that are refused, one step after
+// the other. Of each it says in words what was answered, what changed in the book, and what the kept report then holds.
+// On standard input each story: the lengths of the book's file and of its steps (2 bytes each), the file, the steps. A step: the length of
+// its note, its kind and how many numbers of the report are lent (2 bytes each), a line or place and a new number (6 bytes each: 1 if
+// negative, in 2, and the size), the note. tests/afternoon.py makes the steps and, on its own, what is printed of them.
 ghost use Prim.Native.Nat.{_≤_, _+_};
 ghost use lib.ListN.{length};
 
@@ -32,6 +32,9 @@ const PEN_IN_HELD: usize = 3;
 const PEN_IN_LINES: usize = 4;
 
 const PEN_IN_REPORT: usize = 5;
+
+// The bytes before a story's file, and before a step's note.
+const STORY_BYTES: usize = 4;
 
 const STEP_BYTES: usize = 18;
 
@@ -65,6 +68,7 @@ fn step_at(s: &[u8], at: usize) -> Step
 }
 
 fn answer(
+    version: i64,
     b: i64,
     t: i64,
     held: &[i64],
@@ -73,16 +77,17 @@ fn answer(
     step: Step,
 ) -> survey::Answer {
     if step.kind == SURVEY {
-        return survey::survey(b, t, held, lines, report);
+        return survey::survey(version, b, t, held, lines, report);
     }
     if step.kind == RERUN {
-        return survey::rerun(b, t, held, lines, report, step.which, step.value);
+        return survey::rerun(version, b, t, held, lines, report, step.which, step.value);
     }
-    survey::withdraw(b, t, held, lines, report, step.which)
+    survey::withdraw(version, b, t, held, lines, report, step.which)
 }
 
 // The call is lent as much of the report as the step says.
 fn answer_lent(
+    version: i64,
     b: i64,
     t: i64,
     held: &[i64],
@@ -91,10 +96,11 @@ fn answer_lent(
     step: Step,
 ) -> survey::Answer {
     let lent = cases::at_most(step.lent, report.len());
-    answer(b, t, held, lines, &mut report[..lent], step)
+    answer(version, b, t, held, lines, &mut report[..lent], step)
 }
 
 fn call(
+    version: i64,
     b: i64,
     t: i64,
     held: &[i64; HELD_WORDS],
@@ -104,7 +110,7 @@ fn call(
 ) {
     let lines_were = *lines;
     let report_was = *report;
-    let a = answer_lent(b, t, held, lines, report, step);
+    let a = answer_lent(version, b, t, held, lines, report, step);
     words::put_call(step);
     words::put_answer(a);
     words::put_book(&lines_were, lines);
@@ -128,6 +134,7 @@ fn read(file: &[u8], held: &mut [i64], lines: &mut [i64]) {
 }
 
 fn take_step(
+    version: i64,
     b: i64,
     t: i64,
     file: &[u8],
@@ -138,7 +145,7 @@ fn take_step(
 ) {
     let kind = step.kind;
     match kind {
-        SURVEY | RERUN | WITHDRAW => call(b, t, held, lines, report, step),
+        SURVEY | RERUN | WITHDRAW => call(version, b, t, held, lines, report, step),
         PEN_IN_HELD => pen(Sheet::Held, held, step),
         PEN_IN_LINES => pen(Sheet::Lines, lines, step),
         PEN_IN_REPORT => pen(Sheet::Report, report, step),
@@ -147,6 +154,7 @@ fn take_step(
 }
 
 fn play(
+    version: i64,
     b: i64,
     t: i64,
     file: &[u8],
@@ -163,7 +171,7 @@ fn play(
             return;
         }
         words::put_note(&steps[note..note + len]);
-        take_step(b, t, file, held, lines, report, step_at(steps, at));
+        take_step(version, b, t, file, held, lines, report, step_at(steps, at));
         at = note + len;
     }
 }
@@ -174,20 +182,38 @@ fn afternoon(file: &[u8], steps: &[u8]) {
     let mut report = [0i64; REPORT_WORDS];
     cases::clear(&mut report);
     let book = file::read(file, &mut held, &mut lines);
+    let version = signed::signed_count(book.version % 65536);
     let b = signed::signed_count(book.b % 65536);
     let t = signed::signed_count(book.t % 65536);
-    play(b, t, file, &mut held, &mut lines, &mut report, steps);
+    play(
+        version,
+        b,
+        t,
+        file,
+        &mut held,
+        &mut lines,
+        &mut report,
+        steps,
+    );
+}
+
+// Plays the first story of the input. The answer is the place after it; 0, where there is no whole one.
+fn story(input: &[u8]) -> usize {
+    if input.len() < STORY_BYTES {
+        return 0;
+    }
+    let steps = STORY_BYTES + case::two(input, 0);
+    let end = steps + case::two(input, 2);
+    if input.len() < end {
+        return 0;
+    }
+    afternoon(&input[STORY_BYTES..steps], &input[steps..end]);
+    end
 }
 
 fn run(input: &[u8]) {
-    if input.len() < 2 {
-        return;
-    }
-    let steps = 2 + case::two(input, 0);
-    if input.len() < steps {
-        return;
-    }
-    afternoon(&input[2..steps], &input[steps..]);
+    let second = cases::at_most(story(input), input.len());
+    story(&input[second..]);
 }
 
 fn main() {

@@ -42,6 +42,7 @@ pub(crate) fn put_read(a: file::ReadAnswer) {
     let r = a.refusal;
     count(b"  READ:", r.number);
     count(b" AT", r.place);
+    count(b", VERSION", a.version);
     count(b", MARKS", a.b);
     count(b", LINES", a.n);
     put(b"\n");
@@ -103,7 +104,8 @@ fn put_line_place(at: usize) {
         1 => put(b": TO"),
         2 => put(b": DIFFERENCE"),
         3 => put(b": LENGTH"),
-        _ => put(b": STANDING"),
+        4 => put(b": STANDING"),
+        _ => put(b": CLASS"),
     }
 }
 

@@ -123,18 +123,26 @@ fn put_heights(held: &[i64], heights: &[i64]) {
     }
 }
 
-fn put_line(b: i64, t: i64, held: &[i64], lines: &[i64], heights: &[i64], line: usize) {
+fn put_line(
+    version: i64,
+    b: i64,
+    t: i64,
+    held: &[i64],
+    lines: &[i64],
+    heights: &[i64],
+    line: usize,
+) {
     let number = signed::signed_count(line % 65536);
-    let a = adjust::rate(b, t, held, lines, heights, number);
+    let a = adjust::rate(version, b, t, held, lines, heights, number);
     let rate = a.rate;
     put_row(rates::row_of(a.line, a.correction, rate));
 }
 
-fn put_rates(b: i64, t: i64, held: &[i64], lines: &[i64], heights: &[i64], n: usize) {
+fn put_rates(version: i64, b: i64, t: i64, held: &[i64], lines: &[i64], heights: &[i64], n: usize) {
     put(b"LINE CORRECTION mm   RATE mm/km\n");
     let mut i = 0;
     while i < n {
-        put_line(b, t, held, lines, heights, i + 1);
+        put_line(version, b, t, held, lines, heights, i + 1);
         i += 1;
     }
 }
@@ -151,9 +159,9 @@ fn put_counts(b: usize, n: usize, h: usize, sweeps: usize) {
     put(b"\n");
 }
 
-fn sheet(t: i64, held: &[i64], lines: &[i64], heights: &mut [i64], n: usize) {
+fn sheet(version: i64, t: i64, held: &[i64], lines: &[i64], heights: &mut [i64], n: usize) {
     let b = signed::signed_count(heights.len() % 65536);
-    let a = adjust::adjust(b, t, held, lines, heights);
+    let a = adjust::adjust(version, b, t, held, lines, heights);
     let r = a.refusal;
     if 0 < r.number {
         put_refusal(r.number, r.place);
@@ -162,7 +170,7 @@ fn sheet(t: i64, held: &[i64], lines: &[i64], heights: &mut [i64], n: usize) {
     put(b"ADJUSTED HEIGHTS\n");
     put_counts(heights.len(), n, held.len() / Held::WORDS, a.sweeps);
     put_heights(held, heights);
-    put_rates(b, t, held, lines, heights, n);
+    put_rates(version, b, t, held, lines, heights, n);
 }
 
 fn run(file: &[u8], held: &mut [i64], lines: &mut [i64], heights: &mut [i64]) {
@@ -172,12 +180,14 @@ fn run(file: &[u8], held: &mut [i64], lines: &mut [i64], heights: &mut [i64]) {
         put_refusal(r.number, r.place);
         return;
     }
+    let version = signed::signed_count(book.version % 65536);
     let t = signed::signed_count(book.t % 65536);
     let n = book.n % 600;
     let held_words = cases::at_most(book.h % 600 * Held::WORDS, held.len());
     let line_words = cases::at_most(n * Line::WORDS, lines.len());
     let marks = cases::at_most(book.b, heights.len());
     sheet(
+        version,
         t,
         &held[..held_words],
         &lines[..line_words],

@@ -1,7 +1,7 @@
 // Lists the loops of many books, one by one and all at once, and the lines that are not checked, withdraws a line and lists again, spoils
-// the book number by number, and prints every answer and what the output then holds. A case on standard input (cases::case) has two
-// numbers: how many places of output are lent, and its file's length. tests/list_cases.py makes the cases and, on its own, what is
-// printed of them.
+// the book number by number, tells the calls of versions that are not the book's, and prints every answer and what the output then holds.
+// A case on standard input (cases::case) has two numbers: how many places of output are lent, and its file's length.
+// tests/list_cases.py makes the cases and, on its own, what is printed of them.
 ghost use Prim.Native.Nat.{_≤_};
 use book::Book;
 use book::held::Held;
@@ -17,6 +17,9 @@ const STANDING: usize = 2 * Line::WORDS + Line::STANDING;
 const PAST_ALL: usize = Book::MAX_LINES + 1;
 
 const NO_SUCH_LOOP: usize = 8;
+
+// A class that is none in either version.
+const NO_CLASS: i64 = 5;
 
 fn put(text: &[u8]) {
     io::write_all(cases::STDOUT, text);
@@ -34,8 +37,16 @@ fn put_listed(a: lists::Listed, out: &[i64]) {
 }
 
 // Lists the loop of this number, and gives back the answer's refusal number.
-fn list_loop(b: i64, t: i64, held: &[i64], lines: &[i64], number: i64, out: &mut [i64]) -> usize {
-    let a = lists::listing(b, t, held, lines, number, out);
+fn list_loop(
+    version: i64,
+    b: i64,
+    t: i64,
+    held: &[i64],
+    lines: &[i64],
+    number: i64,
+    out: &mut [i64],
+) -> usize {
+    let a = lists::listing(version, b, t, held, lines, number, out);
     put(b"  loop");
     cases::put_signed(number);
     put_listed(a, out);
@@ -44,31 +55,32 @@ fn list_loop(b: i64, t: i64, held: &[i64], lines: &[i64], number: i64, out: &mut
 }
 
 // Every loop from the first, and the number past the last.
-fn list_from_first(b: i64, t: i64, held: &[i64], lines: &[i64], out: &mut [i64]) {
+fn list_from_first(version: i64, b: i64, t: i64, held: &[i64], lines: &[i64], out: &mut [i64]) {
     let mut number = 1;
     while number <= PAST_ALL {
-        if list_loop(b, t, held, lines, signed::signed_count(number), out) == NO_SUCH_LOOP {
+        let one = signed::signed_count(number);
+        if list_loop(version, b, t, held, lines, one, out) == NO_SUCH_LOOP {
             return;
         }
         number += 1;
     }
 }
 
-fn all_loops(b: i64, t: i64, held: &[i64], lines: &[i64], out: &mut [i64]) {
-    let a = lists::listings(b, t, held, lines, out);
+fn all_loops(version: i64, b: i64, t: i64, held: &[i64], lines: &[i64], out: &mut [i64]) {
+    let a = lists::listings(version, b, t, held, lines, out);
     put(b"  all loops");
     put_listed(a, out);
 }
 
-fn list_loops(b: i64, t: i64, held: &[i64], lines: &[i64], out: &mut [i64]) {
-    list_loop(b, t, held, lines, -1, out);
-    list_loop(b, t, held, lines, 0, out);
-    list_from_first(b, t, held, lines, out);
-    all_loops(b, t, held, lines, out);
+fn list_loops(version: i64, b: i64, t: i64, held: &[i64], lines: &[i64], out: &mut [i64]) {
+    list_loop(version, b, t, held, lines, -1, out);
+    list_loop(version, b, t, held, lines, 0, out);
+    list_from_first(version, b, t, held, lines, out);
+    all_loops(version, b, t, held, lines, out);
 }
 
-fn not_checked(b: i64, t: i64, held: &[i64], lines: &[i64], out: &mut [i64]) {
-    let a = lists::not_checked(b, t, held, lines, out);
+fn not_checked(version: i64, b: i64, t: i64, held: &[i64], lines: &[i64], out: &mut [i64]) {
+    let a = lists::not_checked(version, b, t, held, lines, out);
     put(b"  not checked");
     put_listed(a, out);
 }
@@ -79,19 +91,41 @@ fn withdraw(lines: &mut [i64]) {
     }
 }
 
-fn without_it(b: i64, t: i64, held: &[i64], lines: &mut [i64], out: &mut [i64]) {
+fn without_it(version: i64, b: i64, t: i64, held: &[i64], lines: &mut [i64], out: &mut [i64]) {
     put(b"line 3 withdrawn\n");
     withdraw(lines);
-    not_checked(b, t, held, lines, out);
-    list_loops(b, t, held, lines, out);
+    not_checked(version, b, t, held, lines, out);
+    list_loops(version, b, t, held, lines, out);
 }
 
 // The three lists of a book that is spoilt.
-fn list_spoilt(name: &[u8], b: i64, t: i64, held: &[i64], lines: &[i64], out: &mut [i64]) {
+fn list_spoilt(
+    name: &[u8],
+    version: i64,
+    b: i64,
+    t: i64,
+    held: &[i64],
+    lines: &[i64],
+    out: &mut [i64],
+) {
     put(name);
-    list_loop(b, t, held, lines, 1, out);
-    all_loops(b, t, held, lines, out);
-    not_checked(b, t, held, lines, out);
+    list_loop(version, b, t, held, lines, 1, out);
+    all_loops(version, b, t, held, lines, out);
+    not_checked(version, b, t, held, lines, out);
+}
+
+// Told as of either version: the classes of one version are not the other's.
+fn tell_either(b: i64, held: &[i64], lines: &[i64], out: &mut [i64]) {
+    list_spoilt(b"version 1, t 1\n", 1, b, 1, held, lines, out);
+    list_spoilt(b"version 2, t 0\n", 2, b, 0, held, lines, out);
+}
+
+// The last line gets a class that is none.
+fn spoil_class(lines: &mut [i64]) {
+    if Line::WORDS <= lines.len() {
+        let at = lines.len() - Line::WORDS;
+        lines[at + Line::CLASS] = NO_CLASS;
+    }
 }
 
 // The last entry, of so many numbers, begins with 0: a line then runs from mark 0, and a held entry is of mark 0.
@@ -104,30 +138,82 @@ fn spoil_last(entries: &mut [i64], words: usize)
     }
 }
 
-// What is spoilt stays so, and of several refusals the lowest number is given: 7, then 6, then 4.
-fn spoil(b: i64, t: i64, held: &mut [i64], lines: &mut [i64], out: &mut [i64]) {
+// What is spoilt stays so, and of several refusals the lowest number is given: 7, then 6.
+fn spoil_line(version: i64, b: i64, t: i64, held: &[i64], lines: &mut [i64], out: &mut [i64]) {
+    spoil_class(lines);
+    list_spoilt(
+        b"the last line of class 5\n",
+        version,
+        b,
+        t,
+        held,
+        lines,
+        out,
+    );
     spoil_last(lines, Line::WORDS);
-    list_spoilt(b"the last line from mark 0\n", b, t, held, lines, out);
-    spoil_last(held, Held::WORDS);
-    list_spoilt(b"the last held entry of mark 0\n", b, t, held, lines, out);
-    list_spoilt(b"a tolerance of 0\n", b, 0, held, lines, out);
+    list_spoilt(
+        b"the last line from mark 0\n",
+        version,
+        b,
+        t,
+        held,
+        lines,
+        out,
+    );
 }
 
-fn run(b: i64, t: i64, held: &mut [i64], lines: &mut [i64], out: &mut [i64]) {
+fn spoil_held(version: i64, b: i64, t: i64, held: &mut [i64], lines: &[i64], out: &mut [i64]) {
+    spoil_last(held, Held::WORDS);
+    list_spoilt(
+        b"the last held entry of mark 0\n",
+        version,
+        b,
+        t,
+        held,
+        lines,
+        out,
+    );
+}
+
+// Then 4, for a tolerance that is not the version's, and 3.
+fn tell_neither(b: i64, t: i64, held: &[i64], lines: &[i64], out: &mut [i64]) {
+    list_spoilt(b"version 1, t 0\n", 1, b, 0, held, lines, out);
+    list_spoilt(b"version 2, t 1\n", 2, b, 1, held, lines, out);
+    list_spoilt(b"version 0\n", 0, b, t, held, lines, out);
+    list_spoilt(b"version 3, t 1001\n", 3, b, 1_001, held, lines, out);
+    list_spoilt(b"version 255\n", 255, b, t, held, lines, out);
+}
+
+fn spoil(version: i64, b: i64, t: i64, held: &mut [i64], lines: &mut [i64], out: &mut [i64]) {
+    tell_either(b, held, lines, out);
+    spoil_line(version, b, t, held, lines, out);
+    spoil_held(version, b, t, held, lines, out);
+    tell_neither(b, t, held, lines, out);
+}
+
+fn run(version: i64, b: i64, t: i64, held: &mut [i64], lines: &mut [i64], out: &mut [i64]) {
     cases::clear(out);
-    list_loops(b, t, held, lines, out);
-    not_checked(b, t, held, lines, out);
-    without_it(b, t, held, lines, out);
-    spoil(b, t, held, lines, out);
+    list_loops(version, b, t, held, lines, out);
+    not_checked(version, b, t, held, lines, out);
+    without_it(version, b, t, held, lines, out);
+    spoil(version, b, t, held, lines, out);
 }
 
 fn read_and_run(file: &[u8], held: &mut [i64], lines: &mut [i64], out: &mut [i64]) {
     let book = file::read(file, held, lines);
+    let version = signed::signed_count(book.version % 65536);
     let b = signed::signed_count(book.b % 65536);
     let t = signed::signed_count(book.t % 65536);
     let held_words = cases::at_most(book.h % 600 * Held::WORDS, held.len());
     let line_words = cases::at_most(book.n % 600 * Line::WORDS, lines.len());
-    run(b, t, &mut held[..held_words], &mut lines[..line_words], out);
+    run(
+        version,
+        b,
+        t,
+        &mut held[..held_words],
+        &mut lines[..line_words],
+        out,
+    );
 }
 
 fn one_case(case: &[u8]) {

@@ -1,13 +1,14 @@
 // Reads many book files, one case after the other, and prints what the reader answers and leaves in its buffers.
 // A case on standard input (cases::case) has three numbers: how many places of each buffer are lent, held first, and its file's length.
 // tests/reader_cases.py makes the cases and, on its own, what is printed of them.
+use book::line::Line;
 use cases::case;
 
 const NUMBERS: usize = 3;
 
 const HELD_SPACE: usize = 520;
 
-const LINE_SPACE: usize = 2600;
+const LINE_SPACE: usize = 520 * Line::WORDS;
 
 fn run(file: &[u8], held: &mut [i64], lines: &mut [i64]) {
     cases::clear(held);
@@ -16,6 +17,7 @@ fn run(file: &[u8], held: &mut [i64], lines: &mut [i64]) {
     let r = a.refusal;
     cases::put(r.number);
     cases::put(r.place);
+    cases::put(a.version);
     cases::put(a.b);
     cases::put(a.t);
     cases::put(a.h);

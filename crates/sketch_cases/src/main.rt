@@ -1,7 +1,7 @@
-// Prints the junction sketches of many files; of some it sketches the book in memory too, with lines withdrawn, and prints every answer and
-// what the four outputs then hold. A case on standard input (cases::case) has two numbers: of how many lines each last one is withdrawn, 0
-// where the text is all that is wanted, and its file's length. tests/sketch_cases.py makes the cases and, on its own, what is printed of
-// them.
+// Prints the junction sketches of many files; of some it sketches the book in memory too, with lines withdrawn and told as of versions
+// that are not the book's, and prints every answer and what the four outputs then hold. A case on standard input (cases::case) has two
+// numbers: of how many lines each last one is withdrawn, 0 where the text is all that is wanted, and its file's length.
+// tests/sketch_cases.py makes the cases and, on its own, what is printed of them.
 ghost use Prim.Native.Nat.{_<_, _≤_};
 use book::Book;
 use book::held::Held;
@@ -23,6 +23,9 @@ const SPURS: usize = 2;
 const LOOPS: usize = 3;
 
 const RUN: usize = 4;
+
+// A class that is none in either version.
+const NO_CLASS: i64 = 5;
 
 // How many places each of the four outputs has.
 struct Room {
@@ -66,6 +69,7 @@ fn put_answer(a: Sketched, links: &[i64], spurs: &[i64], loops: &[i64], run: &[i
 
 // Sketches the book into these outputs.
 fn show_in(
+    version: i64,
     b: i64,
     t: i64,
     held: &[i64],
@@ -79,12 +83,20 @@ fn show_in(
     cases::clear(spurs);
     cases::clear(loops);
     cases::clear(run);
-    let a = junctions::sketch(b, t, held, lines, links, spurs, loops, run);
+    let a = junctions::sketch(version, b, t, held, lines, links, spurs, loops, run);
     put_answer(a, links, spurs, loops, run);
     a
 }
 
-fn show(name: &[u8], b: i64, t: i64, held: &[i64], lines: &[i64], room: Room) -> Sketched {
+fn show(
+    name: &[u8],
+    version: i64,
+    b: i64,
+    t: i64,
+    held: &[i64],
+    lines: &[i64],
+    room: Room,
+) -> Sketched {
     put(name);
     let mut links = [0i64; ENTRIES];
     let mut spurs = [0i64; ENTRIES];
@@ -95,6 +107,7 @@ fn show(name: &[u8], b: i64, t: i64, held: &[i64], lines: &[i64], room: Room) ->
     let to_loops = cases::at_most(room.loops, ENTRIES);
     let to_run = cases::at_most(room.run, Book::MAX_LINES);
     show_in(
+        version,
         b,
         t,
         held,
@@ -142,29 +155,83 @@ fn withdraw(lines: &mut [i64], every: usize)
     }
 }
 
-// The sketch into much room, into room that just fits, and "10 where any of the four is too short"; then of a book with a tolerance of 0.
-fn show_all(b: i64, t: i64, held: &[i64], lines: &[i64]) {
-    let most = Room {
+fn much_room() -> Room {
+    Room {
         links: ENTRIES,
         spurs: ENTRIES,
         loops: ENTRIES,
         run: Book::MAX_LINES,
-    };
-    let a = show(b"much room:", b, t, held, lines, most);
-    show(b"just enough:", b, t, held, lines, fitting(a, NONE));
-    show(b"fewer links:", b, t, held, lines, fitting(a, LINKS));
-    show(b"fewer spurs:", b, t, held, lines, fitting(a, SPURS));
-    show(b"fewer loops:", b, t, held, lines, fitting(a, LOOPS));
-    show(b"a shorter run:", b, t, held, lines, fitting(a, RUN));
-    show(b"a tolerance of 0:", b, 0, held, lines, most);
+    }
 }
 
-fn show_thinned(b: i64, t: i64, held: &[i64], lines: &mut [i64], every: usize)
+fn one_place_each() -> Room {
+    Room {
+        links: 1,
+        spurs: 1,
+        loops: 1,
+        run: 1,
+    }
+}
+
+// The sketch into such room.
+fn show_fitting(
+    name: &[u8],
+    version: i64,
+    b: i64,
+    t: i64,
+    held: &[i64],
+    lines: &[i64],
+    a: Sketched,
+    short: usize,
+) {
+    show(name, version, b, t, held, lines, fitting(a, short));
+}
+
+// The sketch into much room, into room that just fits, and "10 where any of the four is too short".
+fn show_all(version: i64, b: i64, t: i64, held: &[i64], lines: &[i64]) {
+    let a = show(b"much room:", version, b, t, held, lines, much_room());
+    show_fitting(b"just enough:", version, b, t, held, lines, a, NONE);
+    show_fitting(b"fewer links:", version, b, t, held, lines, a, LINKS);
+    show_fitting(b"fewer spurs:", version, b, t, held, lines, a, SPURS);
+    show_fitting(b"fewer loops:", version, b, t, held, lines, a, LOOPS);
+    show_fitting(b"a shorter run:", version, b, t, held, lines, a, RUN);
+}
+
+// Told as of either version, with one place in each output: t and the classes of one version are not the other's, which comes before 10.
+fn tell_either(b: i64, held: &[i64], lines: &[i64]) {
+    let room = one_place_each();
+    show(b"version 1, t 0:", 1, b, 0, held, lines, room);
+    show(b"version 1, t 1:", 1, b, 1, held, lines, room);
+    show(b"version 2, t 0:", 2, b, 0, held, lines, room);
+    show(b"version 2, t 1:", 2, b, 1, held, lines, room);
+}
+
+// The last line gets a class that is none.
+fn spoil_class(lines: &mut [i64]) {
+    if Line::WORDS <= lines.len() {
+        let at = lines.len() - Line::WORDS;
+        lines[at + Line::CLASS] = NO_CLASS;
+    }
+}
+
+// That, and told as of no version, which comes before it.
+fn show_spoilt(version: i64, b: i64, t: i64, held: &[i64], lines: &[i64]) {
+    let room = one_place_each();
+    show(b"class 5:", version, b, t, held, lines, room);
+    show(b"version 0:", 0, b, t, held, lines, room);
+    show(b"version 3:", 3, b, t, held, lines, room);
+    show(b"version 255:", 255, b, t, held, lines, much_room());
+}
+
+fn show_thinned(version: i64, b: i64, t: i64, held: &[i64], lines: &mut [i64], every: usize)
     requires { ⌜ 0 < every ⌝
         ∗ ⌜ every ≤ 65535 ⌝ }
 {
     withdraw(lines, every);
-    show_all(b, t, held, lines);
+    show_all(version, b, t, held, lines);
+    tell_either(b, held, lines);
+    spoil_class(lines);
+    show_spoilt(version, b, t, held, lines);
 }
 
 // The book of the file, in memory, with lines withdrawn.
@@ -175,11 +242,19 @@ fn read_and_show(file: &[u8], every: usize)
     let mut held = [0i64; Book::HELD_WORDS];
     let mut lines = [0i64; Book::LINE_WORDS];
     let book = file::read(file, &mut held[..], &mut lines[..]);
+    let version = signed::signed_count(book.version % 65536);
     let b = signed::signed_count(book.b % 65536);
     let t = signed::signed_count(book.t % 65536);
     let held_words = cases::at_most(book.h, Book::MAX_HELD) * Held::WORDS;
     let line_words = cases::at_most(book.n, Book::MAX_LINES) * Line::WORDS;
-    show_thinned(b, t, &held[..held_words], &mut lines[..line_words], every);
+    show_thinned(
+        version,
+        b,
+        t,
+        &held[..held_words],
+        &mut lines[..line_words],
+        every,
+    );
 }
 
 fn one_case(case: &[u8]) {

@@ -5,10 +5,10 @@ use Rattle.adjust_cases.proofs.rate_all.Statement.{statement}
 use Rattle.adjust_cases.proofs.rate_all.Tie as tie
 
 abbrev Inv-loop : tie.InvT-loop
-Inv-loop b t held lines heights n line₀ line = Unit {0}
+Inv-loop version b t held lines heights n line₀ line = Unit {0}
 
 abbrev μ-loop : tie.MeasureT-loop
-μ-loop b t held lines heights n line₀ line = n - line
+μ-loop version b t held lines heights n line₀ line = n - line
 
 pub rate-all-spec : {M : Type 1} → statement M
 rate-all-spec =

@@ -5,10 +5,10 @@ use Rattle.afternoon.proofs.play.Statement.{statement}
 use Rattle.afternoon.proofs.play.Tie as tie
 
 abbrev Inv-loop : tie.InvT-loop
-Inv-loop b t file held₀ lines₀ report₀ steps at₀ held lines report at = at ≤ length steps
+Inv-loop version b t file held₀ lines₀ report₀ steps at₀ held lines report at = at ≤ length steps
 
 abbrev μ-loop : tie.MeasureT-loop
-μ-loop b t file held₀ lines₀ report₀ steps at₀ held lines report at = length steps - at
+μ-loop version b t file held₀ lines₀ report₀ steps at₀ held lines report at = length steps - at
 
 pub play-spec : {M : Type 1} → statement M
 play-spec =

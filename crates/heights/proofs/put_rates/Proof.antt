@@ -5,10 +5,10 @@ use Rattle.heights.proofs.put_rates.Statement.{statement}
 use Rattle.heights.proofs.put_rates.Tie as tie
 
 abbrev Inv-loop : tie.InvT-loop
-Inv-loop b t held lines heights n i₀ i = Unit {0}
+Inv-loop version b t held lines heights n i₀ i = Unit {0}
 
 abbrev μ-loop : tie.MeasureT-loop
-μ-loop b t held lines heights n i₀ i = n - i
+μ-loop version b t held lines heights n i₀ i = n - i
 
 pub put-rates-spec : {M : Type 1} → statement M
 put-rates-spec =

@@ -14,6 +14,7 @@ run-spec =
     (λ c. search needs)  -- same-length-2
     (λ c. search needs)  -- returns
     (λ c κs. search needs)  -- signed-count-requires
+    (λ c κs. search needs)  -- signed-count-requires-2
     (λ c. search needs)  -- mul-at-most
     (λ c κs. search needs)  -- at-most-requires
     (λ c. search needs)  -- mul-at-most-2

@@ -6,10 +6,10 @@ use Rattle.list_cases.proofs.list_from_first.Statement.{statement}
 use Rattle.list_cases.proofs.list_from_first.Tie as tie
 
 abbrev Inv-loop : tie.InvT-loop
-Inv-loop b t held lines out₀ number₀ out number = length out ≡ length out₀
+Inv-loop version b t held lines out₀ number₀ out number = length out ≡ length out₀
 
 abbrev μ-loop : tie.MeasureT-loop
-μ-loop b t held lines out₀ number₀ out number = 514 - number
+μ-loop version b t held lines out₀ number₀ out number = 514 - number
 
 pub list-from-first-spec : {M : Type 1} → statement M
 list-from-first-spec =

@@ -13,6 +13,7 @@ read-and-show-spec =
     (λ c κs. search needs)  -- read-requires
     (λ c κs. search needs)  -- signed-count-requires
     (λ c κs. search needs)  -- signed-count-requires-2
+    (λ c κs. search needs)  -- signed-count-requires-3
     (λ c κs. search needs)  -- at-most-requires
     (λ c. search needs)  -- mul-held-words
     (λ c κs. search needs)  -- at-most-requires-2

@@ -6,10 +6,10 @@ use Rattle.survey_cases.proofs.correct_all.Statement.{statement}
 use Rattle.survey_cases.proofs.correct_all.Tie as tie
 
 abbrev Inv-loop : tie.InvT-loop
-Inv-loop b t held lines₀ report₀ n line₀ lines report line = (length lines ≡ length lines₀) × (length report ≡ length report₀)
+Inv-loop version b t held lines₀ report₀ n line₀ lines report line = (length lines ≡ length lines₀) × (length report ≡ length report₀)
 
 abbrev μ-loop : tie.MeasureT-loop
-μ-loop b t held lines₀ report₀ n line₀ lines report line = n - line
+μ-loop version b t held lines₀ report₀ n line₀ lines report line = n - line
 
 pub correct-all-spec : {M : Type 1} → statement M
 correct-all-spec =

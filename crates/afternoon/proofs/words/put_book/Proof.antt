@@ -7,7 +7,7 @@ abbrev Inv-loop : tie.InvT-loop
 Inv-loop were are i₀ i = Unit {0}
 
 abbrev μ-loop : tie.MeasureT-loop
-μ-loop were are i₀ i = 35 - i
+μ-loop were are i₀ i = 42 - i
 
 pub put-book-spec : {M : Type 1} → statement M
 put-book-spec =
