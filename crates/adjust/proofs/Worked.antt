@@ -6,6 +6,7 @@ use mathlib.Core.List.{List, [], _∷_}
 use lib.IntN.{ℤ, pos, negsuc}
 use Rattle.laws.specs.Tests.{outZ, eqZ}
 use Rattle.laws.specs.Scan.{firstFrom, firstBad}
+use Rattle.book.specs.Version.{noClass}
 use Rattle.book.specs.Height.{workHeightOut}
 use Rattle.network.specs.Standing.{keep, standingFrom, standing}
 use Rattle.network.specs.Tree.{distance, score, far, lowest, firstOut, step, grow, upTo, marks, tree}
@@ -17,7 +18,7 @@ use Rattle.start.specs.Start.{heldHeight, isHeld, rootedBy, rootHeight, unheldP
 use Rattle.adjust.specs.Adjusted.{done, refused, adjustment}
 
 abbrev line : ℕ → ℕ → ℤ → ℕ → List ℤ → List ℤ
-line f t d l rest = pos f ∷ pos t ∷ d ∷ pos l ∷ pos 1 ∷ rest
+line f t d l rest = pos f ∷ pos t ∷ d ∷ pos l ∷ pos 1 ∷ noClass ∷ rest
 
 abbrev lines : List ℤ
 lines =

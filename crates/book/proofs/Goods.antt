@@ -9,9 +9,9 @@ use native.Mathlib.Omega.{arith}
 use lib.Dec.{eqb, ltb}
 use lib.ListN.{length}
 use lib.IntN.{ℤ, pos, natAbs}
-use borrow.Author.Tests.{eqb-true, ltb-false, lt-ltb}
+use borrow.Author.Tests.{eqb-true, ltb-false, lt-ltb, not-false}
 use Rattle.laws.specs.Tests.{outZ, outN, eqZ}
-use Rattle.laws.proofs.Tests.{or-left, or-right, not-false, inN-high, eqZ-apart}
+use Rattle.laws.proofs.Tests.{or-left, or-right, inN-high, eqZ-apart}
 use Rattle.laws.proofs.Scans.{cond-zero, none-bad, none-below, first-most}
 use Rattle.laws.proofs.Size.{between, size-within}
 use Rattle.book.specs.Limits.{leastVersion, mostVersion, leastMarks, mostMarks, leastLines, mostLines, leastHeld, mostHeld}

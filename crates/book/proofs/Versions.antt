@@ -7,10 +7,11 @@ use Prim.Native.Nat.{ℕ, zero, suc, _≤_, _<_}
 use native.Mathlib.Omega.{arith}
 use lib.ListN.{length, getD}
 use lib.IntN.{ℤ, pos, negsuc, natAbs, pos-ne-negsuc}
+use borrow.Author.Tests.{not-false}
 use Rattle.laws.specs.Tests.{outZ, outN, eqZ}
 use Rattle.laws.specs.Scan.{firstFrom, firstBad}
 use Rattle.laws.specs.Range.{Between}
-use Rattle.laws.proofs.Tests.{not-false, inN-low, inN-high, eqZ-apart}
+use Rattle.laws.proofs.Tests.{inN-low, inN-high, eqZ-apart}
 use Rattle.laws.proofs.Scans.{none-bad}
 use Rattle.laws.proofs.Size.{between}
 use Rattle.laws.proofs.Inside.{inside, between-inside, eqZ-true}
@@ -89,6 +90,22 @@ module _ {lines : List ℤ} {n : ℕ} where
   pub classes : {version t : ℕ} → Versioned lines n version t → (i : ℕ) → i < n → Classed (classAt lines i)
   classes (single l h c) i k = inl (c i k)
   classes (classed c) i k = inr (c i k)
+
+  -- what each version asks of the classes
+  pub one-has-none : {version t : ℕ} → Versioned lines n version t → version ≡ 1 → (i : ℕ) → i < n → classAt lines i ≡ noClass
+  one-has-none (single l h c) e i k = c i k
+  one-has-none (classed c) e i k = absurd (omega arith)
+
+  pub two-has-one : {version t : ℕ} → Versioned lines n version t → version ≡ 2
+      → (t ≡ 0) × ((i : ℕ) → i < n → Between leastClass mostClass (classAt lines i))
+  two-has-one (single l h c) e = absurd (omega arith)
+  two-has-one (classed c) e = (refl, c)
+
+-- other lines with the same classes
+pub versioned-still : {lines new : List ℤ} {n version t : ℕ} → ((i : ℕ) → classAt lines i ≡ classAt new i)
+    → Versioned lines n version t → Versioned new n version t
+versioned-still same (single l h c) = single l h (λ i k. sym (same i) ∙ c i k)
+versioned-still same (classed c) = classed (λ i k. rw (← (same i)) (c i k))
 
 -- ---- the tolerance of a line
 

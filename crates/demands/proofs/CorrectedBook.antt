@@ -1,14 +1,17 @@
 -- The corrected book: a good book with one number set stays good; its standing lines and its loops. Assumes nothing.
 use mathlib.Core.List.{List, map}
-use mathlib.Core.Path.{_≡_, refl, _∙_, ap}
+use mathlib.Core.Path.{_≡_, refl, sym, _∙_, ap}
 use Prim.Native.Nat.{ℕ, suc, _*_, _≤_, _<_}
 use native.Mathlib.Omega.{arith}
+use lib.Dec.{lit<}
 use lib.IntN.{ℤ, pos, natAbs}
 use lib.ListN.{length, length-map, set, length-set}
 use lib.Seq.{getD-set-same, getD-set-other}
 use Rattle.book.specs.Lent.{Lent, withLines}
 use Rattle.book.specs.Good.{GoodBook, GoodLine}
-use Rattle.book.specs.Line.{differenceField, standingField, place}
+use Rattle.book.specs.Line.{differenceField, standingField, classField, place}
+use Rattle.book.proofs.Places.{field-kept}
+use Rattle.book.proofs.Versions.{versioned-still}
 use Rattle.book.specs.Limits.{mostDifference}
 use Rattle.book.specs.declared.Book.{Book}
 use Rattle.network.proofs.Corrected.{rerun-sets-difference, withdrawal-sets-standing}
@@ -53,19 +56,21 @@ module _ (lines : List ℤ) (number : ℤ) (i : ℕ) (stands : Stands lines numb
 
 module _ (book : Lent) (number : ℤ) (i : ℕ) (stands : Stands (book .lines) number i) (k : Book) (good : GoodBook k book) where
   -- of the corrected book only its lines are to be looked at again
-  with-lines : (p : ℕ) (v : ℤ) → ((j : ℕ) → GoodLine (k .marks) (book .lines) j → GoodLine (k .marks) (set (book .lines) p v) j)
-      → GoodBook k (withLines book (set (book .lines) p v))
-  with-lines p v h = record {
+  with-lines : (f : ℕ) (v : ℤ) → f < classField
+      → ((j : ℕ) → GoodLine (k .marks) (book .lines) j → GoodLine (k .marks) (set (book .lines) (place i f) v) j)
+      → GoodBook k (withLines book (set (book .lines) (place i f) v))
+  with-lines f v before h = record {
+    version = good .version;
     marks = good .marks;
     a-mark = good .a-mark;
     few-marks = good .few-marks;
     tolerance = good .tolerance;
-    a-tolerance = good .a-tolerance;
-    small-tolerance = good .small-tolerance;
+    by-version = versioned-still (λ j. sym (field-kept (book .lines) i f v classField (omega arith) (lit< tt) (λ e. omega arith) j))
+        (good .by-version);
     held-good = good .held-good;
     lines-good = record {
       few = good .lines-good .few;
-      whole = length-set (book .lines) p v ∙ good .lines-good .whole;
+      whole = length-set (book .lines) (place i f) v ∙ good .lines-good .whole;
       each = λ j l. h j (good .lines-good .each j l);
     };
   }
@@ -76,7 +81,7 @@ module _ (book : Lent) (number : ℤ) (i : ℕ) (stands : Stands (book .lines) n
   unfolding rerunLines
   rerun-stays-good d small =
       rw (place-is stands differenceField)
-      (with-lines (place i differenceField) d (λ j g. rerun-good (k .marks) (book .lines) i differenceField d
+      (with-lines differenceField d (lit< tt) (λ j g. rerun-good (k .marks) (book .lines) i differenceField d
       (omega (arith, has-line stands)) j g refl small))
 
   -- a book with a line withdrawn is good
@@ -84,7 +89,7 @@ module _ (book : Lent) (number : ℤ) (i : ℕ) (stands : Stands (book .lines) n
   unfolding withdrawLines
   withdrawal-stays-good =
       rw (place-is stands standingField)
-      (with-lines (place i standingField) (pos 0) (λ j g. withdrawal-good (k .marks) (book .lines) i standingField (pos 0)
+      (with-lines standingField (pos 0) (lit< tt) (λ j g. withdrawal-good (k .marks) (book .lines) i standingField (pos 0)
       (omega (arith, has-line stands)) j g refl refl))
 
 -- ---- the loops of the corrected book

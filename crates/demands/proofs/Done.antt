@@ -1,9 +1,10 @@
 -- When a call is done, in plain words. Assumes nothing.
 use mathlib.Core.Path.{_≡_, subst₂}
-use mathlib.Core.Logic.{_↔_}
-use mathlib.Core.Bool.{_||_}
+use mathlib.Core.Logic.{_⊎_, _↔_, inl, inr}
 use mathlib.Core.List.{List, []}
 use Prim.Native.Nat.{ℕ, _*_, _≤_}
+use native.Mathlib.Decide.{ℕ-discrete}
+use native.Mathlib.Omega.{arith}
 use lib.Dec.{eqb, ltb}
 use lib.ListN.{length, take, drop}
 use lib.Seq.{take-at}
@@ -14,7 +15,8 @@ use Rattle.laws.specs.Range.{Between}
 use Rattle.laws.proofs.Size.{between, size-within}
 use Rattle.laws.proofs.Inside.{between-inside, size-inside}
 use Rattle.book.specs.Lent.{Lent, lent}
-use Rattle.book.specs.Limits.{mostDifference}
+use Rattle.book.specs.Limits.{leastVersion, mostVersion, mostDifference}
+use Rattle.book.specs.Version.{versionOut}
 use Rattle.book.specs.Held.{heldWords, heldCount}
 use Rattle.book.specs.Line.{lineWords, lineCount, differenceOut}
 use Rattle.book.specs.Test.{torn, bookOut, counts, countsOf, testOf}
@@ -41,6 +43,7 @@ use Rattle.demands.proofs.Refusals.{no-other-fault, survey-keeps-to-tab
 use Rattle.demands.proofs.Refusals.{not-checked-keeps-to-table, reader-keeps-to-table, rerun-keeps-to-table}
 use Rattle.demands.proofs.Refusals.{withdrawal-keeps-to-table}
 use Rattle.demands.proofs.BookRules.{None, none-in, none-and, first-of, rest-of, passes-if, passes-only-if}
+use Rattle.demands.proofs.BookRules.{own-rules, none-beside, beside-none}
 
 module _ (book : Lent) where
   -- a survey is done exactly if the book passes the test and its report has room
@@ -53,7 +56,7 @@ module _ (book : Lent) where
           _,
           passes-if book h,
           ltb-false (length out) (length (afresh book))
-              (first-of (rest-of (rest-of (rest-of h)))),
+              (first-of (own-rules h)),
         ),
         λ p. w .1 (passes-only-if book (p .0) (p .1) (none-and (le-ltb (length out) (length (afresh book)) (p .2)) none-in)),
       )
@@ -67,7 +70,7 @@ module _ (book : Lent) where
       let w = listing-keeps-to-table book loop out .table .done-exactly-if in (
         λ z.
             let h = w .0 z in
-            let own = rest-of (rest-of (rest-of h)) in (
+            let own = own-rules h in (
               _,
               passes-if book h,
               between 1 (length (loopsOf (natAbs (book .b)) (book .lines))) loop (first-of own),
@@ -85,7 +88,7 @@ module _ (book : Lent) where
   listings-done-exactly-if out =
       let w = listings-keeps-to-table book out .table .done-exactly-if in
       let all = length (listings (loopsOf (natAbs (book .b)) (book .lines))) in (
-        λ z. let h = w .0 z in (_, passes-if book h, ltb-false (length out) all (first-of (rest-of (rest-of (rest-of h))))),
+        λ z. let h = w .0 z in (_, passes-if book h, ltb-false (length out) all (first-of (own-rules h))),
         λ p. w .1 (passes-only-if book (p .0) (p .1) (none-and (le-ltb (length out) all (p .2)) none-in)),
       )
 
@@ -100,7 +103,7 @@ module _ (book : Lent) where
           _,
           passes-if book h,
           ltb-false (length out) (length (uncheckedOf (natAbs (book .b)) (book .lines)))
-              (first-of (rest-of (rest-of (rest-of h)))),
+              (first-of (own-rules h)),
         ),
         λ p. w .1 (passes-only-if book (p .0) (p .1) (none-and
             (le-ltb (length out) (length (uncheckedOf (natAbs (book .b)) (book .lines))) (p .2)) none-in)),
@@ -131,7 +134,7 @@ module _ (book : Lent) where
   unfolding withdrawRules
   withdrawal-done-exactly-if report number =
       let w = withdrawal-keeps-to-table book report number .table .done-exactly-if in (
-        λ z. correction-only-if report number (passes-if book (w .0 z)) (rest-of (rest-of (rest-of (w .0 z)))),
+        λ z. correction-only-if report number (passes-if book (w .0 z)) (own-rules (w .0 z)),
         λ a. w .1 (passes-only-if book (a .counts) (a .passes) (correction-if report number a)),
       )
 
@@ -144,21 +147,31 @@ module _ (book : Lent) where
       let w = rerun-keeps-to-table book report number difference .table .done-exactly-if in (
         λ z.
             let h = w .0 z in
-            let four = first-of h in
-            let fault = or-right (differenceOut difference) (bookFault book) four in (
-              size-within mostDifference difference (or-left (differenceOut difference) (bookFault book) four),
-              correction-only-if report
-                  number (passes-if book (none-and fault (rest-of h))) (rest-of (rest-of (rest-of h))),
+            let p = none-beside h in (
+              size-within mostDifference difference (p .0),
+              correction-only-if report number (passes-if book (p .1)) (own-rules h),
             ),
         λ p.
             let a = p .1 in
             let h = passes-only-if book (a .counts) (a .passes) (correction-if report number a) in
-            w .1 (none-and (rw (size-inside mostDifference difference (p .0)) (first-of h)) (rest-of h)),
+            w .1 (beside-none (size-inside mostDifference difference (p .0)) h),
       )
 
 -- ---- the file
 
+-- version 1 or 2
+one-or-two : (v : ℕ) → versionOut (pos v) ≡ false → (v ≡ 1) ⊎ (v ≡ 2)
+unfolding versionOut
+one-or-two v e = let w = between leastVersion mostVersion (pos v) e in go (ℕ-discrete v 1) (w .low) (w .high)
+  where
+    go : Dec (v ≡ 1) → 1 ≤ v → v ≤ 2 → (v ≡ 1) ⊎ (v ≡ 2)
+    go (yes e) low high = inl e
+    go (no d) low high = inr (omega arith)
+
 module _ (file : List ℕ) (held lines : List ℤ) where
+  abbrev v : ℕ
+  v = statedVersion file
+
   abbrev b : ℤ
   b = pos (statedB file)
 
@@ -171,11 +184,14 @@ module _ (file : List ℕ) (held lines : List ℤ) where
   abbrev n : ℕ
   n = statedN file
 
+  abbrev k : Book
+  k = statedCounts file
+
   abbrev book : Lent
-  book = bookIn file (statedCounts file)
+  book = bookIn file k
 
   abbrev GoodWith : ℕ → ℕ → Type 0
-  GoodWith x y = GoodBook (counts b t x y) book
+  GoodWith x y = GoodBook (counts (pos v) b t x y) book
 
   -- a file is read exactly if it is readable
   pub read-exactly-if-readable : (readOf file held lines .answer .refusal .number ≡ 0) ↔ Readable file held lines
@@ -197,31 +213,31 @@ module _ (file : List ℕ) (held lines : List ℤ) where
           let few-held = ltb (length held) (h * heldWords) in
           let few-lines = ltb (length lines) (n * lineWords) in
           let passes =
-          passes-if book {more = []} (none-and (no-other-fault file held lines (first-of r₄))
-          (none-and (first-of r₆) (none-and (first-of r₇) none-in))) in
+          passes-if book {more = []} (none-and (first-of r₃) (none-and (no-other-fault file held lines (first-of r₄))
+          (none-and (first-of r₆) (none-and (first-of r₇) none-in)))) in
           record {
             long-enough = ltb-false (length file) 13 (first-of r₁);
             its-length = eqb-true (statedLength file) (length file) (not-false (eqb (statedLength file) (length file)) (first-of r₂));
-            version-one = eqb-true (statedVersion file) 1 (not-false (eqb (statedVersion file) 1) (first-of r₃));
-            whole = eqb-true (length file) (fileLength h n) (not-false (eqb (length file) (fileLength h n)) (first-of r₅));
-            good = subst₂ GoodWith (held-entries file held lines h) (line-entries file held lines h n) (tested-good book _ passes);
+            known-version = one-or-two v (first-of r₃);
+            whole = eqb-true (length file) (fileLength v h n) (not-false (eqb (length file) (fileLength v h n)) (first-of r₅));
+            good = subst₂ GoodWith (held-entries file held lines k) (line-entries file held lines k) (tested-good book _ passes);
             room-for-held = ltb-false (length held) (h * heldWords) (or-left few-held few-lines (first-of r₈));
             room-for-lines = ltb-false (length lines) (n * lineWords) (or-right few-held few-lines (first-of r₈));
           }
 
       back : Readable file held lines → None (fileRules file held lines)
       back r =
-          let rules = passes-only-if book (statedCounts file) (good-passes (statedCounts file) book (r .good)) {more = []} none-in in
+          let rules = passes-only-if book k (good-passes k book (r .good)) {more = []} none-in in
           let fault =
-          or-right (torn heldWords (heldOf file h) || torn lineWords (linesOf file h n))
-          (bookOut b t (heldCount (heldOf file h)) (lineCount (linesOf file h n))) (first-of rules) in
+          or-left (bookOut (pos v) b t (heldCount (heldOf file k)) (lineCount (linesOf file k))) (torn heldWords (heldOf file k))
+          (or-left _ (torn lineWords (linesOf file k)) (first-of (rest-of rules))) in
           none-and (le-ltb (length file) 13 (r .long-enough))
           (none-and (rw (eq-eqb (statedLength file) (length file) (r .its-length)))
-          (none-and (rw (eq-eqb (statedVersion file) 1 (r .version-one)))
-          (none-and (rw (held-entries file held lines h, line-entries file held lines h n) at fault)
-          (none-and (rw (eq-eqb (length file) (fileLength h n) (r .whole)))
-          (none-and (first-of (rest-of rules))
+          (none-and (first-of rules)
+          (none-and (rw (held-entries file held lines k, line-entries file held lines k) at fault)
+          (none-and (rw (eq-eqb (length file) (fileLength v h n) (r .whole)))
           (none-and (first-of (rest-of (rest-of rules)))
+          (none-and (first-of (rest-of (rest-of (rest-of rules))))
           (none-and (rw (
             le-ltb (length held) (h * heldWords) (r .room-for-held),
             le-ltb (length lines) (n * lineWords)
@@ -230,13 +246,19 @@ module _ (file : List ℕ) (held lines : List ℤ) where
 
   -- and the book that it leaves in the buffers passes the test of every call
   pub read-book-passes : let o = readOf file held lines in o .answer .refusal .number ≡ 0
-      → testOf (lent (pos (o .answer .b)) (pos (o .answer .t)) (take (o .answer .h * heldWords) (o .held))
+      → testOf (lent (pos (o .answer .version)) (pos (o .answer .b)) (pos (o .answer .t)) (take (o .answer .h * heldWords) (o .held))
       (take (o .answer .n * lineWords) (o .lines)))
-      ≡ Good (record { marks = o .answer .b; tolerance = o .answer .t; held = o .answer .h; lines = o .answer .n })
+      ≡ Good (record {
+        version = o .answer .version;
+        marks = o .answer .b;
+        tolerance = o .answer .t;
+        held = o .answer .h;
+        lines = o .answer .n;
+      })
   read-book-passes z =
       let good = read-exactly-if-readable .0 z .good in
       rw (
         reader-keeps-to-table file held lines .finished z,
-        take-at (heldOf file h) (drop (h * heldWords) held) (h * heldWords) (good .held-good .whole),
-        take-at (linesOf file h n) (drop (n * lineWords) lines) (n * lineWords) (good .lines-good .whole),
-      ) (good-passes (statedCounts file) book good)
+        take-at (heldOf file k) (drop (h * heldWords) held) (h * heldWords) (good .held-good .whole),
+        take-at (linesOf file k) (drop (n * lineWords) lines) (n * lineWords) (good .lines-good .whole),
+      ) (good-passes k book good)

@@ -12,10 +12,9 @@ use lib.ListN.{length, take, drop}
 use lib.Seq.{take-at, drop-at}
 use lib.IntN.{ℤ, pos, negsuc, natAbs, _-ℤ_}
 use lib.Ieee.{fin, binary64, ofInt, div}
-use borrow.Author.Tests.{ltb-false, lt-ltb, le-ltb, not-false}
+use borrow.Author.Tests.{ltb-false, lt-ltb, le-ltb}
 use Rattle.book.specs.Good.{Lines}
 use Rattle.laws.specs.Tests.{eqZ}
-use Rattle.laws.proofs.Tests.{or-left, or-right}
 use Rattle.laws.specs.Range.{Between}
 use Rattle.laws.proofs.Size.{between, size-sub}
 use Rattle.book.specs.Lent.{Lent}
@@ -43,24 +42,19 @@ use Rattle.adjust.specs.Answers as adjust
 use Rattle.adjust.specs.Adjusted.{done, unlessUnheld, ended, adjustment}
 use Rattle.adjust.specs.Call.{Given, adjusted, givenBy, adjustGood, adjustOf}
 use Rattle.adjust.proofs.Promises.{as-many, never-worse, best-at-every-mark, held-marks-keep}
-use Rattle.demands.specs.Tables.{bookFault}
 use Rattle.demands.specs.Rules.{LowestGiven}
 use Rattle.demands.specs.Heights.{sweepsOf, unheldMark, stillMoves, wentOutside, outsideMark, countOf, heightsOf, sweepRules}
 use Rattle.demands.specs.Heights.{adjustRules, adjustDone, AdjustmentKeepsToTable, marksHeights, heightRules, rateRules, ExactFloat}
 use Rattle.demands.specs.Heights.{rateDone, RateKeepsToTable}
-use Rattle.demands.proofs.Rules.{byRules, cond-or, keeps-to-table, lowest-is-given}
-use Rattle.demands.proofs.BookRules.{None, none-in, none-and, first-of, rest-of, by-the-test, passes-if, passes-only-if}
+use Rattle.demands.proofs.Rules.{byRules, keeps-to-table, lowest-is-given}
+use Rattle.demands.proofs.BookRules.{None, none-in, none-and, first-of, rest-of, own-rules, none-beside, passes-if, passes-only-if}
+use Rattle.demands.proofs.BookRules.{by-the-test, by-the-test-beside}
 
 -- ---- refusals
 
 -- a place that is none
 no-mark : (u : ℕ) → ltb 0 u ≡ false → u ≡ 0
 no-mark u h = let l : u ≤ 0 = ltb-false 0 u h in omega arith
-
--- a test the other way round
-cond-not : {A : Type 0} (t : Bool) (x y : A) → cond t x y ≡ cond (not t) y x
-cond-not true x y = refl
-cond-not false x y = refl
 
 -- a line that there is has an answer with no refusal
 line-answered : (heights lines : List ℤ) (line i : ℕ) → lineRate heights lines line i .refusal ≡ noRefusal
@@ -107,17 +101,13 @@ module _ (book : Lent) where
       go false zero unsettled = refl
       go false (suc u) s = rw (lt-ltb 0 (suc u) (omega arith))
 
-  -- the rate keeps to its table: 4, 6, 7, 8, 13
+  -- the rate keeps to its table: 3, 4, 6, 7, 8, 13
   pub rate-keeps-to-table : (heights : List ℤ) (line : ℤ) → RateKeepsToTable book heights line (rateAnswer book heights line)
   unfolding rateAnswer rateRules rates.refusedWith goodRate byRules
   rate-keeps-to-table heights line =
       keeps-to-table (λ r. refl) (line-answered heights (book .lines) (natAbs line) (natAbs line - 1)) refl
-      (cond-not (eqZ (pos (length heights)) (book .b)) (ifGood (testOf book) rates.refusedWith
-      (λ k. goodRate heights (book .lines) k line)) (rates.refusedWith (refusal 4 0))
-      ∙ ap (cond (not (eqZ (pos (length heights)) (book .b))) (rates.refusedWith (refusal 4 0)))
-      (by-the-test book (λ k. goodRate heights (book .lines) k line) (heightRules book heights line) rates.refusedWith
-      (rateDone book heights line) refl)
-      ∙ cond-or (not (eqZ (pos (length heights)) (book .b))) (bookFault book) (rates.refusedWith (refusal 4 0)) _)
+      (by-the-test-beside (heightsOut book heights) book (λ k. goodRate heights (book .lines) k line) (heightRules book heights line)
+      rates.refusedWith (rateDone book heights line) refl)
 
   -- "Where several apply, the lowest number is given": the numbers of both tables rise
   pub adjustment-gives-the-lowest : (out : List ℤ) → LowestGiven (adjustRules book out) (adjustOf book out .answer .refusal)
@@ -154,23 +144,18 @@ module _ (book : Lent) where
     passed : testOf book ≡ Good (countsOf book)
     unfolding rateRules
     passed =
-        let h = none-applies in
-        passes-if book {more = heightRules book heights line}
-        (none-and (or-right (not (eqZ (pos (length heights)) (book .b))) (bookFault book) (first-of h)) (rest-of h))
+        passes-if book {more = heightRules book heights line} (none-beside none-applies .1)
 
     there : Between 1 (lineCount (book .lines)) line
     unfolding rateRules
-    there = between 1 (lineCount (book .lines)) line (first-of (rest-of (rest-of (rest-of none-applies))))
+    there = between 1 (lineCount (book .lines)) line (first-of (own-rules none-applies))
 
     inside : Working heights (natAbs (book .b))
     unfolding rateRules
     inside =
-        let h = none-applies in
-        let many =
-        not-false (eqZ (pos (length heights)) (book .b))
-        (or-left (not (eqZ (pos (length heights)) (book .b))) (bookFault book) (first-of h)) in
-        working-lent heights (natAbs (book .b)) (marks-of book (countsOf book) passed (length heights) many)
-        (no-mark (firstHigh heights) (first-of (rest-of (rest-of (rest-of (rest-of h))))))
+        let many = none-beside none-applies .0 in
+        working-lent heights (natAbs (book .b)) (marks-of book (countsOf book) passed heights many)
+        (no-mark (firstHigh heights) (first-of (rest-of (own-rules none-applies))))
 
     -- "Both numbers are exact as 64-bit floats"
     pub both-numbers-are-exact : ExactFloat (correctionAt heights (book .lines) at) × ExactFloat (lengthAt (book .lines) at)
@@ -232,7 +217,7 @@ module _ (book : Lent) where
       let w = adjustment-keeps-to-table out .table .done-exactly-if in (
         λ z.
             let h = w .0 z in
-            let own = rest-of (rest-of (rest-of h)) in
+            let own = own-rules h in
             let ends = rest-of (rest-of own) in (
               _,
               passes-if book h,
@@ -262,7 +247,7 @@ module _ (book : Lent) where
         (heightsOf (sweepsOf (natAbs (book .b)) (book .held) (book .lines)))
     unfolding adjustRules
     sweeps-are =
-        let ends = rest-of (rest-of (rest-of (rest-of (rest-of (adjustment-keeps-to-table out .table .done-exactly-if .0 is-done))))) in
+        let ends = rest-of (rest-of (own-rules (adjustment-keeps-to-table out .table .done-exactly-if .0 is-done))) in
         have-settled (sweepsOf (natAbs (book .b)) (book .held) (book .lines)) (first-of ends) (first-of (rest-of ends))
 
     outcome : adjustment (natAbs (book .b)) (book .held) (book .lines)

@@ -7,9 +7,10 @@ pub mod Named
 pub mod OneAnswer
 pub mod TheLoops
 pub mod Reported
-pub mod ShortLines
 pub mod CorrectedBook
 pub mod Corrections
+pub mod Classes
+pub mod ShortLines
 pub mod StillStands
 pub mod ShutOut
 pub mod Heights

@@ -15,18 +15,19 @@ use Rattle.laws.proofs.FirstBad.{first-is-first}
 use Rattle.laws.proofs.Inside.{eqZ-true, apart-eqZ, inside}
 use Rattle.book.specs.Lent.{Lent}
 use Rattle.book.specs.Held.{heldCount, heldBad, firstBadHeld}
-use Rattle.book.specs.Line.{lineCount, standingAt, lineBad, firstBadLine}
+use Rattle.book.specs.Line.{lineCount, standingAt, classAt, lineBad, firstBadLine}
+use Rattle.book.specs.Version.{classOut}
 use Rattle.book.specs.Test.{testOf}
 use Rattle.book.specs.Good.{GoodLine, GoodHeld, GoodBook}
 use Rattle.book.specs.declared.Book.{Book}
 use Rattle.book.specs.declared.Tested.the-variants.{Good}
-use Rattle.book.proofs.Goods.{good-line, good-held, tested-good}
+use Rattle.book.proofs.Goods.{good-line, good-class, good-held, tested-good}
 use Rattle.book.proofs.Passing.{line-passes, held-passes, good-passes}
 use Rattle.survey.proofs.Corrected.{stands-of}
 use Rattle.survey.specs.Correction.{noLine, sameNumbers, otherReport}
 use Rattle.demands.specs.Corrections.{Stands}
 
--- 4, 6 and 7 do not apply exactly if the book is inside every limit
+-- 3, 4, 6 and 7 do not apply exactly if the book is of version 1 or 2 and inside every limit
 pub passes-exactly-if-good : (k : Book) (book : Lent) → (testOf book ≡ Good k) ↔ GoodBook k book
 passes-exactly-if-good k book = (tested-good book k, good-passes k book)
 
@@ -34,10 +35,12 @@ passes-exactly-if-good k book = (tested-good book k, good-passes k book)
 pub held-exactly-if-good : (b : ℕ) (held : List ℤ) (i : ℕ) → (heldBad (pos b) held i ≡ false) ↔ GoodHeld b held i
 held-exactly-if-good b held i = (good-held b held i, held-passes b held i)
 
--- 7: a line has no fault exactly if its ends are two marks of the book, its difference and length are inside their limits, and its
--- standing is 0 or 1
-pub line-exactly-if-good : (b : ℕ) (lines : List ℤ) (i : ℕ) → (lineBad (pos b) lines i ≡ false) ↔ GoodLine b lines i
-line-exactly-if-good b lines i = (good-line b lines i, line-passes b lines i)
+-- 7: a line has no fault exactly if its ends are two marks of the book, its difference and length are inside their limits, its standing is
+-- 0 or 1, and its class is one of the book's version
+pub line-exactly-if-good : (version : ℤ) (b : ℕ) (lines : List ℤ) (i : ℕ)
+    → (lineBad version (pos b) lines i ≡ false) ↔ (GoodLine b lines i × (classOut version (classAt lines i) ≡ false))
+line-exactly-if-good version b lines i =
+    (λ e. (good-line version b lines i e, good-class version (pos b) lines i e), λ g. line-passes version b lines i (g .0) (g .1))
 
 -- the place of 6 is the "first such entry"
 pub held-place-is-first : (b : ℤ) (held : List ℤ) (i : ℕ) → firstBadHeld b held ≡ suc i
@@ -46,10 +49,10 @@ unfolding firstBadHeld
 held-place-is-first b held i e = first-is-first (heldBad b held) (heldCount held) i e
 
 -- the place of 7 is the "first such line"
-pub line-place-is-first : (b : ℤ) (lines : List ℤ) (i : ℕ) → firstBadLine b lines ≡ suc i
-    → (i < lineCount lines) × (lineBad b lines i ≡ true) × ((j : ℕ) → j < i → lineBad b lines j ≡ false)
+pub line-place-is-first : (version b : ℤ) (lines : List ℤ) (i : ℕ) → firstBadLine version b lines ≡ suc i
+    → (i < lineCount lines) × (lineBad version b lines i ≡ true) × ((j : ℕ) → j < i → lineBad version b lines j ≡ false)
 unfolding firstBadLine
-line-place-is-first b lines i e = first-is-first (lineBad b lines) (lineCount lines) i e
+line-place-is-first version b lines i e = first-is-first (lineBad version b lines) (lineCount lines) i e
 
 -- 8: there is such a line exactly if its number is one of the book's and it stands
 pub line-exactly-if-stands : (lines : List ℤ) (number : ℤ) → (noLine lines number ≡ false) ↔ ((i : ℕ) × Stands lines number i)

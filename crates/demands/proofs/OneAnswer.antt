@@ -9,7 +9,7 @@ use Rattle.book.specs.Lent.{Lent}
 use Rattle.book.specs.Height.{heldHeightOf, workHeightOf}
 use Rattle.book.specs.Held.{heldEntryOf}
 use Rattle.book.specs.Line.{lineOf}
-use Rattle.book.specs.Test.{bookOf, testOf}
+use Rattle.book.specs.Test.{bookOf, testOf, testBeside}
 use Rattle.book.specs.declared.Tested.{Tested}
 use Rattle.book.specs.declared.height.MadeHeight.{MadeHeight}
 use Rattle.book.specs.declared.held.MadeHeld.{MadeHeld}
@@ -156,8 +156,12 @@ row-has-one-answer line correction rate = one-answer (rowOf line correction rate
 pub test-has-one-answer : (book : Lent) (x y : Tested) → x ≡ testOf book → y ≡ testOf book → x ≡ y
 test-has-one-answer book = one-answer (testOf book)
 
-pub book-has-one-answer : (b t : ℤ) (h n : ℕ) (x y : Tested) → x ≡ bookOf b t h n → y ≡ bookOf b t h n → x ≡ y
-book-has-one-answer b t h n = one-answer (bookOf b t h n)
+pub test-beside-has-one-answer : (outside : Bool) (book : Lent) (x y : Tested) → x ≡ testBeside outside book
+    → y ≡ testBeside outside book → x ≡ y
+test-beside-has-one-answer outside book = one-answer (testBeside outside book)
+
+pub book-has-one-answer : (version b t : ℤ) (h n : ℕ) (x y : Tested) → x ≡ bookOf version b t h n → y ≡ bookOf version b t h n → x ≡ y
+book-has-one-answer version b t h n = one-answer (bookOf version b t h n)
 
 pub line-has-one-answer : (b from to difference length standing : ℤ) (x y : MadeLine)
     → x ≡ lineOf b from to difference length standing → y ≡ lineOf b from to difference length standing → x ≡ y

@@ -13,6 +13,7 @@ use borrow.Author.Tests.{eq-eqb}
 use Rattle.book.specs.Lent.{Lent}
 use Rattle.book.specs.Held.{heldWords}
 use Rattle.book.specs.Line.{lineWords, differenceOut}
+use Rattle.book.specs.Version.{versionOut}
 use Rattle.book.specs.Test.{torn, bookOut, refusal}
 use Rattle.book.specs.declared.Book.{Book}
 use Rattle.book.specs.declared.Refusal.{Refusal}
@@ -21,7 +22,8 @@ use Rattle.file.specs.Read.{Outcome, answered, statedLength, statedVersion, sta
 use Rattle.file.specs.Read.{headOf, heldOf, linesOf, bookIn, roomOf, bodyOf, afterHead, readOf}
 use Rattle.file.specs.declared.entry.Kind.the-variants as kind
 use Rattle.file.specs.declared.Head.the-variants as head
-use Rattle.file.proofs.Entries.{entries-length}
+use Rattle.file.proofs.Entries.{entries-length, lines-length}
+use Rattle.file.proofs.Reading.{held-entries, line-entries}
 use Rattle.loops.specs.Row.{listings}
 use Rattle.loops.specs.Report.{loopsOf}
 use Rattle.survey.specs.Report as survey
@@ -30,7 +32,7 @@ use Rattle.survey.specs.Survey.{Surveyed, surveyed, surveyGood, surveyOf}
 use Rattle.lists.specs.Listing as lists
 use Rattle.lists.specs.Listing.{Listing, listing, listOf, listingGood, listingOf, listingsGood, listingsOf}
 use Rattle.lists.specs.NotChecked.{uncheckedOf, notCheckedOf}
-use Rattle.survey.specs.Correction.{Corrected, corrected, correctGood, rerunLines, withdrawLines, rerunOf, withdrawOf}
+use Rattle.survey.specs.Correction.{Corrected, corrected, correctGood, correctOf, rerunLines, withdrawLines, rerunOf, withdrawOf}
 use Rattle.demands.specs.Rules.{LowestGiven}
 use Rattle.demands.specs.Calls.{afresh, surveyDone, listDone, correctionDone, readDone, SurveyKeepsToTable, ListingKeepsToTable}
 use Rattle.demands.specs.Calls.{ListingsKeepsToTable, NotCheckedKeepsToTable, RerunKeepsToTable, WithdrawalKeepsToTable}
@@ -39,10 +41,10 @@ use Rattle.demands.specs.Tables.{bookFault, heldRule, lineRule, roomRule
 use Rattle.demands.specs.Tables.{correctionRules, listingRules, listingsRules, notCheckedRules, rerunRules, withdrawRules}
 use Rattle.demands.specs.Tables.{fileRules}
 use Rattle.demands.proofs.Rules.{byRules, cond-or, keeps-to-table, lowest-is-given}
-use Rattle.demands.proofs.BookRules.{by-the-test}
+use Rattle.demands.proofs.BookRules.{by-the-test, by-the-test-beside}
 
 module _ (book : Lent) where
-  -- the survey keeps to its table: 4, 6, 7, 10
+  -- the survey keeps to its table: 3, 4, 6, 7, 10
   pub survey-keeps-to-table : (out : List ℤ) → SurveyKeepsToTable book out (surveyOf book out)
   unfolding surveyOf surveyRules byRules counted
   survey-keeps-to-table out =
@@ -50,7 +52,7 @@ module _ (book : Lent) where
       (by-the-test book (λ k. surveyGood k (book .lines) out) (roomRule out (afresh book) ∷ [])
       (λ r. surveyed (survey.refusedWith r) out) (surveyDone book out) refl)
 
-  -- the listing of a loop keeps to its table: 4, 6, 7, 8, 10
+  -- the listing of a loop keeps to its table: 3, 4, 6, 7, 8, 10
   pub listing-keeps-to-table : (number : ℤ) (out : List ℤ) → ListingKeepsToTable book number out (listingOf book number out)
   unfolding listingOf listingRules loopListing byRules
   listing-keeps-to-table number out =
@@ -58,7 +60,7 @@ module _ (book : Lent) where
       (by-the-test book (λ k. listingGood k (book .lines) number out) (loopRules book number out) (λ r. listing (lists.refusedWith r) out)
       (listDone (loopListing book number) out) refl)
 
-  -- the listing of all loops keeps to its table: 4, 6, 7, 10
+  -- the listing of all loops keeps to its table: 3, 4, 6, 7, 10
   pub listings-keeps-to-table : (out : List ℤ) → ListingsKeepsToTable book out (listingsOf book out)
   unfolding listingsOf listingsRules byRules
   listings-keeps-to-table out =
@@ -67,7 +69,7 @@ module _ (book : Lent) where
       (λ r. listing (lists.refusedWith r) out)
       (listDone (listings (loopsOf (natAbs (book .b)) (book .lines))) out) refl)
 
-  -- the not-checked list keeps to its table: 4, 6, 7, 10
+  -- the not-checked list keeps to its table: 3, 4, 6, 7, 10
   pub not-checked-keeps-to-table : (out : List ℤ) → NotCheckedKeepsToTable book out (notCheckedOf book out)
   unfolding notCheckedOf notCheckedRules byRules
   not-checked-keeps-to-table out =
@@ -76,27 +78,25 @@ module _ (book : Lent) where
       (roomRule out (uncheckedOf (natAbs (book .b)) (book .lines)) ∷ []) (λ r. listing (lists.refusedWith r) out)
       (listDone (uncheckedOf (natAbs (book .b)) (book .lines)) out) refl)
 
-  -- withdrawal keeps to its table: 4, 6, 7, 8, 9
+  -- withdrawal keeps to its table: 3, 4, 6, 7, 8, 9
   pub withdrawal-keeps-to-table : (report : List ℤ) (number : ℤ) → WithdrawalKeepsToTable book report number (withdrawOf book report number)
-  unfolding withdrawOf withdrawRules byRules counted
+  unfolding withdrawOf correctOf withdrawRules byRules counted
   withdrawal-keeps-to-table report number =
       keeps-to-table (λ r. refl) refl refl
       (by-the-test book (λ k. correctGood k (book .lines) report number (withdrawLines (book .lines) number))
       (correctionRules book report number)
       (λ r. corrected (survey.refusedWith r) (book .lines) report) (correctionDone book report (withdrawLines (book .lines) number)) refl)
 
-  -- re-run keeps to its table: 4, 6, 7, 8, 9
+  -- re-run keeps to its table: 3, 4, 6, 7, 8, 9
   pub rerun-keeps-to-table : (report : List ℤ) (number difference : ℤ)
       → RerunKeepsToTable book report number difference (rerunOf book report number difference)
-  unfolding rerunOf rerunRules byRules counted
+  unfolding rerunOf correctOf rerunRules byRules counted
   rerun-keeps-to-table report number difference =
       keeps-to-table (λ r. refl) refl refl
-      (ap (cond (differenceOut difference) (corrected (survey.refusedWith (refusal 4 0)) (book .lines) report))
-      (by-the-test book (λ k. correctGood k (book .lines) report number (rerunLines (book .lines) number difference))
+      (by-the-test-beside (differenceOut difference) book (λ k. correctGood k (book .lines) report number (rerunLines (book .lines) number difference))
       (correctionRules book report number)
       (λ r. corrected (survey.refusedWith r) (book .lines) report)
       (correctionDone book report (rerunLines (book .lines) number difference)) refl)
-      ∙ cond-or (differenceOut difference) (bookFault book) (corrected (survey.refusedWith (refusal 4 0)) (book .lines) report) _)
 
   -- ---- "Where several apply, the lowest number is given": the numbers of each table rise
 
@@ -180,19 +180,22 @@ module _ (book : Lent) where
 
 module _ (file : List ℕ) (held lines : List ℤ) where
   -- the entries that are read are whole, and as many as stated: of 4 only the stated counts are left
-  pub no-other-fault : bookOut (pos (statedB file)) (pos (statedT file)) (statedH file) (statedN file) ≡ false
-      → bookFault (bookIn file (statedCounts file)) ≡ false
-  unfolding bookFault torn heldOf linesOf
+  abbrev countsOut : Bool
+  countsOut = bookOut (pos (statedVersion file)) (pos (statedB file)) (pos (statedT file)) (statedH file) (statedN file)
+
+  pub no-other-fault : countsOut ≡ false → bookFault (bookIn file (statedCounts file)) ≡ false
+  unfolding bookFault torn heldOf
   no-other-fault e =
-      let h = entries-length kind.Held file 13 (statedH file) in
-      let n = entries-length kind.Line file (13 + statedH file * 10) (statedN file) in
+      let k = statedCounts file in
+      let counted = ap₂ (bookOut (pos (statedVersion file)) (pos (statedB file)) (pos (statedT file)))
+      (held-entries file held lines k) (line-entries file held lines k) ∙ e in
       rw (
-        h,
-        n,
+        counted,
+        entries-length kind.Held file 13 (statedH file),
+        lines-length file k,
         eq-eqb (statedH file * heldWords % heldWords) 0 (omega arith),
-        eq-eqb (statedN file * lineWords % lineWords) 0
-            (omega arith),
-      ) (ap₂ (bookOut (pos (statedB file)) (pos (statedT file))) (omega arith) (omega arith) ∙ e)
+        eq-eqb (statedN file * lineWords % lineWords) 0 (omega arith),
+      )
 
   refuse : Refusal → Outcome
   refuse r = answered held lines (read.refusedWith r)
@@ -201,32 +204,31 @@ module _ (file : List ℕ) (held lines : List ℤ) where
   room : (k : Book) → roomOf file k held lines
       ≡ cond (ltb (length held) (k .held * heldWords) || ltb (length lines) (k .lines * lineWords)) (refuse (refusal 10 0)) (record {
         answer = read.done k;
-        held = heldOf file (k .held) ++ drop (k .held * heldWords) held;
-        lines = linesOf file (k .held) (k .lines) ++ drop (k .lines * lineWords) lines;
+        held = heldOf file k ++ drop (k .held * heldWords) held;
+        lines = linesOf file k ++ drop (k .lines * lineWords) lines;
       })
   unfolding roomOf refuse
   room k = cond-or (ltb (length held) (k .held * heldWords)) (ltb (length lines) (k .lines * lineWords)) _ _
 
   -- 6 and 7, then 10
-  body : bookOut (pos (statedB file)) (pos (statedT file)) (statedH file) (statedN file) ≡ false
+  body : versionOut (pos (statedVersion file)) ≡ false → countsOut ≡ false
       → bodyOf file (statedCounts file) held lines
       ≡ byRules (heldRule (bookIn file (statedCounts file)) ∷ lineRule (bookIn file (statedCounts file)) ∷ roomsRule file held lines
       ∷ []) refuse (readDone file held lines)
   unfolding bodyOf byRules refuse
-  body e =
+  body known e =
       by-the-test (bookIn file (statedCounts file))
       (λ _. roomOf file (statedCounts file) held lines) (roomsRule file held lines ∷ []) refuse (readDone file held lines)
       (room (statedCounts file))
-      ∙ rw (no-other-fault e)
+      ∙ rw (known, no-other-fault e)
 
   -- the reader keeps to its table: 1 to 7, 10
   pub reader-keeps-to-table : ReaderKeepsToTable file held lines (readOf file held lines)
   unfolding readOf afterHead headOf fileRules byRules refuse
   reader-keeps-to-table =
       keeps-to-table (λ r. refl) refl refl
-      (go (ltb (length file) 13) (not (eqb (statedLength file) (length file))) (not (eqb (statedVersion file) 1))
-      (bookOut (pos (statedB file)) (pos (statedT file)) (statedH file) (statedN file)) refl
-      (not (eqb (length file) (fileLength (statedH file) (statedN file)))))
+      (go (ltb (length file) 13) (not (eqb (statedLength file) (length file))) (versionOut (pos (statedVersion file))) refl countsOut refl
+      (not (eqb (length file) (fileLength (statedVersion file) (statedH file) (statedN file)))))
     where
       k : Book
       k = statedCounts file
@@ -236,26 +238,27 @@ module _ (file : List ℕ) (held lines : List ℤ) where
           byRules (heldRule (bookIn file (statedCounts file)) ∷ lineRule (bookIn file (statedCounts file)) ∷ roomsRule file held lines
           ∷ []) refuse (readDone file held lines)
 
-      go : (x y z f : Bool) → bookOut (pos (statedB file)) (pos (statedT file)) (statedH file) (statedN file) ≡ f → (w : Bool)
+      go : (x y z : Bool) → versionOut (pos (statedVersion file)) ≡ z → (f : Bool) → countsOut ≡ f → (w : Bool)
           → afterHead file held lines (cond x (head.Refused 1)
           (cond y (head.Refused 2) (cond z (head.Refused 3) (cond f (head.Refused 4) (cond w (head.Refused 5) (head.States k))))))
           ≡ cond x (refuse (refusal 1 0)) (cond y (refuse (refusal 2 0))
           (cond z (refuse (refusal 3 0)) (cond f (refuse (refusal 4 0)) (cond w (refuse (refusal 5 0)) rest))))
-      go true y z f e w = refl
-      go false true z f e w = refl
-      go false false true f e w = refl
-      go false false false true e w = refl
-      go false false false false e true = refl
-      go false false false false e false = body e
+      go true y z v f e w = refl
+      go false true z v f e w = refl
+      go false false true v f e w = refl
+      go false false false v true e w = refl
+      go false false false v false e true = refl
+      go false false false v false e false = body v e
 
   pub reader-gives-the-lowest : LowestGiven (fileRules file held lines) (readOf file held lines .answer .refusal)
   unfolding fileRules
   reader-gives-the-lowest = lowest-is-given refl (reader-keeps-to-table .table)
 
-  -- a refused file: b, t, h and n are 0, and both buffers are as they were
+  -- a refused file: version, b, t, h and n are 0, and both buffers are as they were
   pub refused-reader-changes-nothing : let o = readOf file held lines in (o .answer .refusal .number ≡ 0 → ⊥)
-      → (o .answer .b ≡ 0) × (o .answer .t ≡ 0) × (o .answer .h ≡ 0) × (o .answer .n ≡ 0) × (o .held ≡ held) × (o .lines ≡ lines)
+      → (o .answer .version ≡ 0) × (o .answer .b ≡ 0) × (o .answer .t ≡ 0) × (o .answer .h ≡ 0) × (o .answer .n ≡ 0) × (o .held ≡ held) × (o .lines ≡ lines)
   refused-reader-changes-nothing h = let e = reader-keeps-to-table .refused h in (
+    ap (λ (o : Outcome). o .answer .version) e,
     ap (λ (o : Outcome). o .answer .b) e,
     ap (λ (o : Outcome). o .answer .t) e,
     ap (λ (o : Outcome). o .answer .h) e,

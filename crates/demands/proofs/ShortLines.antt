@@ -17,11 +17,12 @@ use Rattle.network.specs.Walk.{Pass, wayLength}
 use Rattle.loops.specs.Loops.{Loop, loopAt}
 use Rattle.loops.specs.Row.{misclosure, total, judgedAs, judgedLength, rowLength, rowVerdict}
 use Rattle.loops.specs.Report.{loopsOf}
-use Rattle.loops.proofs.Row.{allowable, judged-at-least, judged-as-entered}
+use Rattle.loops.proofs.Row.{Unclassed, allowable, judged-at-least, judged-as-entered}
 use Rattle.sights.specs.Sights.{Sight, sightIf, sightsOf}
 use Rattle.survey.specs.Survey.{surveyOf}
 use Rattle.demands.specs.TheLoops.{inRow, Within}
 use Rattle.demands.proofs.Reported.{each-row-is-of-its-loop}
+use Rattle.demands.proofs.Classes.{no-class-in-one, in-book}
 
 -- ---- "the larger of the length and 250"
 
@@ -41,14 +42,14 @@ pub of-no-line : judgedLength [] ≡ 0
 unfolding judgedLength total
 of-no-line = refl
 
--- ---- a loop is within by that length
+-- ---- a loop whose lines have no class is within by that length
 
-module _ (t : ℕ) (lp : Loop) where
+module _ (t : ℕ) (lp : Loop) (unclassed : Unclassed lp) where
   abbrev square : ℕ
   square = natAbs (misclosure lp) * natAbs (misclosure lp)
 
   pub within-by-judged-length : Within t lp ↔ (square ≤ 10 * t * t * judgedLength lp)
-  within-by-judged-length = rw (allowable t lp) (λ h. h, λ h. h)
+  within-by-judged-length = rw (allowable t lp unclassed) (λ h. h, λ h. h)
 
   -- no loop that was within is judged harder
   pub within-as-entered-is-within : square ≤ 10 * t * t * wayLength lp → Within t lp
@@ -67,11 +68,12 @@ module _ (book : Lent) (k : Book) (passes : testOf book ≡ Good k) (out : List 
   abbrev loop : Loop
   loop = loopAt (loopsOf (k .marks) (book .lines)) i
 
-  pub verdict-by-judged-length : (inRow rowVerdict (surveyOf book out .rows) i ≡ pos 0)
+  -- of a version 1 book
+  pub verdict-by-judged-length : k .version ≡ 1 → (inRow rowVerdict (surveyOf book out .rows) i ≡ pos 0)
       ↔ (natAbs (misclosure loop) * natAbs (misclosure loop) ≤ 10 * k .tolerance * k .tolerance * judgedLength loop)
-  verdict-by-judged-length =
+  verdict-by-judged-length one =
       let w = each-row-is-of-its-loop book k passes out done i there .0 .within in
-      let j = within-by-judged-length (k .tolerance) loop in
+      let j = within-by-judged-length (k .tolerance) loop (no-class-in-one book k passes one loop (in-book book k passes out done i there)) in
       (λ e. j .0 (w .0 e), λ h. w .1 (j .1 h))
 
   -- "The row's length .. keep the length as entered."

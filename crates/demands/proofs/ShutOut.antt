@@ -23,6 +23,7 @@ use Rattle.survey.specs.Survey.{surveyed, surveyOf}
 use Rattle.lists.specs.Listing.{listing}
 use Rattle.lists.specs.NotChecked.{notCheckedOf}
 use Rattle.survey.specs.Correction.{corrected, placeOf, rerunOf}
+use Rattle.book.specs.Version.{noClass}
 use Rattle.book.specs.Height.{workHeightOut}
 use Rattle.network.specs.Tree.{tree}
 use Rattle.sights.specs.Sights.{sightsOf}
@@ -46,16 +47,16 @@ abbrev noLines : List ℤ
 noLines = []
 
 abbrev line : ℤ → ℤ → ℤ → List ℤ
-line from to difference = from ∷ to ∷ difference ∷ pos 10 ∷ pos 1 ∷ []
+line from to difference = from ∷ to ∷ difference ∷ pos 10 ∷ pos 1 ∷ noClass ∷ []
 
 abbrev twoLines : List ℤ
 twoLines = line (pos 1) (pos 2) (pos 0) ++ line (pos 1) (pos 2) (pos 7)
 
-no-line-surveyed : surveyOf (lent (pos 1) (pos 1) [] noLines) [] ≡ surveyed (record { refusal = noRefusal; rows = 0; pieces = 1 }) []
+no-line-surveyed : surveyOf (lent (pos 1) (pos 1) (pos 1) [] noLines) [] ≡ surveyed (record { refusal = noRefusal; rows = 0; pieces = 1 }) []
 unfolding surveyOf outZ outN eqZ firstFrom firstBad anyBelow
 no-line-surveyed = refl
 
-two-lines-surveyed : surveyOf (lent (pos 2) (pos 1) [] twoLines) (replicate 5 (pos 0))
+two-lines-surveyed : surveyOf (lent (pos 1) (pos 2) (pos 1) [] twoLines) (replicate 5 (pos 0))
     ≡ surveyed (record { refusal = noRefusal; rows = 1; pieces = 1 }) (pos 2 ∷ pos 2 ∷ pos 20 ∷ pos 7 ∷ pos 0 ∷ [])
 unfolding surveyOf outZ outN eqZ firstFrom firstBad anyBelow
 two-lines-surveyed = refl
@@ -64,8 +65,8 @@ two-lines-surveyed = refl
 pub no-one-report-fits : (n : ℕ)
     → ((book : Lent) (out : List ℤ) → surveyOf book out .answer .refusal .number ≡ 0 → surveyOf book out .answer .rows ≡ n) → ⊥
 no-one-report-fits n h =
-    let none : 0 ≡ n = rw no-line-surveyed at (h (lent (pos 1) (pos 1) [] noLines) [] (rw no-line-surveyed)) in
-    let one : 1 ≡ n = rw two-lines-surveyed at (h (lent (pos 2) (pos 1) [] twoLines) (replicate 5 (pos 0)) (rw two-lines-surveyed)) in
+    let none : 0 ≡ n = rw no-line-surveyed at (h (lent (pos 1) (pos 1) (pos 1) [] noLines) [] (rw no-line-surveyed)) in
+    let one : 1 ≡ n = rw two-lines-surveyed at (h (lent (pos 1) (pos 2) (pos 1) [] twoLines) (replicate 5 (pos 0)) (rw two-lines-surveyed)) in
     omega arith
 
 -- "a re-run that does nothing": an accepted re-run to another difference changes the book
@@ -77,7 +78,7 @@ rerun-does-something book report number difference z other same =
     ∙ ap (λ (x : List ℤ). getD x (placeOf number differenceField) (pos 0)) same)
 
 -- and moves the report: of two lines between two marks line 2 is re-run from 7 to 8
-pub rerun-moves-the-report : rerunOf (lent (pos 2) (pos 1) [] twoLines) (pos 2 ∷ pos 2 ∷ pos 20 ∷ pos 7 ∷ pos 0 ∷ []) (pos 2) (pos 8)
+pub rerun-moves-the-report : rerunOf (lent (pos 1) (pos 2) (pos 1) [] twoLines) (pos 2 ∷ pos 2 ∷ pos 20 ∷ pos 7 ∷ pos 0 ∷ []) (pos 2) (pos 8)
     ≡ corrected (record { refusal = noRefusal; rows = 1; pieces = 1 }) (line (pos 1) (pos 2) (pos 0) ++ line (pos 1) (pos 2) (pos 8))
     (pos 2 ∷ pos 2 ∷ pos 20 ∷ pos 8 ∷ pos 0 ∷ [])
 unfolding rerunOf outZ outN eqZ firstFrom firstBad anyBelow
@@ -104,7 +105,7 @@ not-checked-list-is-not-empty book k passes out done l stands none empty =
     List·Memᴰ·not-nil (rw empty at i)
 
 -- as the one line of a book of two marks is
-pub one-line-is-not-checked : notCheckedOf (lent (pos 2) (pos 1) [] (line (pos 1) (pos 2) (pos 0))) (pos 0 ∷ [])
+pub one-line-is-not-checked : notCheckedOf (lent (pos 1) (pos 2) (pos 1) [] (line (pos 1) (pos 2) (pos 0))) (pos 0 ∷ [])
     ≡ listing (record { refusal = noRefusal; entries = 1 }) (pos 1 ∷ [])
 unfolding notCheckedOf outZ outN eqZ firstFrom firstBad anyBelow
 one-line-is-not-checked = refl

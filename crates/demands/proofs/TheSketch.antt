@@ -43,7 +43,7 @@ use Rattle.demands.specs.Calls.{sketchDone, SketchKeepsToTable}
 use Rattle.demands.specs.Corrections.{Stands}
 use Rattle.demands.specs.TheSketch.{AllSame, none-left, each, DifferencesOnly}
 use Rattle.demands.proofs.Rules.{byRules, keeps-to-table, lowest-is-given}
-use Rattle.demands.proofs.BookRules.{none-in, none-and, first-of, rest-of, passes-if, passes-only-if, by-the-test}
+use Rattle.demands.proofs.BookRules.{own-rules, none-in, none-and, first-of, rest-of, passes-if, passes-only-if, by-the-test}
 use Rattle.demands.proofs.CorrectedBook.{rerun-is-redone}
 
 -- ---- the call
@@ -78,7 +78,7 @@ module _ (book : Lent) (out : Lists) where
   unfolding sketchRules
   sketch-done-exactly-if =
       let w = sketch-keeps-to-table .table .done-exactly-if in (
-        λ z. let h = w .0 z in (_, passes-if book h, first-of (rest-of (rest-of (rest-of h)))),
+        λ z. let h = w .0 z in (_, passes-if book h, first-of (own-rules h)),
         λ p. w .1 (passes-only-if book (p .0) (p .1) (none-and (p .2) none-in)),
       )
 

@@ -2,6 +2,7 @@
 -- it as they were.
 -- Assumes nothing.
 use mathlib.Core.Path.{_≡_}
+use mathlib.Core.Logic.{_⊎_}
 use mathlib.Core.List.{List, _++_}
 use Prim.Native.Nat.{ℕ, _*_, _≤_}
 use lib.ListN.{length, drop}
@@ -11,6 +12,7 @@ use Rattle.book.specs.Limits.{mostDifference}
 use Rattle.book.specs.Held.{heldWords}
 use Rattle.book.specs.Line.{lineWords}
 use Rattle.book.specs.Good.{GoodBook}
+use Rattle.book.specs.Test.{refusal}
 use Rattle.book.specs.declared.Refusal.{Refusal}
 use Rattle.file.specs.Read as read
 use Rattle.file.specs.Read.{Outcome, answered, done, statedLength, statedVersion, fileLength, statedH, statedN, statedCounts, heldOf}
@@ -92,15 +94,14 @@ abbrev pub WithdrawalKeepsToTable : Lent → List ℤ → ℤ → Corrected → 
 WithdrawalKeepsToTable book report number given =
     CorrectionKeepsToTable (withdrawRules book report number) book report (withdrawLines (book .lines) number) given
 
--- the reader: b, t, h and n as the file states them, its entries in the first places of the two buffers
+-- the reader: version, b, t, h and n as the file states them, its entries in the first places of the two buffers
 abbrev pub readDone : List ℕ → List ℤ → List ℤ → Outcome
 readDone file held lines =
-    let h = statedH file in
-    let n = statedN file in
+    let k = statedCounts file in
     record {
-      answer = done (statedCounts file);
-      held = heldOf file h ++ drop (h * heldWords) held;
-      lines = linesOf file h n ++ drop (n * lineWords) lines;
+      answer = done k;
+      held = heldOf file k ++ drop (k .held * heldWords) held;
+      lines = linesOf file k ++ drop (k .lines * lineWords) lines;
     }
 
 abbrev pub ReaderKeepsToTable : List ℕ → List ℤ → List ℤ → Outcome → Type 0
@@ -122,13 +123,21 @@ pub record SameAtEveryCall (book : Lent) (r : Refusal) : Type 0 where
   pub adjustment : (out : List ℤ) → adjustOf book out ≡ adjusted (adjust.refusedWith r) out
   pub rate : (heights : List ℤ) (line : ℤ) → pos (length heights) ≡ book .b → rateAnswer book heights line ≡ rates.refusedWith r
 
--- a file that is read: it has 13 bytes or more, its stated length, version 1, a good book of the stated counts and nothing more, and
+-- "3 .. before all else": a book of an unknown version gets 3 from every call, also where a new difference is outside its limit or the
+-- heights are not b in number
+pub record ThreeAtEveryCall (book : Lent) : Type 0 where
+  pub every-call : SameAtEveryCall book (refusal 3 0)
+  pub before-the-difference : (report : List ℤ) (line difference : ℤ)
+      → rerunOf book report line difference ≡ corrected (survey.refusedWith (refusal 3 0)) (book .lines) report
+  pub before-the-heights : (heights : List ℤ) (line : ℤ) → rateAnswer book heights line ≡ rates.refusedWith (refusal 3 0)
+
+-- a file that is read: it has 13 bytes or more, its stated length, version 1 or 2, a good book of the stated counts and nothing more, and
 -- there is room for its entries
 pub record Readable (file : List ℕ) (held lines : List ℤ) : Type 0 where
   pub long-enough : 13 ≤ length file
   pub its-length : statedLength file ≡ length file
-  pub version-one : statedVersion file ≡ 1
-  pub whole : length file ≡ fileLength (statedH file) (statedN file)
+  pub known-version : (statedVersion file ≡ 1) ⊎ (statedVersion file ≡ 2)
+  pub whole : length file ≡ fileLength (statedVersion file) (statedH file) (statedN file)
   pub good : GoodBook (statedCounts file) (bookIn file (statedCounts file))
   pub room-for-held : statedH file * heldWords ≤ length held
   pub room-for-lines : statedN file * lineWords ≤ length lines

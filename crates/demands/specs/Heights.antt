@@ -1,6 +1,6 @@
 -- The adjustment and the correction rate: their tables of refusals, and what they give when done.
 -- Assumes nothing.
-use mathlib.Core.Bool.{Bool, true, false, not, _||_}
+use mathlib.Core.Bool.{Bool, true, false}
 use mathlib.Core.Path.{_≡_}
 use mathlib.Core.List.{List, [], _∷_, _++_, List·Memᴰ}
 use mathlib.Core.Option.{none, some}
@@ -9,7 +9,7 @@ use lib.Dec.{T, ltb}
 use lib.Ieee.{binary64, inSigned, toSigned, ofInt}
 use lib.ListN.{length, take, drop}
 use lib.IntN.{ℤ, pos, natAbs, _+ℤ_}
-use Rattle.laws.specs.Tests.{outZ, eqZ}
+use Rattle.laws.specs.Tests.{outZ}
 use Rattle.book.specs.Lent.{Lent}
 use Rattle.book.specs.Line.{lineCount}
 use Rattle.network.specs.Standing.{Line, standing}
@@ -21,13 +21,13 @@ use Rattle.sights.specs.Sights.{sightsOf}
 use Rattle.sweeps.specs.Sweeps.{Settled, settled, unsettled, settle}
 use Rattle.start.specs.Start.{heldHeight, isHeld, rootedBy, unheldPiece, startHeights}
 use Rattle.rates.specs.Rates as rates
-use Rattle.rates.specs.Rates.{lineRate, firstHigh}
+use Rattle.rates.specs.Rates.{lineRate, firstHigh, heightsOut}
 use Rattle.rates.specs.declared.RateAnswer.{RateAnswer}
 use Rattle.adjust.specs.Answers.{settledAt}
 use Rattle.adjust.specs.Answers as adjust
 use Rattle.adjust.specs.Call.{Given, adjusted}
 use Rattle.demands.specs.Rules.{Rule, rule, KeepsToTable}
-use Rattle.demands.specs.Tables.{bookFault, heldRule, lineRule, bookRules}
+use Rattle.demands.specs.Tables.{bookFault, besideRules, bookRules}
 
 -- ---- the adjustment
 
@@ -105,9 +105,8 @@ heightRules book heights line =
 
 -- 4 is also "heights lent to be read not b in number"
 unfoldable pub rateRules : Lent → List ℤ → ℤ → List Rule
-unfolding eqZ bookFault outZ firstHigh
-rateRules book heights line =
-    rule 4 (not (eqZ (pos (length heights)) (book .b)) || bookFault book) 0 ∷ heldRule book ∷ lineRule book ∷ heightRules book heights line
+unfolding heightsOut bookFault outZ firstHigh
+rateRules book heights line = besideRules (heightsOut book heights) book (heightRules book heights line)
 
 -- "exact as 64-bit floats": cast to a float and back, z is z again
 abbrev pub ExactFloat : ℤ → Type 0

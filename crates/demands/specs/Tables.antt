@@ -1,7 +1,7 @@
 -- Document 01's table of refusals as it stands for each call: its rules in the order in which they are tried, each a number, its
 -- condition and its place.
 -- Assumes nothing.
-use mathlib.Core.Bool.{Bool, not, _||_}
+use mathlib.Core.Bool.{Bool, false, not, _||_}
 use mathlib.Core.List.{List, [], _∷_, map}
 use Prim.Native.Nat.{ℕ, _*_, _-_}
 use lib.Dec.{eqb, ltb}
@@ -9,6 +9,7 @@ use lib.ListN.{length}
 use lib.IntN.{ℤ, pos, natAbs}
 use Rattle.laws.specs.Tests.{outZ}
 use Rattle.book.specs.Lent.{Lent}
+use Rattle.book.specs.Version.{versionOut}
 use Rattle.book.specs.Held.{heldWords, heldCount, firstBadHeld}
 use Rattle.book.specs.Line.{lineWords, lineCount, differenceOut, firstBadLine}
 use Rattle.book.specs.Test.{torn, bookOut}
@@ -27,8 +28,12 @@ use Rattle.demands.specs.Rules.{Rule, rule}
 unfoldable pub bookFault : Lent → Bool
 unfolding torn bookOut
 bookFault book =
-    torn heldWords (book .held) || torn lineWords (book .lines)
-    || bookOut (book .b) (book .t) (heldCount (book .held)) (lineCount (book .lines))
+    bookOut (book .version) (book .b) (book .t) (heldCount (book .held)) (lineCount (book .lines))
+    || torn heldWords (book .held) || torn lineWords (book .lines)
+
+-- 3: "3 for versions other than 1 and 2"
+abbrev pub versionRule : Lent → Rule
+versionRule book = rule 3 (versionOut (book .version)) 0
 
 -- 6: a held entry is bad; "first such entry"
 abbrev pub heldRule : Lent → Rule
@@ -36,15 +41,19 @@ heldRule book = rule 6 (ltb 0 (firstBadHeld (book .b) (book .held))) (firstBadHe
 
 -- 7: a line is faulty; "first such line"
 abbrev pub lineRule : Lent → Rule
-lineRule book = rule 7 (ltb 0 (firstBadLine (book .b) (book .lines))) (firstBadLine (book .b) (book .lines))
+lineRule book = rule 7 (ltb 0 (firstBadLine (book .version) (book .b) (book .lines))) (firstBadLine (book .version) (book .b) (book .lines))
 
 -- 10: "lent output too short for the whole answer"
 abbrev pub roomRule : List ℤ → List ℤ → Rule
 roomRule out answer = rule 10 (ltb (length out) (length answer)) 0
 
--- the lent book, then what the call adds to the table
+-- the lent book, where something else may be 4 as well, then what the call adds to the table
+abbrev pub besideRules : Bool → Lent → List Rule → List Rule
+besideRules outside book more = versionRule book ∷ rule 4 (outside || bookFault book) 0 ∷ heldRule book ∷ lineRule book ∷ more
+
+-- the lent book alone, then what the call adds
 abbrev pub bookRules : Lent → List Rule → List Rule
-bookRules book more = rule 4 (bookFault book) 0 ∷ heldRule book ∷ lineRule book ∷ more
+bookRules book more = besideRules false book more
 
 -- the report of a book, worked out afresh
 abbrev pub afresh : Lent → List ℤ
@@ -97,23 +106,22 @@ withdrawRules book report number = bookRules book (correctionRules book report n
 -- 4 is also "a new difference outside its limit"
 unfoldable pub rerunRules : Lent → List ℤ → ℤ → ℤ → List Rule
 unfolding differenceOut bookFault noLine otherReport reportOf
-rerunRules book report number difference =
-    rule 4 (differenceOut difference || bookFault book) 0 ∷ heldRule book ∷ lineRule book ∷ correctionRules book report number
+rerunRules book report number difference = besideRules (differenceOut difference) book (correctionRules book report number)
 
 -- 10, of the reader's two buffers
 abbrev pub roomsRule : List ℕ → List ℤ → List ℤ → Rule
 roomsRule file held lines = rule 10 (ltb (length held) (statedH file * heldWords) || ltb (length lines) (statedN file * lineWords)) 0
 
--- the file: 1 "file under 13 bytes", 2 "stated length is not the file's", 3 "version not 1", 4 "b, t, h, n .. outside its limit",
--- 5 "length is not 13 + 10h + 12n", 6 and 7 of its entries, 10
+-- the file: 1 "file under 13 bytes", 2 "stated length is not the file's", 3 "for versions other than 1 and 2", 4 "b, t, h, n .. outside its
+-- limit", 5 "length is not 13 + 10h + 12n", or 13 + 10h + 14n of version 2, 6 and 7 of its entries, 10
 unfoldable pub fileRules : List ℕ → List ℤ → List ℤ → List Rule
-unfolding bookOut heldOf linesOf
+unfolding versionOut bookOut heldOf linesOf
 fileRules file held lines =
     rule 1 (ltb (length file) 13) 0
     ∷ rule 2 (not (eqb (statedLength file) (length file))) 0
-    ∷ rule 3 (not (eqb (statedVersion file) 1)) 0
-    ∷ rule 4 (bookOut (pos (statedB file)) (pos (statedT file)) (statedH file) (statedN file)) 0
-    ∷ rule 5 (not (eqb (length file) (fileLength (statedH file) (statedN file)))) 0
+    ∷ rule 3 (versionOut (pos (statedVersion file))) 0
+    ∷ rule 4 (bookOut (pos (statedVersion file)) (pos (statedB file)) (pos (statedT file)) (statedH file) (statedN file)) 0
+    ∷ rule 5 (not (eqb (length file) (fileLength (statedVersion file) (statedH file) (statedN file)))) 0
     ∷ heldRule (bookIn file (statedCounts file))
     ∷ lineRule (bookIn file (statedCounts file))
     ∷ roomsRule file held lines ∷ []

@@ -6,12 +6,14 @@ use mathlib.Core.List.{List, _++_}
 use Prim.Native.Nat.{ℕ, zero, suc, _+_, _*_, _-_, _≤_, _<_}
 use native.Mathlib.Nat.{add-sub-cancel-left, mul-le-mul-right}
 use native.Mathlib.Numerals.{add-one}
+use native.Mathlib.Decide.{ℕ-discrete}
 use native.Mathlib.Omega.{arith}
-use lib.ListN.{length, take, drop, length-append}
+use lib.ListN.{length, take, drop, length-append, length-drop}
+use lib.Seq.{take-all, drop-at, drop-append-le, take-append-le}
 use lib.IntN.{ℤ, pos}
 use borrow.Rule.Slice.PartMut.{putMid}
 use Rattle.laws.proofs.Lists.{pour}
-use Rattle.book.specs.Line.{lineWords}
+use Rattle.book.specs.Line.{lineWords, entryAt}
 use Rattle.book.specs.Version.{hasClasses}
 use Rattle.book.specs.declared.Book.{Book}
 use Rattle.file.specs.Entry.{entryBytes, entryWords, heldNumbers, lineNumbers, numbers, lineKind, entries}
@@ -69,3 +71,37 @@ lines-length file k =
 pub lines-room : (len places : ℕ) (k : Book) (kind : Kind) → Stated len k → kind ≡ lineKind (k .version) → k .lines * lineWords ≤ places
     → (13 + k .held * 10 + k .lines * entryBytes kind ≤ len) × (k .lines * entryWords kind ≤ places)
 lines-room len places k kind s e h = rw (e, line-words (k .version)) (omega (arith, s .size), h)
+
+-- ---- an entry by itself
+
+module _ (kind : Kind) (file : List ℕ) (a : ℕ) where
+  abbrev its-numbers : ℕ → List ℤ
+  its-numbers i = numbers kind (take (entryBytes kind) (drop (a + i * entryBytes kind) file))
+
+  -- entry i of n, as it was read
+  pub entry-read : (n i : ℕ) → i < n → take (entryWords kind) (drop (i * entryWords kind) (entries kind file a n)) ≡ its-numbers i
+  unfolding entries
+  entry-read zero i l = absurd (omega arith)
+  entry-read (suc n) i l = go (ℕ-discrete i n) (entry-read n i)
+    where
+      go : Dec (i ≡ n) → (i < n → take (entryWords kind) (drop (i * entryWords kind) (entries kind file a n)) ≡ its-numbers i)
+          → take (entryWords kind) (drop (i * entryWords kind) (entries kind file a n ++ its-numbers n)) ≡ its-numbers i
+      go (yes e) earlier =
+          rw (e, drop-at (entries kind file a n) (its-numbers n) (n * entryWords kind) (entries-length kind file a n))
+          (take-all (entryWords kind) (its-numbers n) (omega (arith, numbers-count kind (take (entryBytes kind) (drop (a + n * entryBytes kind) file)))))
+      go (no d) earlier =
+          let whole = room-for i n (entryWords kind) (omega arith) in
+          let long = entries-length kind file a n in
+          rw (
+            drop-append-le (i * entryWords kind) (entries kind file a n) (its-numbers n) (omega arith),
+            take-append-le (entryWords kind) (drop (i * entryWords kind) (entries kind file a n)) (its-numbers n)
+                (omega (arith, length-drop (i * entryWords kind) (entries kind file a n))),
+          ) (earlier (omega arith))
+
+-- line i of a file, as it was read
+pub line-read : (file : List ℕ) (k : Book) (i : ℕ) → i < k .lines
+    → let bytes = entryBytes (lineKind (k .version)) in
+    entryAt (linesOf file k) i ≡ numbers (lineKind (k .version)) (take bytes (drop (13 + k .held * 10 + i * bytes) file))
+unfolding linesOf
+line-read file k i l =
+    rw (line-words (k .version)) at (entry-read (lineKind (k .version)) file (13 + k .held * 10) (k .lines) i l)

@@ -9,9 +9,9 @@ use native.Mathlib.Omega.{arith}
 use lib.Dec.{eqb, ltb}
 use lib.ListN.{length}
 use lib.IntN.{ℤ, pos}
-use borrow.Author.Tests.{eqb-true}
+use borrow.Author.Tests.{eqb-true, not-false}
 use Rattle.laws.specs.Tests.{outZ, outN, eqZ}
-use Rattle.laws.proofs.Tests.{or-left, or-right, not-false, inN-high}
+use Rattle.laws.proofs.Tests.{or-left, or-right, inN-high}
 use Rattle.laws.proofs.Size.{between}
 use Rattle.book.specs.Limits.{leastVersion, mostVersion, leastMarks, mostMarks, leastLines, mostLines, leastHeld, mostHeld}
 use Rattle.book.specs.Version.{versionOut, hasClasses, toleranceOut}

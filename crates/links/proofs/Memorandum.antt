@@ -6,6 +6,7 @@ use mathlib.Core.Bool.{true, false}
 use mathlib.Core.List.{List, [], _∷_}
 use lib.IntN.{ℤ, pos, negℤ}
 use Rattle.laws.specs.Scan.{firstFrom}
+use Rattle.book.specs.Version.{noClass}
 use Rattle.network.specs.Standing.{Line, line}
 use Rattle.network.specs.Walk.{pass}
 use Rattle.links.specs.Link.{link}
@@ -13,7 +14,7 @@ use Rattle.links.specs.Sketch.{Sketch, sketch, sketchOf, entries, runOf}
 
 -- a line of 100 m without a difference
 abbrev level : ℕ → ℕ → ℕ → Line
-level n f t = line n f t (pos 0) 100
+level n f t = line n f t (pos 0) 100 noClass
 
 -- AE EB BC CG GD DA AF FC BD FH HJ JK KH KL LM MN NP PM PQ QR
 abbrev pub memorandum : List Line
@@ -55,29 +56,29 @@ pub loops-of-memorandum : entries (its .loops) ≡ level-entry 12 12 3 300 (leve
 unfolding entries sketchOf firstFrom
 loops-of-memorandum = refl
 
--- ---- small networks, of lines of any differences and lengths
+-- ---- small networks, of lines of any differences, lengths and classes
 
-module _ (c d e : ℤ) (k l m : ℕ) where
+module _ (c d e x y z : ℤ) (k l m : ℕ) where
   -- "Two parallel lines alone become one loop": it hangs at their higher mark, begun with the lower line
-  pub two-parallel : sketchOf 2 (line 1 1 2 c k ∷ line 2 1 2 d l ∷ []) ≡
-      sketch [] [] (link 2 2 (pass (line 1 1 2 c k) true ∷ pass (line 2 1 2 d l) false ∷ []) ∷ [])
+  pub two-parallel : sketchOf 2 (line 1 1 2 c k x ∷ line 2 1 2 d l y ∷ []) ≡
+      sketch [] [] (link 2 2 (pass (line 1 1 2 c k x) true ∷ pass (line 2 1 2 d l y) false ∷ []) ∷ [])
   unfolding sketchOf firstFrom
   two-parallel = refl
 
   -- "three stay three links"
-  pub three-parallel : sketchOf 2 (line 1 1 2 c k ∷ line 2 1 2 d l ∷ line 3 2 1 e m ∷ []) ≡
-      sketch (link 1 2 (pass (line 1 1 2 c k) true ∷ []) ∷ link 1 2 (pass (line 2 1 2 d l) true ∷ [])
-      ∷ link 1 2 (pass (line 3 2 1 e m) false ∷ []) ∷ []) [] []
+  pub three-parallel : sketchOf 2 (line 1 1 2 c k x ∷ line 2 1 2 d l y ∷ line 3 2 1 e m z ∷ []) ≡
+      sketch (link 1 2 (pass (line 1 1 2 c k x) true ∷ []) ∷ link 1 2 (pass (line 2 1 2 d l y) true ∷ [])
+      ∷ link 1 2 (pass (line 3 2 1 e m z) false ∷ []) ∷ []) [] []
   unfolding sketchOf firstFrom
   three-parallel = refl
 
   -- "A lone link between two marks is the spur of its lower mark"
-  pub lone-line : sketchOf 2 (line 1 2 1 c k ∷ []) ≡ sketch [] (link 1 2 (pass (line 1 2 1 c k) false ∷ []) ∷ []) []
+  pub lone-line : sketchOf 2 (line 1 2 1 c k x ∷ []) ≡ sketch [] (link 1 2 (pass (line 1 2 1 c k x) false ∷ []) ∷ []) []
   unfolding sketchOf firstFrom
   lone-line = refl
 
   -- "A whole ring hangs at its highest mark, and its lines need not start there"
-  pub whole-ring : sketchOf 3 (line 1 1 2 c k ∷ line 2 2 3 d l ∷ line 3 3 1 e m ∷ []) ≡
-      sketch [] [] (link 3 3 (pass (line 1 1 2 c k) true ∷ pass (line 2 2 3 d l) true ∷ pass (line 3 3 1 e m) true ∷ []) ∷ [])
+  pub whole-ring : sketchOf 3 (line 1 1 2 c k x ∷ line 2 2 3 d l y ∷ line 3 3 1 e m z ∷ []) ≡
+      sketch [] [] (link 3 3 (pass (line 1 1 2 c k x) true ∷ pass (line 2 2 3 d l y) true ∷ pass (line 3 3 1 e m z) true ∷ []) ∷ [])
   unfolding sketchOf firstFrom
   whole-ring = refl

@@ -7,9 +7,8 @@ use mathlib.Core.List.{List}
 use lib.Dec.{ltb}
 use lib.ListN.{length, getD}
 use lib.IntN.{ℤ, pos, natAbs}
-use borrow.Author.Tests.{ltb-true, ltb-false, eqb-true}
+use borrow.Author.Tests.{ltb-true, ltb-false, eqb-true, not-false}
 use Rattle.laws.specs.Tests.{eqZ}
-use Rattle.laws.proofs.Tests.{not-false}
 use Rattle.laws.proofs.Scans.{none-bad}
 use Rattle.laws.proofs.Size.{size-within}
 use Rattle.book.specs.Limits.{mostHeight}

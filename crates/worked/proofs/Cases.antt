@@ -22,6 +22,7 @@ use Rattle.rates.specs.declared.Rate.{Rate}
 use Rattle.rates.specs.declared.Rate.the-variants.{PerKm, Withdrawn}
 use Rattle.rates.specs.declared.RateAnswer.{RateAnswer}
 use Rattle.book.specs.Lent.{Lent, lent, withLines}
+use Rattle.book.specs.Version.{noClass}
 use Rattle.book.specs.Height.{workHeightOut}
 use Rattle.worked.specs.Network.{line, lines, held}
 
@@ -74,7 +75,7 @@ ofRateAnswer r = (pos (r .refusal .number) ∷ pos (r .refusal .place) ∷ pos (
 
 -- the book above
 abbrev book : Lent
-book = lent (pos 5) (pos 120) held lines
+book = lent (pos 1) (pos 5) (pos 120) held lines
 
 -- the morning's report
 report : List ℤ
@@ -93,12 +94,14 @@ lineThree three =
 
 -- a line of the table, withdrawn
 withdrawn : ℕ → ℕ → ℕ → ℕ → List ℤ
-withdrawn from to difference length = pos from ∷ pos to ∷ pos difference ∷ pos length ∷ pos 0 ∷ []
+withdrawn from to difference length = pos from ∷ pos to ∷ pos difference ∷ pos length ∷ pos 0 ∷ noClass ∷ []
 
 -- two lines of 500 m between two marks, surveyed at t = 40: one loop of 1,000 m with the misclosure m
 edge : ℤ → List (List ℤ)
 unfolding surveyOf
-edge m = ofSurvey (surveyOf (lent (pos 2) (pos 40) [] (line 1 2 0 500 ++ (pos 1 ∷ pos 2 ∷ m ∷ pos 500 ∷ pos 1 ∷ []))) (places 5))
+edge m =
+    ofSurvey (surveyOf (lent (pos 1) (pos 2) (pos 40) [] (line 1 2 0 500 ++ (pos 1 ∷ pos 2 ∷ m ∷ pos 500 ∷ pos 1 ∷ noClass ∷ [])))
+    (places 5))
 
 pub cases : List Case
 unfolding lines held report lineSix lineThree withdrawn edge surveyOf listingOf notCheckedOf rerunOf withdrawOf withdrawLines tree

@@ -18,11 +18,11 @@ pub file-length : length file ≡ 107
 unfolding file
 file-length = refl
 
-pub file-read : readOf file (places 2) (places 35)
-    ≡ record { answer = record { refusal = noRefusal; b = 5; t = 120; h = 1; n = 7 }; held = held; lines = lines }
+pub file-read : readOf file (places 2) (places 42)
+    ≡ record { answer = record { refusal = noRefusal; version = 1; b = 5; t = 120; h = 1; n = 7 }; held = held; lines = lines }
 unfolding file held lines readOf outZ outN eqZ firstFrom firstBad anyBelow
 file-read = refl
 
-pub a-place-missing : readOf file (places 2) (places 34) ≡ answered (places 2) (places 34) (refusedWith (refusal 10 0))
+pub a-place-missing : readOf file (places 2) (places 41) ≡ answered (places 2) (places 41) (refusedWith (refusal 10 0))
 unfolding file readOf outZ outN eqZ firstFrom firstBad anyBelow
 a-place-missing = refl

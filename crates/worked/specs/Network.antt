@@ -3,19 +3,29 @@
 use mathlib.Core.List.{List, [], _∷_, _++_}
 use Prim.Native.Nat.{ℕ}
 use lib.IntN.{ℤ, pos}
+use Rattle.book.specs.Version.{noClass}
+
+-- a standing line of this class, and of none
+abbrev pub classed : ℤ → ℕ → ℕ → ℕ → ℕ → List ℤ
+classed class from to difference length = pos from ∷ pos to ∷ pos difference ∷ pos length ∷ pos 1 ∷ class ∷ []
 
 abbrev pub line : ℕ → ℕ → ℕ → ℕ → List ℤ
-line from to difference length = pos from ∷ pos to ∷ pos difference ∷ pos length ∷ pos 1 ∷ []
+line = classed noClass
+
+-- the lines, all of one class
+unfoldable pub linesOf : ℤ → List ℤ
+linesOf class =
+    classed class 1 3 6345000 1600
+    ++ classed class 2 3 4235000 2500
+    ++ classed class 5 2 3060000 1000
+    ++ classed class 5 1 920000 4000
+    ++ classed class 1 4 3895000 1600
+    ++ classed class 4 3 2410000 1250
+    ++ classed class 5 4 4820000 2000
 
 unfoldable pub lines : List ℤ
-lines =
-    line 1 3 6345000 1600
-    ++ line 2 3 4235000 2500
-    ++ line 5 2 3060000 1000
-    ++ line 5 1 920000 4000
-    ++ line 1 4 3895000 1600
-    ++ line 4 3 2410000 1250
-    ++ line 5 4 4820000 2000
+unfolding linesOf
+lines = linesOf noClass
 
 -- "A held at 100,000,000"
 unfoldable pub held : List ℤ
