@@ -1,12 +1,12 @@
 /*
  * Calls the functions of liblevel.a for a program on another processor, which cannot link it.
  *
- * Reads requests on standard input and answers each on standard output. A request is eleven numbers
- * (the call, b, t, loop or line, difference, and the counts of six slices), then the slices: held, lines,
- * and those that are left in the order of the call, none to four of them; the others have no elements. Of
- * level_read the third is the file, in bytes; all else is int64. The answer is eleven numbers (up to six
- * of the call's answer, 1 if the call touched nothing but its outputs, and four zeros), then the slices
- * as they are after the call.
+ * Reads requests on standard input and answers each on standard output. A request is twelve numbers
+ * (the call, version, b, t, loop or line, difference, and the counts of six slices), then the slices: held,
+ * lines, and those that are left in the order of the call, none to four of them; the others have no
+ * elements. Of level_read the third is the file, in bytes; all else is int64. The answer is twelve numbers
+ * (up to seven of the call's answer, 1 if the call touched nothing but its outputs, and four zeros), then
+ * the slices as they are after the call.
  *
  * Every slice lies between guards, and those that are lent to be read are compared afterwards.
  */
@@ -34,8 +34,9 @@ extern void _exit(int);
 
 enum { READ, SURVEY, LISTING, LISTINGS, NOT_CHECKED, SKETCH, RERUN, WITHDRAW, ADJUST, RATE };
 enum { HELD, LINES, THIRD, FOURTH, FIFTH, SIXTH, SLICES };
-/* Where the counts of the slices begin in a request, and how many numbers a request or an answer has. */
-enum { COUNTS = 5, HEAD = COUNTS + SLICES };
+/* Where the counts of the slices begin in a request, how many numbers a request or an answer has, and where in an
+ * answer the 1 is. */
+enum { COUNTS = 6, HEAD = COUNTS + SLICES, UNTOUCHED = 7 };
 enum { GUARD = 64, MOST = 1 << 20, CANARY = 0xA5 };
 
 /* A slice in bytes, between its guards, and as it was lent. */
@@ -118,7 +119,7 @@ static void sketch(const int64_t *q, int64_t *a)
     size_t n[SLICES];
     for (int i = 0; i < SLICES; i++)
         n[i] = (size_t)q[COUNTS + i];
-    struct Sketched r = level_sketch(q[1], q[2], slice(HELD), n[HELD], slice(LINES), n[LINES],
+    struct Sketched r = level_sketch(q[1], q[2], q[3], slice(HELD), n[HELD], slice(LINES), n[LINES],
                                      slice(THIRD), n[THIRD], slice(FOURTH), n[FOURTH],
                                      slice(FIFTH), n[FIFTH], slice(SIXTH), n[SIXTH]);
     a[0] = r.number, a[1] = r.place, a[2] = r.links, a[3] = r.spurs, a[4] = r.loops, a[5] = r.run;
@@ -127,22 +128,23 @@ static void sketch(const int64_t *q, int64_t *a)
 /* Makes a call; its answer goes to a. */
 static void make(const int64_t *q, int64_t *a)
 {
-    int64_t call = q[0], b = q[1], t = q[2], number = q[3], difference = q[4];
+    int64_t call = q[0], version = q[1], b = q[2], t = q[3], number = q[4], difference = q[5];
     int64_t *held = slice(HELD), *lines = slice(LINES), *third = slice(THIRD);
     size_t h = (size_t)q[COUNTS], l = (size_t)q[COUNTS + 1], n = (size_t)q[COUNTS + 2];
     switch (call) {
     case READ: {
         struct ReadAnswer r = level_read(room[THIRD] + GUARD, n, held, h, lines, l);
-        a[0] = r.number, a[1] = r.place, a[2] = r.b, a[3] = r.t, a[4] = r.h, a[5] = r.n;
+        a[0] = r.number, a[1] = r.place, a[2] = r.version;
+        a[3] = r.b, a[4] = r.t, a[5] = r.h, a[6] = r.n;
         break;
     }
     case SURVEY:
     case RERUN:
     case WITHDRAW: {
         struct Answer r =
-            call == SURVEY  ? level_survey(b, t, held, h, lines, l, third, n)
-            : call == RERUN ? level_rerun(b, t, held, h, lines, l, third, n, number, difference)
-                            : level_withdraw(b, t, held, h, lines, l, third, n, number);
+            call == SURVEY  ? level_survey(version, b, t, held, h, lines, l, third, n)
+            : call == RERUN ? level_rerun(version, b, t, held, h, lines, l, third, n, number, difference)
+                            : level_withdraw(version, b, t, held, h, lines, l, third, n, number);
         a[0] = r.number, a[1] = r.place, a[2] = r.rows, a[3] = r.pieces;
         break;
     }
@@ -150,9 +152,9 @@ static void make(const int64_t *q, int64_t *a)
     case LISTINGS:
     case NOT_CHECKED: {
         struct Listed r =
-            call == LISTING    ? level_listing(b, t, held, h, lines, l, number, third, n)
-            : call == LISTINGS ? level_listings(b, t, held, h, lines, l, third, n)
-                               : level_not_checked(b, t, held, h, lines, l, third, n);
+            call == LISTING    ? level_listing(version, b, t, held, h, lines, l, number, third, n)
+            : call == LISTINGS ? level_listings(version, b, t, held, h, lines, l, third, n)
+                               : level_not_checked(version, b, t, held, h, lines, l, third, n);
         a[0] = r.number, a[1] = r.place, a[2] = r.entries;
         break;
     }
@@ -160,12 +162,12 @@ static void make(const int64_t *q, int64_t *a)
         sketch(q, a);
         break;
     case ADJUST: {
-        struct Adjusted r = level_adjust(b, t, held, h, lines, l, third, n);
+        struct Adjusted r = level_adjust(version, b, t, held, h, lines, l, third, n);
         a[0] = r.number, a[1] = r.place, a[2] = r.sweeps;
         break;
     }
     case RATE: {
-        struct Rated r = level_rate(b, t, held, h, lines, l, third, n, number);
+        struct Rated r = level_rate(version, b, t, held, h, lines, l, third, n, number);
         a[0] = r.number, a[1] = r.place, a[2] = r.line, a[3] = r.correction, a[4] = r.withdrawn;
         memcpy(&a[5], &r.rate, sizeof r.rate);
         break;
@@ -183,10 +185,10 @@ int main(void)
         for (int i = 0; i < SLICES; i++)
             take(i, request[COUNTS + i], i == THIRD && request[0] == READ ? 1 : sizeof(int64_t));
         make(request, answer);
-        answer[6] = 1;
+        answer[UNTOUCHED] = 1;
         for (int i = 0; i < SLICES; i++)
             if (!guarded(i) || (!is_output(request[0], i) && !unchanged(i)))
-                answer[6] = 0;
+                answer[UNTOUCHED] = 0;
         put(answer, sizeof answer);
         for (int i = 0; i < SLICES; i++)
             put(slice(i), bytes[i]);

@@ -19,7 +19,7 @@ pub(crate) fn adjust(
     if heights.len() < book.b as usize {
         return refuse(10);
     }
-    network.load(book.b, book.lines);
+    network.load(book.b, book.t, book.lines);
     let mut held = [None; MAX_MARKS];
     for entry in book.held.chunks_exact(HELD) {
         held[entry[0] as usize - 1] = Some(entry[1]);
@@ -145,10 +145,7 @@ fn sweep(network: &Network, held: &Held, heights: &mut Heights) -> Result<i64, R
 
 /// The correction rate of one line by the lent heights.
 pub(crate) fn rate(book: Lent, heights: &[i64], line: i64) -> Result<Rated, Refusal> {
-    if i64::try_from(heights.len()) != Ok(book.b) {
-        return refuse(4);
-    }
-    book.test()?;
+    book.test_beside(i64::try_from(heights.len()) == Ok(book.b))?;
     let numbers = book.line(line)?;
     if let Some(mark) = heights.iter().position(|&height| !within(height, MAX_HEIGHT)) {
         return refuse_at(13, mark as i64 + 1);

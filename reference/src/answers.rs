@@ -25,6 +25,7 @@ pub(crate) const fn refuse_at<T>(number: i64, place: i64) -> Result<T, Refusal> 
 pub struct ReadAnswer {
     pub number: i64,
     pub place: i64,
+    pub version: i64,
     pub b: i64,
     pub t: i64,
     pub h: i64,

@@ -22,27 +22,27 @@ impl Level for Archive {
     }
 
     fn survey(&mut self, book: Lent, rows: &mut [i64]) -> Answer {
-        let Lent { b, t, held, lines } = book;
+        let Lent { version, b, t, held, lines } = book;
         let (h, l, r) = (held.as_ptr(), lines.as_ptr(), rows.as_mut_ptr());
-        unsafe { level_survey(b, t, h, held.len(), l, lines.len(), r, rows.len()) }
+        unsafe { level_survey(version, b, t, h, held.len(), l, lines.len(), r, rows.len()) }
     }
 
     fn listing(&mut self, book: Lent, number: i64, out: &mut [i64]) -> Listed {
-        let Lent { b, t, held, lines } = book;
+        let Lent { version, b, t, held, lines } = book;
         let (h, l, o) = (held.as_ptr(), lines.as_ptr(), out.as_mut_ptr());
-        unsafe { level_listing(b, t, h, held.len(), l, lines.len(), number, o, out.len()) }
+        unsafe { level_listing(version, b, t, h, held.len(), l, lines.len(), number, o, out.len()) }
     }
 
     fn listings(&mut self, book: Lent, out: &mut [i64]) -> Listed {
-        let Lent { b, t, held, lines } = book;
+        let Lent { version, b, t, held, lines } = book;
         let (h, l, o) = (held.as_ptr(), lines.as_ptr(), out.as_mut_ptr());
-        unsafe { level_listings(b, t, h, held.len(), l, lines.len(), o, out.len()) }
+        unsafe { level_listings(version, b, t, h, held.len(), l, lines.len(), o, out.len()) }
     }
 
     fn not_checked(&mut self, book: Lent, out: &mut [i64]) -> Listed {
-        let Lent { b, t, held, lines } = book;
+        let Lent { version, b, t, held, lines } = book;
         let (h, l, o) = (held.as_ptr(), lines.as_ptr(), out.as_mut_ptr());
-        unsafe { level_not_checked(b, t, h, held.len(), l, lines.len(), o, out.len()) }
+        unsafe { level_not_checked(version, b, t, h, held.len(), l, lines.len(), o, out.len()) }
     }
 
     fn sketch(
@@ -53,36 +53,38 @@ impl Level for Archive {
         loops: &mut [i64],
         run: &mut [i64],
     ) -> Sketched {
-        let Lent { b, t, held, lines } = book;
+        let Lent { version, b, t, held, lines } = book;
         let (h, l, hs, ls) = (held.as_ptr(), lines.as_ptr(), held.len(), lines.len());
         let (n, s, o, r) =
             (links.as_mut_ptr(), spurs.as_mut_ptr(), loops.as_mut_ptr(), run.as_mut_ptr());
         let (ns, ss, os, rs) = (links.len(), spurs.len(), loops.len(), run.len());
-        unsafe { level_sketch(b, t, h, hs, l, ls, n, ns, s, ss, o, os, r, rs) }
+        unsafe { level_sketch(version, b, t, h, hs, l, ls, n, ns, s, ss, o, os, r, rs) }
     }
 
     fn rerun(&mut self, book: LentMut, report: &mut [i64], line: i64, difference: i64) -> Answer {
-        let Lent { b, t, held, lines } = book;
+        let Lent { version, b, t, held, lines } = book;
         let (h, l, r) = (held.as_ptr(), lines.as_mut_ptr(), report.as_mut_ptr());
         let (hs, ls, rs) = (held.len(), lines.len(), report.len());
-        unsafe { level_rerun(b, t, h, hs, l, ls, r, rs, line, difference) }
+        unsafe { level_rerun(version, b, t, h, hs, l, ls, r, rs, line, difference) }
     }
 
     fn withdraw(&mut self, book: LentMut, report: &mut [i64], line: i64) -> Answer {
-        let Lent { b, t, held, lines } = book;
+        let Lent { version, b, t, held, lines } = book;
         let (h, l, r) = (held.as_ptr(), lines.as_mut_ptr(), report.as_mut_ptr());
-        unsafe { level_withdraw(b, t, h, held.len(), l, lines.len(), r, report.len(), line) }
+        unsafe {
+            level_withdraw(version, b, t, h, held.len(), l, lines.len(), r, report.len(), line)
+        }
     }
 
     fn adjust(&mut self, book: Lent, heights: &mut [i64]) -> Adjusted {
-        let Lent { b, t, held, lines } = book;
+        let Lent { version, b, t, held, lines } = book;
         let (h, l, z) = (held.as_ptr(), lines.as_ptr(), heights.as_mut_ptr());
-        unsafe { level_adjust(b, t, h, held.len(), l, lines.len(), z, heights.len()) }
+        unsafe { level_adjust(version, b, t, h, held.len(), l, lines.len(), z, heights.len()) }
     }
 
     fn rate(&mut self, book: Lent, heights: &[i64], line: i64) -> Rated {
-        let Lent { b, t, held, lines } = book;
+        let Lent { version, b, t, held, lines } = book;
         let (h, l, z) = (held.as_ptr(), lines.as_ptr(), heights.as_ptr());
-        unsafe { level_rate(b, t, h, held.len(), l, lines.len(), z, heights.len(), line) }
+        unsafe { level_rate(version, b, t, h, held.len(), l, lines.len(), z, heights.len(), line) }
     }
 }

@@ -1,11 +1,40 @@
-//! The book as it is lent: its tests (refusals 4, 6 and 7), and its file.
+//! The book as it is lent: its tests (refusals 3, 4, 6 and 7), and its file.
 
 use crate::answers::{refuse, refuse_at, Refusal};
 use crate::*;
+use std::ops::RangeInclusive;
+
+/// All that a book's version decides: the limits of t and of a line's class, and a line's bytes in a file.
+pub struct Version {
+    pub number: i64,
+    pub t: RangeInclusive<i64>,
+    pub class: RangeInclusive<i64>,
+    pub line_bytes: usize,
+}
+
+impl Version {
+    /// One tolerance for all lines.
+    pub const ONE: Version =
+        Version { number: 1, t: 1..=MAX_TOLERANCE, class: NO_CLASS..=NO_CLASS, line_bytes: 12 };
+    /// A tolerance for each line by its class, and two more bytes: class and standing.
+    pub const TWO: Version =
+        Version { number: 2, t: 0..=0, class: 0..=TOLERANCES.len() as i64 - 1, line_bytes: 14 };
+
+    /// The version with this number, if there is one.
+    pub fn of(number: i64) -> Option<&'static Version> {
+        [&Version::ONE, &Version::TWO].into_iter().find(|version| version.number == number)
+    }
+
+    /// The version with this number, or 3.
+    fn test(number: i64) -> Result<&'static Version, Refusal> {
+        Version::of(number).map_or(refuse(3), Ok)
+    }
+}
 
 /// A lent book: its lines are to be read or, in a [`LentMut`], to be corrected.
 #[derive(Clone, Copy, Debug)]
 pub struct Lent<'a, Lines = &'a [i64]> {
+    pub version: i64,
     pub b: i64,
     pub t: i64,
     pub held: &'a [i64],
@@ -18,27 +47,36 @@ pub type LentMut<'a> = Lent<'a, &'a mut [i64]>;
 impl LentMut<'_> {
     /// The book, lent on to be read.
     pub fn lent(&self) -> Lent<'_> {
-        Lent { b: self.b, t: self.t, held: self.held, lines: self.lines }
+        let Lent { version, b, t, held, .. } = *self;
+        Lent { version, b, t, held, lines: self.lines }
     }
 
     /// The book, lent on to be corrected.
     pub fn lent_mut(&mut self) -> LentMut<'_> {
-        Lent { b: self.b, t: self.t, held: self.held, lines: self.lines }
+        let Lent { version, b, t, held, .. } = *self;
+        Lent { version, b, t, held, lines: self.lines }
     }
 }
 
 impl Lent<'_> {
-    /// 4, 6 and 7, in that order.
+    /// 3, 4, 6 and 7, in that order.
     pub(crate) fn test(&self) -> Result<(), Refusal> {
-        if !self.held.len().is_multiple_of(HELD) || !self.lines.len().is_multiple_of(LINE) {
-            return refuse(4);
-        }
-        test_head(self.b, self.t, self.held.len() / HELD, self.lines.len() / LINE)?;
-        test_held(self.b, self.held)?;
-        test_lines(self.b, self.lines)
+        self.test_beside(true)
     }
 
-    /// A line's five numbers, or 8.
+    /// The same; 4 also where what is lent beside the book is not good.
+    pub(crate) fn test_beside(&self, good: bool) -> Result<(), Refusal> {
+        let version = Version::test(self.version)?;
+        let whole = self.held.len().is_multiple_of(HELD) && self.lines.len().is_multiple_of(LINE);
+        if !(whole && good) {
+            return refuse(4);
+        }
+        test_head(version, self.b, self.t, self.held.len() / HELD, self.lines.len() / LINE)?;
+        test_held(self.b, self.held)?;
+        test_lines(version, self.b, self.lines)
+    }
+
+    /// A line's six numbers, or 8.
     pub(crate) fn line(&self, number: i64) -> Result<&[i64], Refusal> {
         if number < 1 || number > (self.lines.len() / LINE) as i64 {
             return refuse(8);
@@ -57,6 +95,7 @@ impl Lent<'_> {
 
 /// The numbers in the head of a file.
 pub(crate) struct Head {
+    pub version: &'static Version,
     pub b: i64,
     pub t: i64,
     pub h: usize,
@@ -69,10 +108,9 @@ pub(crate) fn within(x: i64, limit: i64) -> bool {
 }
 
 /// 4, of the four numbers in a book's head.
-fn test_head(b: i64, t: i64, h: usize, n: usize) -> Result<(), Refusal> {
+fn test_head(version: &Version, b: i64, t: i64, h: usize, n: usize) -> Result<(), Refusal> {
     let marks = (1..=MAX_MARKS as i64).contains(&b);
-    let tolerance = (1..=MAX_TOLERANCE).contains(&t);
-    if marks && tolerance && h <= MAX_HELD && n <= MAX_LINES {
+    if marks && version.t.contains(&t) && h <= MAX_HELD && n <= MAX_LINES {
         Ok(())
     } else {
         refuse(4)
@@ -94,13 +132,14 @@ fn test_held(b: i64, held: &[i64]) -> Result<(), Refusal> {
 }
 
 /// 7: the first line with a number outside; withdrawn lines are tested too.
-fn test_lines(b: i64, lines: &[i64]) -> Result<(), Refusal> {
+fn test_lines(version: &Version, b: i64, lines: &[i64]) -> Result<(), Refusal> {
     for (i, line) in lines.chunks_exact(LINE).enumerate() {
         let ends = (1..=b).contains(&line[0]) && (1..=b).contains(&line[1]) && line[0] != line[1];
         let difference = within(line[2], MAX_DIFFERENCE);
         let length = (MIN_LENGTH..=MAX_LENGTH).contains(&line[3]);
         let standing = line[4] == 0 || line[4] == 1;
-        if !(ends && difference && length && standing) {
+        let class = version.class.contains(&line[5]);
+        if !(ends && difference && length && standing && class) {
             return refuse_at(7, i as i64 + 1);
         }
     }
@@ -128,21 +167,20 @@ fn read_head(file: &[u8]) -> Result<Head, Refusal> {
     if be32(file) as usize != file.len() {
         return refuse(2);
     }
-    if file[4] != 1 {
-        return refuse(3);
-    }
+    let version = Version::test(file[4] as i64)?;
     let (t, b) = (be16(&file[5..]) as i64, be16(&file[7..]) as i64);
     let (h, n) = (be16(&file[9..]) as usize, be16(&file[11..]) as usize);
-    test_head(b, t, h, n)?;
-    if file.len() != HEAD_BYTES + HELD_BYTES * h + LINE_BYTES * n {
+    test_head(version, b, t, h, n)?;
+    if file.len() != HEAD_BYTES + HELD_BYTES * h + version.line_bytes * n {
         return refuse(5);
     }
-    Ok(Head { b, t, h, n })
+    Ok(Head { version, b, t, h, n })
 }
 
 /// Reads a file into lent buffers. Nothing is written unless the whole file is good.
 pub(crate) fn read(file: &[u8], held: &mut [i64], lines: &mut [i64]) -> Result<Head, Refusal> {
     let head = read_head(file)?;
+    let line_bytes = head.version.line_bytes;
     let (held_part, line_part) = file[HEAD_BYTES..].split_at(HELD_BYTES * head.h);
     let mut held_room = [0; HELD * MAX_HELD];
     let mut line_room = [0; LINE * MAX_LINES];
@@ -152,15 +190,18 @@ pub(crate) fn read(file: &[u8], held: &mut [i64], lines: &mut [i64]) -> Result<H
         entry[0] = be16(bytes) as i64;
         entry[1] = be64(&bytes[2..]) as i64;
     }
-    for (bytes, line) in line_part.chunks_exact(LINE_BYTES).zip(new_lines.chunks_exact_mut(LINE)) {
+    for (bytes, line) in line_part.chunks_exact(line_bytes).zip(new_lines.chunks_exact_mut(LINE)) {
         line[0] = be16(bytes) as i64;
         line[1] = be16(&bytes[2..]) as i64;
         line[2] = be32(&bytes[4..]) as i32 as i64;
         line[3] = be32(&bytes[8..]) as i64;
-        line[4] = 1;
+        [line[4], line[5]] = match bytes[12..] {
+            [class, standing] => [standing as i64, class as i64],
+            _ => [1, NO_CLASS],
+        };
     }
     test_held(head.b, new_held)?;
-    test_lines(head.b, new_lines)?;
+    test_lines(head.version, head.b, new_lines)?;
     if held.len() < new_held.len() || lines.len() < new_lines.len() {
         return refuse(10);
     }
@@ -169,13 +210,15 @@ pub(crate) fn read(file: &[u8], held: &mut [i64], lines: &mut [i64]) -> Result<H
     Ok(head)
 }
 
-/// The file of a book, good or not, all its lines standing: what does not fit is cut to its last bytes.
-pub fn write(Lent { b, t, held, lines }: Lent) -> Vec<u8> {
+/// The file of a book, good or not: what does not fit is cut to its last bytes. In version 1, as in one that
+/// there is not, all its lines stand.
+pub fn write(Lent { version, b, t, held, lines }: Lent) -> Vec<u8> {
+    let line_bytes = Version::of(version).unwrap_or(&Version::ONE).line_bytes;
     let (h, n) = (held.len() / HELD, lines.len() / LINE);
-    let size = HEAD_BYTES + HELD_BYTES * h + LINE_BYTES * n;
+    let size = HEAD_BYTES + HELD_BYTES * h + line_bytes * n;
     let mut file = Vec::with_capacity(size);
     file.extend((size as u32).to_be_bytes());
-    file.push(1);
+    file.push(version as u8);
     for number in [t, b, h as i64, n as i64] {
         file.extend((number as u16).to_be_bytes());
     }
@@ -184,10 +227,13 @@ pub fn write(Lent { b, t, held, lines }: Lent) -> Vec<u8> {
         file.extend(entry[1].to_be_bytes());
     }
     for line in lines.chunks_exact(LINE) {
+        let end = file.len() + line_bytes;
         file.extend((line[0] as u16).to_be_bytes());
         file.extend((line[1] as u16).to_be_bytes());
         file.extend((line[2] as i32).to_be_bytes());
         file.extend((line[3] as u32).to_be_bytes());
+        file.extend([line[5] as u8, line[4] as u8]);
+        file.truncate(end);
     }
     file
 }

@@ -6,8 +6,9 @@ use crate::*;
 use std::io::{self, Read, Write};
 use std::process::{Child, ChildStdin, ChildStdout, Command, Stdio};
 
-/// Numbers at the start of a request, and of its answer.
-const HEAD: usize = 11;
+/// Numbers at the start of a request and of what comes back, and how many of these are the call's answer.
+const HEAD: usize = 12;
+const ANSWER: usize = 7;
 
 /// In the place of a refusal's number: the call touched what it may not; the server ended.
 const TOUCHED: i64 = -1;
@@ -59,7 +60,7 @@ impl<'a> More<'a> {
 
 /// What comes back: the numbers of the answer, and the slices after the call.
 struct Reply {
-    answer: [i64; 6],
+    answer: [i64; ANSWER],
     held: Vec<i64>,
     lines: Vec<i64>,
     more: [Vec<i64>; MORE],
@@ -83,7 +84,7 @@ impl Bridge {
                 More::File(_) => Default::default(),
             };
             let (held, lines) = (request.book.held.to_vec(), request.book.lines.to_vec());
-            Reply { answer: [ENDED, 0, 0, 0, 0, 0], held, lines, more }
+            Reply { answer: [ENDED, 0, 0, 0, 0, 0, 0], held, lines, more }
         })
     }
 
@@ -106,16 +107,16 @@ impl Bridge {
             }
             More::File(file) => output.read_exact(&mut vec![0; file.len()])?,
         }
-        let mut answer = [0; 6];
-        answer.copy_from_slice(&numbers[..6]);
-        if numbers[6] != 1 {
+        let mut answer = [0; ANSWER];
+        answer.copy_from_slice(&numbers[..ANSWER]);
+        if numbers[ANSWER] != 1 {
             answer[0] = TOUCHED;
         }
         Ok(Reply { answer, held, lines, more })
     }
 
     /// A call that fills an output. Gives the numbers of its answer.
-    fn fill(&mut self, kind: Kind, book: Lent, number: i64, out: &mut [i64]) -> [i64; 6] {
+    fn fill(&mut self, kind: Kind, book: Lent, number: i64, out: &mut [i64]) -> [i64; ANSWER] {
         let more = More::one(out);
         let reply = self.ask(&Request { kind, book, number, difference: 0, more });
         out.copy_from_slice(&reply.more[0]);
@@ -130,7 +131,7 @@ impl Bridge {
         report: &mut [i64],
         number: i64,
         difference: i64,
-    ) -> [i64; 6] {
+    ) -> [i64; ANSWER] {
         let more = More::one(report);
         let reply = self.ask(&Request { kind, book: book.lent(), number, difference, more });
         book.lines.copy_from_slice(&reply.lines);
@@ -160,12 +161,13 @@ fn start(command: &[String]) -> io::Result<Server> {
 }
 
 fn sent(request: &Request) -> Vec<u8> {
-    let Request { kind, book: Lent { b, t, held, lines }, number, difference, more } = request;
-    let mut head = vec![*kind as i64, *b, *t, *number, *difference];
+    let Request { kind, book, number, difference, more } = request;
+    let Lent { version, b, t, held, lines } = *book;
+    let mut head = vec![*kind as i64, version, b, t, *number, *difference];
     head.extend([held.len(), lines.len()].map(|count| count as i64));
     head.extend(more.counts().map(|count| count as i64));
     let mut bytes = vec![];
-    for numbers in [&head, *held, *lines] {
+    for numbers in [&head, held, lines] {
         put(&mut bytes, numbers);
     }
     match more {
@@ -186,23 +188,23 @@ fn receive(output: &mut ChildStdout, count: usize) -> io::Result<Vec<i64>> {
     Ok(bytes.chunks_exact(8).map(number).collect())
 }
 
-fn answer([number, place, rows, pieces, ..]: [i64; 6]) -> Answer {
+fn answer([number, place, rows, pieces, ..]: [i64; ANSWER]) -> Answer {
     Answer { number, place, rows, pieces }
 }
 
-fn listed([number, place, entries, ..]: [i64; 6]) -> Listed {
+fn listed([number, place, entries, ..]: [i64; ANSWER]) -> Listed {
     Listed { number, place, entries }
 }
 
 impl Level for Bridge {
     fn read(&mut self, file: &[u8], held: &mut [i64], lines: &mut [i64]) -> ReadAnswer {
-        let book = Lent { b: 0, t: 0, held, lines: &*lines };
+        let book = Lent { version: 0, b: 0, t: 0, held, lines: &*lines };
         let more = More::File(file);
         let reply = self.ask(&Request { kind: Kind::Read, book, number: 0, difference: 0, more });
         held.copy_from_slice(&reply.held);
         lines.copy_from_slice(&reply.lines);
-        let [number, place, b, t, h, n] = reply.answer;
-        ReadAnswer { number, place, b, t, h, n }
+        let [number, place, version, b, t, h, n] = reply.answer;
+        ReadAnswer { number, place, version, b, t, h, n }
     }
 
     fn survey(&mut self, book: Lent, rows: &mut [i64]) -> Answer {
@@ -234,7 +236,7 @@ impl Level for Bridge {
         for (out, after) in [links, spurs, loops, run].into_iter().zip(&reply.more) {
             out.copy_from_slice(after);
         }
-        let [number, place, links, spurs, loops, run] = reply.answer;
+        let [number, place, links, spurs, loops, run, ..] = reply.answer;
         Sketched { number, place, links, spurs, loops, run }
     }
 
@@ -254,7 +256,7 @@ impl Level for Bridge {
     fn rate(&mut self, book: Lent, heights: &[i64], line: i64) -> Rated {
         let more = More::one(heights);
         let request = Request { kind: Kind::Rate, book, number: line, difference: 0, more };
-        let [number, place, line, correction, withdrawn, rate] = self.ask(&request).answer;
+        let [number, place, line, correction, withdrawn, rate, ..] = self.ask(&request).answer;
         Rated { number, place, line, correction, withdrawn, rate: f64::from_bits(rate as u64) }
     }
 }

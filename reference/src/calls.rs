@@ -10,7 +10,7 @@ use crate::*;
 pub struct Reference {
     pub(crate) network: Box<Network>,
     sketch: Box<Sketch>,
-    /// Rows that have the line of a re-run, each with the sense in which they run it and the verdict's length.
+    /// Rows that have the line of a re-run, each with the sense in which they run it and what their lines allow.
     touched: Vec<(usize, i64, i64)>,
     /// The lines of all loops, one loop after the other.
     listed: Vec<i64>,
@@ -40,31 +40,31 @@ impl Reference {
     }
 
     /// Works every row out into the lent ones.
-    fn fill(&mut self, t: i64, rows: &mut [i64]) {
+    fn fill(&mut self, rows: &mut [i64]) {
         for (i, row) in rows.chunks_exact_mut(ROW).take(self.network.rows).enumerate() {
-            row.copy_from_slice(&self.network.take(i, t));
+            row.copy_from_slice(&self.network.take(i));
         }
     }
 
     fn try_survey(&mut self, book: Lent, rows: &mut [i64]) -> Result<Counts, Refusal> {
         book.test()?;
-        self.network.load(book.b, book.lines);
+        self.network.load(book.b, book.t, book.lines);
         if rows.len() < ROW * self.network.rows {
             return refuse(10);
         }
-        self.fill(book.t, rows);
+        self.fill(rows);
         Ok(self.counts())
     }
 
     fn try_listing(&mut self, book: Lent, number: i64, out: &mut [i64]) -> Result<usize, Refusal> {
         book.test()?;
-        self.network.load(book.b, book.lines);
+        self.network.load(book.b, book.t, book.lines);
         if number < 1 || number > self.network.rows as i64 {
             return refuse(8);
         }
         let mut row = [0; ROW];
         for i in 0..number as usize {
-            row = self.network.take(i, book.t);
+            row = self.network.take(i);
         }
         let count = row[1] as usize;
         if out.len() < count {
@@ -79,10 +79,10 @@ impl Reference {
 
     fn try_listings(&mut self, book: Lent, out: &mut [i64]) -> Result<usize, Refusal> {
         book.test()?;
-        self.network.load(book.b, book.lines);
+        self.network.load(book.b, book.t, book.lines);
         self.listed.clear();
         for i in 0..self.network.rows {
-            let [closing, ..] = self.network.take(i, book.t);
+            let [closing, ..] = self.network.take(i);
             self.listed.push(closing);
             self.listed.extend(self.network.search.path().iter().map(|&signed| signed as i64));
         }
@@ -96,7 +96,7 @@ impl Reference {
 
     fn try_not_checked(&mut self, book: Lent, out: &mut [i64]) -> Result<usize, Refusal> {
         book.test()?;
-        self.network.load(book.b, book.lines);
+        self.network.load(book.b, book.t, book.lines);
         let off = self.network.off_circuits();
         let count = off.iter().filter(|&&is_off| is_off).count();
         if out.len() < count {
@@ -113,7 +113,6 @@ impl Reference {
     /// the network that has just taken it.
     fn test_report(
         &mut self,
-        t: i64,
         report: &[i64],
         mut each: impl FnMut(usize, i64, &Network),
     ) -> Result<(), Refusal> {
@@ -121,7 +120,7 @@ impl Reference {
             return refuse(9);
         }
         for i in 0..self.network.rows {
-            let row = self.network.take(i, t);
+            let row = self.network.take(i);
             if report[ROW * i..][..ROW] != row {
                 return refuse(9);
             }
@@ -137,20 +136,17 @@ impl Reference {
         line: i64,
         difference: i64,
     ) -> Result<Counts, Refusal> {
-        if !within(difference, MAX_DIFFERENCE) {
-            return refuse(4);
-        }
-        book.test()?;
+        book.test_beside(within(difference, MAX_DIFFERENCE))?;
         book.test_standing(line)?;
-        self.network.load(book.b, book.lines);
+        self.network.load(book.b, book.t, book.lines);
         let mut touched = std::mem::take(&mut self.touched);
         touched.clear();
-        let tested = self.test_report(book.t, report, |i, closing, network| {
+        let tested = self.test_report(report, |i, closing, network| {
             let path = network.search.path();
             if closing == line || path.contains(&(line as i32)) {
-                touched.push((i, 1, network.judged));
+                touched.push((i, 1, network.allowed));
             } else if path.contains(&-(line as i32)) {
-                touched.push((i, -1, network.judged));
+                touched.push((i, -1, network.allowed));
             }
         });
         self.touched = touched;
@@ -161,8 +157,8 @@ impl Reference {
     fn try_withdraw(&mut self, book: Lent, report: &[i64], line: i64) -> Result<Counts, Refusal> {
         book.test()?;
         book.test_standing(line)?;
-        self.network.load(book.b, book.lines);
-        self.test_report(book.t, report, |_, _, _| {})?;
+        self.network.load(book.b, book.t, book.lines);
+        self.test_report(report, |_, _, _| {})?;
         Ok(self.counts())
     }
 
@@ -181,7 +177,7 @@ impl Reference {
         if book.test().is_err() {
             return Vec::new();
         }
-        self.network.load(book.b, book.lines);
+        self.network.load(book.b, book.t, book.lines);
         let network = &self.network;
         let entered = network.order[..network.marks].iter().map(|&m| network.up_line[m as usize]);
         entered.filter(|&line| line != network::NONE).map(|line| line as i64 + 1).collect()
@@ -210,6 +206,7 @@ impl Level for Reference {
             Ok(head) => ReadAnswer {
                 number: 0,
                 place: 0,
+                version: head.version.number,
                 b: head.b,
                 t: head.t,
                 h: head.h as i64,
@@ -259,10 +256,10 @@ impl Level for Reference {
             let kept = &mut book.lines[LINE * (line as usize - 1) + 2];
             let change = difference - *kept;
             *kept = difference;
-            for &(i, sense, judged) in &self.touched {
+            for &(i, sense, allowed) in &self.touched {
                 let row = &mut report[ROW * i..][..ROW];
                 row[3] += sense * change;
-                row[4] = verdict(book.t, judged, row[3]);
+                row[4] = verdict(allowed, row[3]);
             }
         }
         answer(counts)
@@ -275,8 +272,8 @@ impl Level for Reference {
             refused => return answer(refused),
         };
         book.lines[LINE * (line as usize - 1) + 4] = 0;
-        self.network.load(book.b, book.lines);
-        self.fill(book.t, report);
+        self.network.load(book.b, book.t, book.lines);
+        self.fill(report);
         report[ROW * self.network.rows..ROW * before].fill(0);
         answer(Ok(self.counts()))
     }

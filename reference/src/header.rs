@@ -52,11 +52,13 @@ macro_rules! header {
             $reader $file -> $read = $reads $buffers;
             $(
                 $name(
-                    b: i64, t: i64,
+                    version: i64, b: i64, t: i64,
                     held: *const i64, held_count: usize, lines: *$access i64, lines_count: usize,
                     $($argument: $kind),*
                 ) -> $answer = $call(
-                    Lent { b, t, held: held.lent(held_count), lines: lines.lent(lines_count) },
+                    Lent {
+                        version, b, t, held: held.lent(held_count), lines: lines.lent(lines_count)
+                    },
                     $($lent),*
                 );
             )*

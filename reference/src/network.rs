@@ -57,11 +57,17 @@ impl Arms {
     }
 }
 
-/// 0 within, 1 over: "within exactly if m*m <= 10*t*t*L; equal is within". The verdict's length is "the sum over
-/// the loop's lines of the larger of the length and 250".
-pub fn verdict(t: i64, judged: i64, misclosure: i64) -> i64 {
-    let (m, t, judged) = (misclosure as i128, t as i128, judged as i128);
-    (m * m > 10 * t * t * judged) as i64
+/// What a line of a good book allows: tolerance squared times "the larger of the length and 250". Its tolerance
+/// is that of its class or, without one, the book's t.
+pub fn line_allows(t: i64, line: &[i64]) -> i64 {
+    let tolerance = if line[5] == NO_CLASS { t } else { TOLERANCES[line[5] as usize] };
+    tolerance * tolerance * line[3].max(MIN_JUDGED)
+}
+
+/// 0 within, 1 over: "within exactly if m*m is at most 10 times the sum" of what the loop's lines allow.
+pub fn verdict(allowed: i64, misclosure: i64) -> i64 {
+    let (m, allowed) = (misclosure as i128, allowed as i128);
+    (m * m > 10 * allowed) as i64
 }
 
 /// The order of candidates: by score, then by number.
@@ -77,6 +83,7 @@ pub(crate) struct Network {
     pub to: [u16; MAX_LINES],
     pub length: [u32; MAX_LINES],
     pub difference: [i64; MAX_LINES],
+    allows: [i64; MAX_LINES],
     /// All standing lines.
     pub standing: Arms,
     /// The tree, and the closing lines added so far.
@@ -93,8 +100,8 @@ pub(crate) struct Network {
     closing: [u16; MAX_LINES],
     pub rows: usize,
     pub pieces: usize,
-    /// The verdict's length of the row that was taken last.
-    pub judged: i64,
+    /// What the lines of the row allow that was taken last.
+    pub allowed: i64,
     /// Candidates by rank, and the best rank for each mark that is still out.
     candidates: BinaryHeap<Reverse<u64>>,
     best: [u64; MAX_MARKS],
@@ -112,6 +119,7 @@ impl Network {
             to: [0; MAX_LINES],
             length: [0; MAX_LINES],
             difference: [0; MAX_LINES],
+            allows: [0; MAX_LINES],
             standing: Arms::new(),
             subgraph: Arms::new(),
             distance: [0; MAX_MARKS],
@@ -122,7 +130,7 @@ impl Network {
             closing: [0; MAX_LINES],
             rows: 0,
             pieces: 0,
-            judged: 0,
+            allowed: 0,
             candidates: BinaryHeap::with_capacity(2 * MAX_LINES),
             best: [0; MAX_MARKS],
             fresh: [0; MAX_LINES],
@@ -131,7 +139,7 @@ impl Network {
     }
 
     /// Takes a tested book in, and grows its tree.
-    pub fn load(&mut self, b: i64, lines: &[i64]) {
+    pub fn load(&mut self, b: i64, t: i64, lines: &[i64]) {
         self.marks = b as usize;
         let mut degree = [0; MAX_MARKS];
         for (i, line) in lines.chunks_exact(LINE).enumerate() {
@@ -140,6 +148,7 @@ impl Network {
             self.to[i] = to as u16;
             self.difference[i] = line[2];
             self.length[i] = line[3] as u32;
+            self.allows[i] = line_allows(t, line);
             degree[from] += line[4] as u16;
             degree[to] += line[4] as u16;
         }
@@ -222,26 +231,25 @@ impl Network {
 
     /// Row i, from 0; each is taken once and in order. Its lines but the closing one are then in
     /// `search.path`.
-    pub fn take(&mut self, i: usize, t: i64) -> [i64; ROW] {
+    pub fn take(&mut self, i: usize) -> [i64; ROW] {
         let closing = self.closing[i];
         let k = closing as usize;
         let (from, to) = (self.from[k], self.to[k]);
         let path_length = self.find_path(from as usize, to as usize);
         let length = (path_length + self.length[k]) as i64;
-        let mut misclosure = self.difference[k];
-        let mut judged = self.length[k].max(MIN_JUDGED);
+        let (mut misclosure, mut allowed) = (self.difference[k], self.allows[k]);
         for &signed in self.search.path() {
             let line = signed.unsigned_abs() as usize - 1;
             let d = self.difference[line];
             misclosure += if signed > 0 { d } else { -d };
-            judged += self.length[line].max(MIN_JUDGED);
+            allowed += self.allows[line];
         }
-        self.judged = judged as i64;
+        self.allowed = allowed;
         let count = self.search.path().len() + 1;
         if count > 2 {
             self.subgraph.join(from, to, closing, self.length[k]);
         }
-        [closing as i64 + 1, count as i64, length, misclosure, verdict(t, self.judged, misclosure)]
+        [closing as i64 + 1, count as i64, length, misclosure, verdict(allowed, misclosure)]
     }
 
     /// The mark at which the ways of two marks to their root meet.

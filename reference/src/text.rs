@@ -37,12 +37,12 @@ pub(crate) fn sketch(sketch: &mut Sketch, file: &[u8]) -> Vec<u8> {
 
 /// The report of a good book.
 fn report_of_book(network: &mut Network, head: &Head, lines: &[i64]) -> String {
-    network.load(head.b, lines);
+    network.load(head.b, head.t, lines);
     let (pieces, rows) = (network.pieces, network.rows);
-    let mut text =
-        format!("LEVEL BOOK 1\nMARKS {} LINES {} PIECES {pieces} LOOPS {rows}\n", head.b, head.n);
+    let mut text = format!("LEVEL BOOK {}\n", head.version.number);
+    text += &format!("MARKS {} LINES {} PIECES {pieces} LOOPS {rows}\n", head.b, head.n);
     for i in 0..rows {
-        let [closing, _, length, misclosure, over] = network.take(i, head.t);
+        let [closing, _, length, misclosure, over] = network.take(i);
         let verdict = if over == 1 { "OVER" } else { "WITHIN" };
         let path = spaced(network.search.path().iter().map(|&signed| signed as i64));
         let number = i + 1;

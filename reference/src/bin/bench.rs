@@ -5,7 +5,8 @@
 //! S is how long each call is timed on each book, 1 unless given. The reference finds paths by
 //! Dijkstra with a heap and an early stop, and its sweeps visit every free mark. Prints the best ns per
 //! call and the ratio archive / reference for each call and book, and for each call the geometric mean of
-//! its ratios and the worst. On three more books the sketch alone is timed.
+//! its ratios and the worst. On three more books the sketch alone is timed, and on three of version 2, with
+//! lines of every class, reader and survey.
 
 use reference::archive::Archive;
 use reference::trial::call::own_report;
@@ -26,11 +27,13 @@ const FEWEST_TURNS: usize = 3;
 /// A call in words.
 type Named = (Kind, &'static str);
 
+const READ: Named = (Kind::Read, "read");
+const SURVEY: Named = (Kind::Survey, "survey");
 const SKETCH: Named = (Kind::Sketch, "sketch");
 
 const CALLS: [Named; 10] = [
-    (Kind::Read, "read"),
-    (Kind::Survey, "survey"),
+    READ,
+    SURVEY,
     (Kind::Listing, "listing"),
     (Kind::Listings, "listings"),
     (Kind::NotChecked, "not-checked"),
@@ -40,6 +43,9 @@ const CALLS: [Named; 10] = [
     (Kind::Adjust, "adjustment"),
     (Kind::Rate, "rate"),
 ];
+
+/// Books that are timed as version 2 too.
+const CLASSED: [&str; 3] = ["random 256/512", "512 parallel lines", "doubled ring"];
 
 /// Lines between the pairs by heights of the marks, with noise by the root of the length; mark 1 held.
 fn surveyed(random: &mut Random, shape: Shape, low: i64, high: i64) -> Book {
@@ -51,9 +57,10 @@ fn surveyed(random: &mut Random, shape: Shape, low: i64, high: i64) -> Book {
         let spread = (3000.0 * (length as f64 / 1000.0).sqrt()) as i64;
         let noise = random.within(-spread, spread) + random.within(-spread, spread);
         let difference = heights[to as usize - 1] - heights[from as usize - 1] + noise;
-        lines.extend([from, to, difference.clamp(-MAX_DIFFERENCE, MAX_DIFFERENCE), length, 1]);
+        let difference = difference.clamp(-MAX_DIFFERENCE, MAX_DIFFERENCE);
+        lines.extend([from, to, difference, length, 1, NO_CLASS]);
     }
-    Book { b: shape.marks, t: 60, held: vec![1, heights[0]], lines }
+    Book { version: 1, b: shape.marks, t: 60, held: vec![1, heights[0]], lines }
 }
 
 fn random_shape(random: &mut Random) -> Shape {
@@ -252,12 +259,12 @@ fn print_races(races: &[Race]) {
 }
 
 /// For each call the geometric mean of its ratios, and the worst with its book.
-fn print_means(books: &[(&str, Vec<Race>)]) {
+fn print_means(books: &[(String, Vec<Race>)]) {
     println!("{:12} mean of ratios   worst", "");
     for (kind, name) in CALLS {
         let of_kind = |races: &[Race]| races.iter().find(|race| race.kind == kind).map(Race::ratio);
         let ratios: Vec<(f64, &str)> =
-            books.iter().filter_map(|(book, races)| Some((of_kind(races)?, *book))).collect();
+            books.iter().filter_map(|(book, races)| Some((of_kind(races)?, &book[..]))).collect();
         let logs: f64 = ratios.iter().map(|(ratio, _)| ratio.ln()).sum();
         let mean = (logs / ratios.len() as f64).exp();
         if let Some((worst, book)) = ratios.iter().max_by(|x, y| x.0.total_cmp(&y.0)) {
@@ -266,15 +273,20 @@ fn print_means(books: &[(&str, Vec<Race>)]) {
     }
 }
 
-/// Every call on the books for all, and the sketch on those for it alone.
-fn every_race() -> Vec<(&'static str, Vec<Race>)> {
+/// Every call on the books for all, and some calls on those for them alone.
+fn every_race() -> Vec<(String, Vec<Race>)> {
     let random = &mut Random::new(1);
     let mut races = vec![];
     for (name, book) in books(random) {
-        races.push((name, races_of(book, &CALLS)));
+        let class = |line: usize| (line % TOLERANCES.len()) as i64;
+        let version_2 = CLASSED.contains(&name).then(|| book.clone().classed(class));
+        races.push((name.to_string(), races_of(book, &CALLS)));
+        if let Some(book) = version_2 {
+            races.push((format!("{name}, version 2"), races_of(book, &[READ, SURVEY])));
+        }
     }
     for (name, book) in sketched_books(random) {
-        races.push((name, races_of(book, &[SKETCH])));
+        races.push((name.to_string(), races_of(book, &[SKETCH])));
     }
     races
 }

@@ -15,7 +15,7 @@ use reference::bridge::Bridge;
 use reference::trial::asks::{every_ask, new_difference, room};
 use reference::trial::call::{lay_out, make, own_report, CALLS, KINDS, PROGRAMS};
 use reference::trial::call::{Ask, Buffer, Call, Given, Kept, Outcome, Program};
-use reference::trial::damage::{damage_book, damage_file, long_file};
+use reference::trial::damage;
 use reference::trial::random::Random;
 use reference::trial::shapes::good_book;
 use reference::trial::shrink::shrink;
@@ -105,7 +105,8 @@ fn main() -> ExitCode {
     test.print_counts();
     match result {
         Ok(()) => {
-            println!("{} calls compared, no difference", test.compared());
+            let (all, version_2) = (test.compared(), test.version_2);
+            println!("{all} calls compared, {version_2} of version 2, no difference");
             ExitCode::SUCCESS
         }
         Err(call) => {
@@ -142,15 +143,16 @@ struct Test {
     archive: Box<dyn Level>,
     reference: Reference,
     options: Options,
-    /// How many calls of each kind were answered with each number.
+    /// How many calls of each kind were answered with each number, and how many in all were of version 2.
     counts: [[usize; NUMBERS]; KINDS.len()],
+    version_2: usize,
 }
 
 impl Test {
     fn new(archive: Box<dyn Level>, options: Options) -> Self {
         let random = Random::new(options.seed);
         let counts = [[0; NUMBERS]; KINDS.len()];
-        Test { random, archive, reference: Reference::new(), options, counts }
+        Test { random, archive, reference: Reference::new(), options, counts, version_2: 0 }
     }
 
     fn compared(&self) -> usize {
@@ -161,13 +163,8 @@ impl Test {
     fn run(&mut self) -> Result<(), Different> {
         while self.compared() < self.options.calls {
             match self.random.below(8) {
-                0..=2 => {
-                    let book = good_book(&mut self.random);
-                    self.every_call(book)?;
-                }
-                3 | 4 => {
-                    let mut book = good_book(&mut self.random);
-                    damage_book(&mut self.random, &mut book);
+                0..=4 => {
+                    let book = damage::any_book(&mut self.random);
                     self.every_call(book)?;
                 }
                 5 | 6 => self.files()?,
@@ -186,21 +183,8 @@ impl Test {
 
     /// Files of good and damaged books, whole and damaged.
     fn files(&mut self) -> Result<(), Different> {
-        let mut kinds = [0, 1, 2, 3, 4, 5];
-        self.random.shuffle(&mut kinds);
-        for kind in kinds {
-            let random = &mut self.random;
-            let mut book = good_book(random);
-            if kind == 1 {
-                damage_book(random, &mut book);
-            }
-            let mut file = book.file();
-            match kind {
-                2..=4 => damage_file(random, &mut file),
-                5 => file = long_file(random, file),
-                _ => {}
-            }
-            let (held_room, lines_room) = (room(random), room(random));
+        for file in damage::files(&mut self.random) {
+            let (held_room, lines_room) = (room(&mut self.random), room(&mut self.random));
             for program in PROGRAMS {
                 if self.is_due(program) {
                     self.compare(Call::Text { program, file: file.clone() })?;
@@ -262,6 +246,7 @@ impl Test {
         }
         let number = both.reference.given.number() as usize;
         self.counts[call.kind()][number] += 1;
+        self.version_2 += (call.version() == 2) as usize;
         Ok(both.reference)
     }
 

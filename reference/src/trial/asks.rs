@@ -100,10 +100,17 @@ fn lent_heights(random: &mut Random, reference: &mut Reference, book: &Book) -> 
     heights
 }
 
-/// Every call on a book, the listing of any loop and of the last.
+/// Every call on a book, the listing of any loop and of the last. Where there is no such version, the new
+/// difference and the heights are often wrong too: 3 comes before 4.
 pub fn every_ask(random: &mut Random, reference: &mut Reference, book: &Book) -> Vec<Ask> {
     let rows = (own_report(reference, book).len() / ROW) as i64;
     let line = line_number(random, book);
+    let mut difference = new_difference(random);
+    let mut heights = lent_heights(random, reference, book);
+    if Version::of(book.version).is_none() && random.once_in(2) {
+        difference = MAX_DIFFERENCE + 1;
+        heights.push(0);
+    }
     vec![
         Ask::Survey { room: room(random) },
         Ask::Listing { number: loop_number(random, rows), room: room(random) },
@@ -111,13 +118,9 @@ pub fn every_ask(random: &mut Random, reference: &mut Reference, book: &Book) ->
         Ask::Listings { room: room(random) },
         Ask::NotChecked { room: room(random) },
         Ask::Sketch { rooms: rooms(random) },
-        Ask::Rerun {
-            kept: kept(random, reference, book),
-            line,
-            difference: new_difference(random),
-        },
+        Ask::Rerun { kept: kept(random, reference, book), line, difference },
         Ask::Withdraw { kept: kept(random, reference, book), line: line_number(random, book) },
         Ask::Adjust { room: room(random) },
-        Ask::Rate { heights: lent_heights(random, reference, book), line },
+        Ask::Rate { heights, line },
     ]
 }

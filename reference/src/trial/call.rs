@@ -77,6 +77,16 @@ impl Program {
 }
 
 impl Call {
+    /// The version that the book is said to have, or that the file states; of a file that states none 0.
+    pub fn version(&self) -> i64 {
+        match self {
+            Call::Ask { book, .. } => book.version,
+            Call::Read { file, .. } | Call::Text { file, .. } => {
+                file.get(4).map_or(0, |&version| version as i64)
+            }
+        }
+    }
+
     /// The place of the call's name in `KINDS`.
     pub fn kind(&self) -> usize {
         match self {
@@ -280,8 +290,9 @@ pub fn make(level: &mut dyn Level, call: &Call, lent: &[Buffer]) -> Outcome {
         (Call::Read { file, .. }, [held, lines]) => {
             Given::Read(level.read(file, held.lent_mut(), lines.lent_mut()))
         }
-        (Call::Ask { book: Book { b, t, .. }, ask }, [held, lines, more @ ..]) => {
-            let book = Lent { b: *b, t: *t, held: held.lent(), lines: lines.lent_mut() };
+        (Call::Ask { book, ask }, [held, lines, more @ ..]) => {
+            let Book { version, b, t, .. } = *book;
+            let book = Lent { version, b, t, held: held.lent(), lines: lines.lent_mut() };
             let mut more: Vec<&mut [i64]> = more.iter_mut().map(Buffer::lent_mut).collect();
             make_ask(level, ask, book, &mut more)
         }

@@ -10,11 +10,12 @@ pub mod shapes;
 pub mod shrink;
 pub mod words;
 
-use crate::{Lent, LentMut, HELD, LINE};
+use crate::{Lent, LentMut, Version, HEAD_BYTES, HELD, HELD_BYTES, LINE};
 
 /// A book in memory, good or not.
 #[derive(Clone, Debug, PartialEq, Eq)]
 pub struct Book {
+    pub version: i64,
     pub b: i64,
     pub t: i64,
     pub held: Vec<i64>,
@@ -33,20 +34,46 @@ impl Book {
     }
 
     /// A copy of a lent book.
-    pub fn of(Lent { b, t, held, lines }: Lent) -> Self {
-        Book { b, t, held: held.to_vec(), lines: lines.to_vec() }
+    pub fn of(Lent { version, b, t, held, lines }: Lent) -> Self {
+        Book { version, b, t, held: held.to_vec(), lines: lines.to_vec() }
     }
 
     pub fn lent(&self) -> Lent<'_> {
-        Lent { b: self.b, t: self.t, held: &self.held, lines: &self.lines }
+        let Book { version, b, t, ref held, ref lines } = *self;
+        Lent { version, b, t, held, lines }
     }
 
     pub fn lent_mut(&mut self) -> LentMut<'_> {
-        Lent { b: self.b, t: self.t, held: &self.held, lines: &mut self.lines }
+        let Book { version, b, t, ref held, ref mut lines } = *self;
+        Lent { version, b, t, held, lines }
+    }
+
+    /// The same network in version 2, each line by its place from 0 with a class.
+    pub fn classed(mut self, mut class: impl FnMut(usize) -> i64) -> Self {
+        (self.version, self.t) = (2, 0);
+        for (i, line) in self.lines.chunks_exact_mut(LINE).enumerate() {
+            line[5] = class(i);
+        }
+        self
+    }
+
+    /// What its version decides; version 1 where there is no such.
+    pub fn limits(&self) -> &'static Version {
+        Version::of(self.version).unwrap_or(&Version::ONE)
     }
 
     /// The book's file.
     pub fn file(&self) -> Vec<u8> {
         crate::write(self.lent())
     }
+}
+
+/// The held entries and lines that a file's head tells of, if they are all there, and its version; version 1 where
+/// there is no such.
+fn file_counts(file: &[u8]) -> Option<(usize, usize, &'static Version)> {
+    let two = |at: usize| Some(u16::from_be_bytes([*file.get(at)?, *file.get(at + 1)?]) as usize);
+    let (held, lines) = (two(9)?, two(11)?);
+    let version = Version::of(file[4] as i64).unwrap_or(&Version::ONE);
+    let size = HEAD_BYTES + HELD_BYTES * held + version.line_bytes * lines;
+    (size <= file.len()).then_some((held, lines, version))
 }

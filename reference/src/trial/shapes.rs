@@ -290,7 +290,28 @@ fn one_of_each_piece(random: &mut Random, roots: &[i64]) -> Vec<i64> {
     marks
 }
 
-/// A shape made a good book: lengths, differences, standing, tolerance and held entries.
+/// The book in version 2, its lines with classes by one of several habits.
+fn classed(random: &mut Random, book: Book) -> Book {
+    let any = |random: &mut Random| random.below(TOLERANCES.len()) as i64;
+    let (one, other) = (any(random), any(random));
+    let habit = random.below(4);
+    book.classed(|_| match habit {
+        0 => one,
+        1 => random.pick(&[one, other]),
+        _ => any(random),
+    })
+}
+
+/// The book, in half of the cases in version 2.
+fn of_either_version(random: &mut Random, book: Book) -> Book {
+    if random.once_in(2) {
+        classed(random, book)
+    } else {
+        book
+    }
+}
+
+/// A shape made a good book: lengths, differences, standing, tolerances and held entries.
 fn finished(random: &mut Random, shape: Shape) -> Book {
     let shape = shape.limited();
     let heights = true_heights(random, shape.marks);
@@ -302,7 +323,7 @@ fn finished(random: &mut Random, shape: Shape) -> Book {
         let rise = heights[to as usize - 1] - heights[from as usize - 1];
         let difference = difference(random, habit, rise);
         let standing = withdrawn_once_in == 0 || !random.once_in(withdrawn_once_in);
-        lines.extend([from, to, difference, length, standing as i64]);
+        lines.extend([from, to, difference, length, standing as i64, NO_CLASS]);
     }
     let extreme = random.once_in(6);
     let mut held = vec![];
@@ -316,44 +337,53 @@ fn finished(random: &mut Random, shape: Shape) -> Book {
     }
     let any = random.within(1, MAX_TOLERANCE);
     let t = random.pick(&[1, 2, 40, 120, MAX_TOLERANCE, any]);
-    Book { b: shape.marks, t, held, lines }
+    of_either_version(random, Book { version: 1, b: shape.marks, t, held, lines })
 }
 
-/// Lengths of a ring whose verdict's length is 10 times a square, and the square's root: a square number of short
-/// lines, or a few of them and a line that completes the square.
-fn square_lengths(random: &mut Random) -> (Vec<i64>, i64) {
-    const JUDGED: i64 = MIN_JUDGED as i64;
-    let short = |random: &mut Random| random.pick(&[MIN_LENGTH, 40, JUDGED - 1, JUDGED]);
+/// Lengths of a ring that is judged by 10 times a square: a square number of short lines, or a few of them and a
+/// line that completes the square. Where all have one tolerance, the allowable is then a whole number.
+fn square_lengths(random: &mut Random) -> Vec<i64> {
+    let short = |random: &mut Random| random.pick(&[MIN_LENGTH, 40, MIN_JUDGED - 1, MIN_JUDGED]);
     if random.below(2) == 0 {
         let side = random.pick(&[2, 2, 3, 4, 5, 15]);
-        return ((0..side * side).map(|_| short(random)).collect(), 5 * side);
+        return (0..side * side).map(|_| short(random)).collect();
     }
     let (others, root) = (random.within(1, 5), random.within(13, 100));
-    let mut lengths = vec![10 * root * root - others * JUDGED];
+    let mut lengths = vec![10 * root * root - others * MIN_JUDGED];
     lengths.extend((0..others).map(|_| short(random)));
-    (lengths, root)
+    lengths
 }
 
 /// One ring whose misclosure is at the edge of the allowable, or one micrometre off it.
 pub fn edge_book(random: &mut Random) -> Book {
-    let (lengths, root) = square_lengths(random);
+    let lengths = square_lengths(random);
     let marks = lengths.len() as i64;
     let t = random.pick(&[1, 40, 120, 999, MAX_TOLERANCE]);
-    let misclosure = 10 * t * root * random.pick(&[-1, 1]) + random.within(-1, 1);
-    let mut lines = vec![];
-    for (i, (&(from, to), &length)) in Shape::ring(marks).pairs.iter().zip(&lengths).enumerate() {
-        lines.extend([from, to, if i == 0 { misclosure } else { 0 }, length, 1]);
-    }
-    Book { b: marks, t, held: vec![1, 0], lines }
+    let pairs = Shape::ring(marks).pairs.into_iter().zip(lengths);
+    let lines = pairs.flat_map(|((from, to), length)| [from, to, 0, length, 1, NO_CLASS]).collect();
+    let book = Book { version: 1, b: marks, t, held: vec![1, 0], lines };
+    let mut book = of_either_version(random, book);
+    let allowed: i64 = book.lines.chunks_exact(LINE).map(|line| line_allows(book.t, line)).sum();
+    book.lines[2] = (10 * allowed).isqrt() * random.pick(&[-1, 1]) + random.within(-1, 1);
+    book
+}
+
+/// A book whose file is as long as one can be, 9,741 bytes: version 2, 512 lines and every mark held.
+pub fn largest_book(random: &mut Random) -> Book {
+    let shape = Shape::tree(random, 256).with_lines(random, 257).mixed(random);
+    let mut book = finished(random, shape);
+    book.held = (1..=book.b).flat_map(|mark| [mark, random.within(-1000, 1000)]).collect();
+    classed(random, book)
 }
 
 /// The book whose loops have the most lines in all: 256 marks in a chain of short lines, and 257 long lines from
 /// its last mark to its first, each of which closes a loop by the whole chain.
 pub fn longest_listings() -> Book {
     let marks = MAX_MARKS as i64;
-    let chain = (1..marks).flat_map(|m| [m, m + 1, 0, MIN_LENGTH, 1]);
-    let closing = (0..MAX_LINES as i64 - marks + 1).flat_map(|_| [marks, 1, 0, MAX_LENGTH, 1]);
-    Book { b: marks, t: 60, held: vec![1, 0], lines: chain.chain(closing).collect() }
+    let chain = (1..marks).flat_map(|m| [m, m + 1, 0, MIN_LENGTH, 1, NO_CLASS]);
+    let closing = [marks, 1, 0, MAX_LENGTH, 1, NO_CLASS].repeat(MAX_LINES + 1 - MAX_MARKS);
+    let lines = chain.chain(closing).collect();
+    Book { version: 1, b: marks, t: 60, held: vec![1, 0], lines }
 }
 
 /// A good book of any shape; a full one now and then.
@@ -364,7 +394,8 @@ pub fn good_book(random: &mut Random) -> Book {
             finished(random, shape)
         }
         1 => edge_book(random),
-        2 if random.once_in(10) => longest_listings(),
+        2 if random.once_in(10) => of_either_version(random, longest_listings()),
+        3 if random.once_in(2) => largest_book(random),
         _ => {
             let shape = any_shape(random);
             finished(random, shape)

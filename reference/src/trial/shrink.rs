@@ -2,7 +2,7 @@
 //! and making numbers plain.
 
 use super::call::{Ask, Call, Kept, Room};
-use super::Book;
+use super::{file_counts, Book};
 use crate::*;
 use std::ops::Range;
 use std::slice::from_mut;
@@ -19,9 +19,12 @@ enum Step {
     DropHeld(Range<usize>),
     Withdraw(usize),
     DropMark(i64),
-    /// A number of a line made plain: its place among the five, and the plain number.
+    /// A number of a line made plain: its place among the six, and the plain number.
     Plain(usize, usize, i64),
+    /// The lowest class that there is in the book's version.
+    PlainClass(usize),
     PlainTolerance,
+    PlainVersion,
     PlainReport,
     /// The room of an output, by its place among them.
     PlainRoom(usize),
@@ -51,7 +54,7 @@ pub fn shrink(call: Call, mut differs: impl FnMut(&Call) -> bool) -> Call {
 /// Every step that may be tried, the largest first and, so that places stay good, from the end.
 fn steps(call: &Call) -> Vec<Step> {
     let (marks, held, lines) = sizes(call);
-    let mut steps = vec![Step::PlainReport];
+    let mut steps = vec![Step::PlainReport, Step::PlainVersion];
     steps.extend((0..MOST_OUTPUTS).map(Step::PlainRoom));
     for range in ranges(lines) {
         steps.extend([Step::DropLines(range.clone()), Step::DropLoops(range)]);
@@ -61,6 +64,7 @@ fn steps(call: &Call) -> Vec<Step> {
     steps.extend((1..=marks).rev().map(Step::DropMark));
     for i in 0..lines {
         steps.extend([Step::Plain(i, 2, 0), Step::Plain(i, 3, 1000), Step::Plain(i, 3, 10)]);
+        steps.push(Step::PlainClass(i));
     }
     steps.extend((0..marks as usize).map(Step::PlainHeight));
     steps.push(Step::PlainTolerance);
@@ -91,17 +95,10 @@ fn sizes(call: &Call) -> (i64, usize, usize) {
             (marks, book.held_count(), book.lines_count())
         }
         Call::Read { file, .. } | Call::Text { file, .. } => match file_counts(file) {
-            Some((held, lines)) => (0, held, lines),
+            Some((held, lines, _)) => (0, held, lines),
             None => (0, 0, 0),
         },
     }
-}
-
-/// The held entries and lines that a file's head tells of, if they are all there.
-fn file_counts(file: &[u8]) -> Option<(usize, usize)> {
-    let two = |at: usize| Some(u16::from_be_bytes([*file.get(at)?, *file.get(at + 1)?]) as usize);
-    let (held, lines) = (two(9)?, two(11)?);
-    (HEAD_BYTES + HELD_BYTES * held + LINE_BYTES * lines <= file.len()).then_some((held, lines))
 }
 
 fn apply(call: &Call, step: &Step) -> Option<Call> {
@@ -122,6 +119,7 @@ fn apply(call: &Call, step: &Step) -> Option<Call> {
 }
 
 fn apply_to_book(book: &mut Book, ask: &mut Ask, step: &Step) -> Option<()> {
+    let Version { t: tolerances, class: classes, .. } = book.limits();
     match step {
         Step::DropLines(range) => {
             if range.end > book.lines_count() {
@@ -151,7 +149,9 @@ fn apply_to_book(book: &mut Book, ask: &mut Ask, step: &Step) -> Option<()> {
             }
             change(number, *plain)?;
         }
-        Step::PlainTolerance => change(&mut book.t, 1)?,
+        Step::PlainClass(i) => change(book.lines.get_mut(LINE * i + 5)?, *classes.start())?,
+        Step::PlainTolerance => change(&mut book.t, *tolerances.start())?,
+        Step::PlainVersion => plain_version(book)?,
         Step::PlainReport => match ask {
             Ask::Rerun { kept, .. } | Ask::Withdraw { kept, .. } => plain_report(kept)?,
             _ => return None,
@@ -162,6 +162,14 @@ fn apply_to_book(book: &mut Book, ask: &mut Ask, step: &Step) -> Option<()> {
             _ => return None,
         },
     }
+    Some(())
+}
+
+/// Version 1, with a tolerance for the whole book in the place of the classes.
+fn plain_version(book: &mut Book) -> Option<()> {
+    change(&mut book.version, 1)?;
+    book.t = book.t.max(1);
+    book.lines.chunks_exact_mut(LINE).for_each(|line| line[5] = NO_CLASS);
     Some(())
 }
 
@@ -236,10 +244,10 @@ fn drop_mark(book: &mut Book, ask: &mut Ask, mark: i64) -> Option<()> {
 }
 
 fn apply_to_file(file: &[u8], step: &Step) -> Option<Vec<u8>> {
-    let (held, lines) = file_counts(file)?;
+    let (held, lines, version) = file_counts(file)?;
     let first_line = HEAD_BYTES + HELD_BYTES * held;
     let (range, first, size, count_at, count) = match step {
-        Step::DropLines(range) => (range, first_line, LINE_BYTES, 11, lines),
+        Step::DropLines(range) => (range, first_line, version.line_bytes, 11, lines),
         Step::DropHeld(range) => (range, HEAD_BYTES, HELD_BYTES, 9, held),
         _ => return None,
     };

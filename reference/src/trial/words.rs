@@ -28,7 +28,7 @@ fn report_words(kept: &Kept) -> String {
 }
 
 pub fn print_book(book: &Book) {
-    println!("  b {} t {}", book.b, book.t);
+    println!("  version {} b {} t {}", book.version, book.b, book.t);
     for entry in book.held.chunks(HELD) {
         println!("  held {entry:?}");
     }

@@ -272,7 +272,7 @@ impl Level for Faulty {
                 }
             }
             "rerun-writes-when-refused" if right.number == 9 => {
-                book.lines[LINE * line as usize - 3] = difference;
+                book.lines[LINE * (line as usize - 1) + 2] = difference;
             }
             _ => {}
         }
@@ -324,7 +324,7 @@ impl Level for Faulty {
         match fault() {
             "rate-by-32-bits" if right.number == 0 => right.rate = right.rate as f32 as f64,
             "rate-withdrawn-before-heights"
-                if right.number == 13 && book.lines[LINE * line as usize - 1] == 0 =>
+                if right.number == 13 && book.lines[LINE * (line as usize - 1) + 4] == 0 =>
             {
                 right = Rated { line, withdrawn: 1, ..Rated::default() };
             }
