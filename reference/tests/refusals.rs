@@ -1,6 +1,7 @@
 //! The refusal table of document 01: each number, its place, and which one is given where several apply.
 
 use reference::trial::call::own_report;
+use reference::trial::damage::NO_VERSIONS;
 use reference::trial::random::Random;
 use reference::trial::shapes::{self, edge_book, Shape};
 use reference::trial::Book;
@@ -10,12 +11,17 @@ use reference::*;
 fn ring() -> Book {
     #[rustfmt::skip]
     let lines = vec![
-        1, 2,  1000, 100, 1,
-        2, 3, -2000, 100, 1,
-        3, 1,  1500, 100, 1,
-        1, 3,     0, 100, 0,
+        1, 2,  1000, 100, 1, -1,
+        2, 3, -2000, 100, 1, -1,
+        3, 1,  1500, 100, 1, -1,
+        1, 3,     0, 100, 0, -1,
     ];
-    Book { b: 3, t: 10, held: vec![2, 50_000], lines }
+    Book { version: 1, b: 3, t: 10, held: vec![2, 50_000], lines }
+}
+
+/// The same in version 2, the lines of classes 1 to 4.
+fn classed_ring() -> Book {
+    ring().classed(|i| i as i64 + 1)
 }
 
 fn survey(book: &Book) -> (i64, i64) {
@@ -28,36 +34,53 @@ fn survey(book: &Book) -> (i64, i64) {
     (answer.number, answer.place)
 }
 
-/// The refusal after a change of the ring.
-fn changed(change: impl FnOnce(&mut Book)) -> (i64, i64) {
-    let mut book = ring();
+/// The refusal after a change of a book.
+fn refused(mut book: Book, change: impl FnOnce(&mut Book)) -> (i64, i64) {
     change(&mut book);
     survey(&book)
 }
 
+/// The refusal after a change of the ring.
+fn changed(change: impl FnOnce(&mut Book)) -> (i64, i64) {
+    refused(ring(), change)
+}
+
+/// The refusal after a change of the ring in version 2.
+fn changed_classed(change: impl FnOnce(&mut Book)) -> (i64, i64) {
+    refused(classed_ring(), change)
+}
+
 fn read(file: &[u8]) -> (i64, i64) {
-    let (mut held, mut lines) = ([9; 2], [9; 20]);
+    let (mut held, mut lines) = ([9; 2], [9; 24]);
     let answer = Reference::new().read(file, &mut held, &mut lines);
     if answer.number != 0 {
-        assert_eq!([answer.b, answer.t, answer.h, answer.n], [0; 4]);
-        assert_eq!((held, lines), ([9; 2], [9; 20]));
+        let ReadAnswer { number, place, .. } = answer;
+        assert_eq!(answer, ReadAnswer { number, place, ..ReadAnswer::default() });
+        assert_eq!((held, lines), ([9; 2], [9; 24]));
     }
     (answer.number, answer.place)
 }
 
-/// The refusal after changes of bytes of the ring's file.
-fn changed_file(changes: &[(usize, u8)]) -> (i64, i64) {
-    let mut file = ring().file();
+/// The refusal after changes of bytes of a book's file.
+fn refused_file(book: Book, changes: &[(usize, u8)]) -> (i64, i64) {
+    let mut file = book.file();
     for &(at, byte) in changes {
         file[at] = byte;
     }
     read(&file)
 }
 
+/// The refusal after changes of bytes of the ring's file.
+fn changed_file(changes: &[(usize, u8)]) -> (i64, i64) {
+    refused_file(ring(), changes)
+}
+
 #[test]
 fn a_good_ring() {
-    assert_eq!(survey(&ring()), (0, 0));
-    assert_eq!(read(&ring().file()), (0, 0));
+    for book in [ring(), classed_ring()] {
+        assert_eq!(survey(&book), (0, 0));
+        assert_eq!(read(&book.file()), (0, 0));
+    }
 }
 
 #[test]
@@ -68,9 +91,11 @@ fn files() {
     assert_eq!(read(&file[..12]), (1, 0));
     assert_eq!(read(&file[..13]), (2, 0));
     assert_eq!(changed_file(&[(0, 1)]), (2, 0));
-    assert_eq!(changed_file(&[(4, 2)]), (3, 0));
-    assert_eq!(changed_file(&[(4, 2), (3, 70)]), (2, 0));
-    assert_eq!(changed_file(&[(4, 0), (6, 0)]), (3, 0));
+    for version in [0, 3, 129, 255] {
+        assert_eq!(changed_file(&[(4, version)]), (3, 0));
+        assert_eq!(changed_file(&[(4, version), (3, 70)]), (2, 0));
+        assert_eq!(changed_file(&[(4, version), (6, 0)]), (3, 0));
+    }
     assert_eq!(changed_file(&[(6, 0)]), (4, 0), "t = 0");
     assert_eq!(changed_file(&[(8, 0)]), (4, 0), "b = 0");
     assert_eq!(changed_file(&[(7, 1), (8, 1)]), (4, 0), "b = 257");
@@ -88,9 +113,51 @@ fn files() {
 }
 
 #[test]
+fn files_of_version_2() {
+    let changed_file = |changes: &[(usize, u8)]| refused_file(classed_ring(), changes);
+    assert_eq!(classed_ring().file().len(), 13 + 10 + 4 * 14);
+    assert_eq!(changed_file(&[(4, 3)]), (3, 0));
+    assert_eq!(changed_file(&[(6, 1)]), (4, 0), "t = 1");
+    assert_eq!(changed_file(&[(5, 1)]), (4, 0), "t = 256");
+    assert_eq!(changed_file(&[(6, 1), (10, 2)]), (4, 0), "before 5");
+    assert_eq!(changed_file(&[(12, 3)]), (5, 0));
+    assert_eq!(changed_file(&[(14, 4), (35, 5)]), (6, 1), "before 7");
+    // The 13th byte of a line is its class, the 14th its standing.
+    for byte in [5, 6, 128, 254, 255] {
+        assert_eq!(changed_file(&[(35, byte)]), (7, 1));
+        assert_eq!(changed_file(&[(77, byte)]), (7, 4), "withdrawn");
+    }
+    for byte in [2, 3, 128, 255] {
+        assert_eq!(changed_file(&[(36, byte)]), (7, 1));
+        assert_eq!(changed_file(&[(50, byte), (63, 5)]), (7, 2), "the first of two");
+    }
+    assert_eq!(changed_file(&[(35, 0), (36, 0), (49, 4), (78, 1)]), (0, 0));
+}
+
+/// A file's lines have 12 or 14 bytes; only without lines does one version look like the other.
+#[test]
+fn files_of_the_other_version() {
+    let (one, two) = ([(4, 1), (6, 10)], [(4, 2), (6, 0)]);
+    assert_eq!(refused_file(ring(), &two), (5, 0));
+    assert_eq!(refused_file(ring(), &two[..1]), (4, 0), "t is not 0");
+    assert_eq!(refused_file(classed_ring(), &one), (5, 0));
+    assert_eq!(refused_file(classed_ring(), &one[..1]), (4, 0), "t is 0");
+    let without_lines = |mut book: Book| {
+        book.lines.clear();
+        book
+    };
+    assert_eq!(refused_file(without_lines(ring()), &two), (0, 0));
+    assert_eq!(refused_file(without_lines(classed_ring()), &one), (0, 0));
+    // Seven lines of 12 bytes are as long as six of 14.
+    let mut seven = ring();
+    seven.lines = [1, 2, 0, 1000, 1, -1].repeat(7);
+    assert_eq!(refused_file(seven, &[(4, 2), (6, 0), (12, 6)]), (7, 2));
+}
+
+#[test]
 fn files_into_short_buffers() {
     let file = ring().file();
-    for (held, lines) in [(2, 19), (1, 20), (0, 0)] {
+    for (held, lines) in [(2, 23), (1, 24), (0, 0)] {
         let (mut held, mut lines) = (vec![9; held], vec![9; lines]);
         let answer = Reference::new().read(&file, &mut held, &mut lines);
         assert_eq!(answer, ReadAnswer { number: 10, ..ReadAnswer::default() });
@@ -110,11 +177,18 @@ fn limits_of_the_book() {
         assert_eq!(changed(|book| book.t = t), (4, 0));
     }
     assert_eq!(changed(|book| book.t = 1000), (0, 0));
-    assert_eq!(changed(|book| book.lines.truncate(19)), (4, 0));
+    for t in [1, 120, -1, 1000, i64::MIN, i64::MAX] {
+        assert_eq!(changed_classed(|book| book.t = t), (4, 0));
+    }
+    assert_eq!(changed(|book| book.lines.truncate(23)), (4, 0));
     assert_eq!(changed(|book| book.lines.push(1)), (4, 0));
     assert_eq!(changed(|book| book.held.push(1)), (4, 0));
-    assert_eq!(changed(|book| book.lines = [1, 2, 0, 10, 0].repeat(513)), (4, 0));
-    assert_eq!(changed(|book| book.lines = [1, 2, 0, 10, 0].repeat(512)), (0, 0));
+    assert_eq!(changed(|book| book.lines = [1, 2, 0, 10, 0, -1].repeat(513)), (4, 0));
+    assert_eq!(changed(|book| book.lines = [1, 2, 0, 10, 0, -1].repeat(512)), (0, 0));
+    assert_eq!(changed_classed(|book| book.lines = [1, 2, 0, 10, 0, 4].repeat(512)), (0, 0));
+    for book in [ring(), classed_ring()] {
+        assert_eq!(refused(book, |book| book.lines.clear()), (0, 0), "no lines");
+    }
     assert_eq!(changed(|book| book.held = [1, 0].repeat(257)), (4, 0));
     assert_eq!(changed(|book| book.held = [1, 0].repeat(256)), (6, 2));
 }
@@ -144,21 +218,90 @@ fn lines() {
     ];
     for (place, numbers) in wrong {
         for number in numbers {
-            assert_eq!(changed(|book| book.lines[5 + place] = number), (7, 2));
-            assert_eq!(changed(|book| book.lines[15 + place] = number), (7, 4), "withdrawn");
+            for book in [ring(), classed_ring()] {
+                let put = |i| refused(book.clone(), |book| book.lines[LINE * i + place] = number);
+                assert_eq!(put(1), (7, 2));
+                assert_eq!(put(3), (7, 4), "withdrawn");
+            }
         }
     }
-    assert_eq!(changed(|book| book.lines[5] = 3), (7, 2), "ends equal");
-    assert_eq!(changed(|book| book.lines[7] = -100_000_000), (0, 0));
-    assert_eq!(changed(|book| book.lines[8] = 10), (0, 0));
-    assert_eq!(changed(|book| book.lines[8] = 100_000), (0, 0));
+    assert_eq!(changed(|book| book.lines[6] = 3), (7, 2), "ends equal");
+    assert_eq!(changed(|book| book.lines[8] = -100_000_000), (0, 0));
+    assert_eq!(changed(|book| book.lines[9] = 10), (0, 0));
+    assert_eq!(changed(|book| book.lines[9] = 100_000), (0, 0));
+}
+
+#[test]
+fn classes() {
+    for class in [0, 1, 4, -2, i64::MIN, i64::MAX] {
+        assert_eq!(changed(|book| book.lines[11] = class), (7, 2), "version 1");
+        assert_eq!(changed(|book| book.lines[23] = class), (7, 4), "withdrawn");
+    }
+    for class in [-1, 5, 255, i64::MIN, i64::MAX] {
+        assert_eq!(changed_classed(|book| book.lines[11] = class), (7, 2), "version 2");
+        assert_eq!(changed_classed(|book| book.lines[23] = class), (7, 4), "withdrawn");
+    }
+    for class in 0..5 {
+        assert_eq!(changed_classed(|book| book.lines[11] = class), (0, 0));
+    }
+    assert_eq!(changed(|book| (book.version, book.t) = (2, 0)), (7, 1), "no classes");
+    assert_eq!(changed_classed(|book| (book.version, book.t) = (1, 120)), (7, 1));
 }
 
 #[test]
 fn the_lowest_number() {
+    assert_eq!(changed(|book| (book.version, book.t) = (3, 0)), (3, 0));
     assert_eq!(changed(|book| (book.t, book.held[0], book.lines[0]) = (0, 0, 0)), (4, 0));
     assert_eq!(changed(|book| (book.held[0], book.lines[0]) = (0, 0)), (6, 1));
-    assert_eq!(changed(|book| (book.lines[18], book.lines[9]) = (0, 2)), (7, 2));
+    assert_eq!(changed(|book| (book.lines[21], book.lines[10]) = (0, 2)), (7, 2));
+    assert_eq!(changed_classed(|book| (book.t, book.lines[5]) = (1, 5)), (4, 0));
+    assert_eq!(changed_classed(|book| (book.held[0], book.lines[5]) = (0, 5)), (6, 1));
+    assert_eq!(changed_classed(|book| (book.lines[17], book.lines[11]) = (5, 5)), (7, 2));
+}
+
+/// What every call but the reader answers to a lent book with nothing else good: the number and the place.
+fn every_call(book: &Book) -> [(i64, i64); 9] {
+    let mut reference = Reference::new();
+    let (lent, none) = (book.lent(), &mut []);
+    let survey = reference.survey(lent, none);
+    let listing = reference.listing(lent, 0, none);
+    let listings = reference.listings(lent, none);
+    let not_checked = reference.not_checked(lent, none);
+    let sketch = reference.sketch(lent, &mut [], &mut [], &mut [], none);
+    let adjust = reference.adjust(lent, none);
+    let rate = reference.rate(lent, &[0; MAX_MARKS + 1], 0);
+    let mut corrected = book.clone();
+    let rerun = reference.rerun(corrected.lent_mut(), none, 0, MAX_DIFFERENCE + 1);
+    let withdraw = reference.withdraw(corrected.lent_mut(), none, 0);
+    assert_eq!(&corrected, book);
+    [
+        (survey.number, survey.place),
+        (listing.number, listing.place),
+        (listings.number, listings.place),
+        (not_checked.number, not_checked.place),
+        (sketch.number, sketch.place),
+        (adjust.number, adjust.place),
+        (rate.number, rate.place),
+        (rerun.number, rerun.place),
+        (withdraw.number, withdraw.place),
+    ]
+}
+
+/// 3 comes before all else that is wrong, in every call that is told the version.
+#[test]
+fn versions() {
+    for version in NO_VERSIONS {
+        for book in [ring(), classed_ring()] {
+            let book = Book { version, ..book };
+            assert_eq!(every_call(&book), [(3, 0); 9]);
+            let (held, lines) = (vec![0; 3], vec![9; 7]);
+            let wrong = Book { b: 0, t: -1, held, lines, ..book };
+            assert_eq!(every_call(&wrong), [(3, 0); 9]);
+        }
+    }
+    for book in [Book { t: 0, ..ring() }, Book { t: 1, ..classed_ring() }] {
+        assert_eq!(every_call(&book), [(4, 0); 9]);
+    }
 }
 
 #[test]
@@ -192,7 +335,7 @@ fn longest_listings() {
 fn sketches_refused() {
     let mut book = ring();
     book.b = 4;
-    book.lines.extend([4, 3, 700, 60, 1]);
+    book.lines.extend([4, 3, 700, 60, 1, -1]);
     let sketch = |book: &Book, places: [usize; 4]| {
         let mut out = places.map(|places| vec![9; places]);
         let [links, spurs, loops, run] = &mut out;
@@ -210,7 +353,7 @@ fn sketches_refused() {
     for short in [[0, 4, 5, 4], [0, 5, 4, 4], [0, 5, 5, 3], [0, 0, 0, 0], [9, 9, 9, 3]] {
         assert_eq!(refused(&book, short), (10, 0));
     }
-    book.lines.extend([4, 2, 0, 10, 1, 4, 1, 0, 10, 1]);
+    book.lines.extend([4, 2, 0, 10, 1, -1, 4, 1, 0, 10, 1, -1]);
     assert_eq!(refused(&book, [30, 0, 0, 6]), (0, 0), "six links");
     assert_eq!(refused(&book, [29, 0, 0, 6]), (10, 0));
     book.lines[0] = 5;
@@ -219,6 +362,8 @@ fn sketches_refused() {
     assert_eq!(refused(&book, [0; 4]), (6, 1));
     book.t = 0;
     assert_eq!(refused(&book, [0; 4]), (4, 0));
+    book.version = 0;
+    assert_eq!(refused(&book, [0; 4]), (3, 0));
 }
 
 #[test]
@@ -279,13 +424,15 @@ fn corrections_refused() {
     let mut faulty = book.clone();
     faulty.held[0] = 0;
     assert_eq!(corrections(&faulty, &report, 1, i64::MAX), (4, 6), "4 before 6");
+    faulty.version = 3;
+    assert_eq!(corrections(&faulty, &report, 1, i64::MAX), (3, 3), "3 before 4");
 }
 
 #[test]
 fn a_piece_without_held_marks() {
     let mut book = ring();
     book.b = 6;
-    book.lines.extend([5, 4, 0, 10, 1]);
+    book.lines.extend([5, 4, 0, 10, 1, -1]);
     let adjust = |held: &[i64]| {
         let mut heights = [9; 6];
         let answer = Reference::new().adjust(Lent { held, ..book.lent() }, &mut heights);
@@ -302,10 +449,10 @@ fn a_piece_without_held_marks() {
 fn sweeps_without_end() {
     let mut lines = vec![];
     for (from, to) in Shape::ring(256).pairs {
-        lines.extend([from, to, 100_000_000, 1000, 1]);
+        lines.extend([from, to, 100_000_000, 1000, 1, -1]);
     }
     let mut heights = [9; 256];
-    let book = Book { b: 256, t: 1, held: vec![1, 0], lines };
+    let book = Book { version: 1, b: 256, t: 1, held: vec![1, 0], lines };
     let answer = Reference::new().adjust(book.lent(), &mut heights);
     assert_eq!(answer, Adjusted { number: 12, place: 0, sweeps: 0 });
     assert_eq!(heights, [9; 256]);
@@ -314,7 +461,7 @@ fn sweeps_without_end() {
 #[test]
 fn no_free_mark_is_one_sweep() {
     let mut heights = [9; 3];
-    let book = Book { b: 2, t: 1, held: vec![2, 5, 1, 6], lines: vec![] };
+    let book = Book { version: 1, b: 2, t: 1, held: vec![2, 5, 1, 6], lines: vec![] };
     let answer = Reference::new().adjust(book.lent(), &mut heights);
     assert_eq!(answer, Adjusted { number: 0, place: 0, sweeps: 1 });
     assert_eq!(heights, [6, 5, 9]);
@@ -324,9 +471,9 @@ fn no_free_mark_is_one_sweep() {
 fn halves_go_toward_zero() {
     for (difference, height) in [(1, 0), (-1, 0), (3, 1), (-3, -1)] {
         // The free mark starts at 0 by the tree line, and the other says difference: g/D is half of it.
-        let lines = vec![1, 2, 0, 1000, 1, 1, 2, difference, 1000, 1];
+        let lines = vec![1, 2, 0, 1000, 1, -1, 1, 2, difference, 1000, 1, -1];
         let mut heights = [9; 2];
-        let book = Book { b: 2, t: 1, held: vec![1, 0], lines };
+        let book = Book { version: 1, b: 2, t: 1, held: vec![1, 0], lines };
         let answer = Reference::new().adjust(book.lent(), &mut heights);
         assert_eq!((answer.number, heights), (0, [0, height]));
     }
@@ -353,6 +500,8 @@ fn rates_refused() {
     assert_eq!(rate(&[0, most, -most], 2), extreme);
     let wrong_b = Lent { b: i64::MAX, ..book.lent() };
     assert_eq!(Reference::new().rate(wrong_b, &[], 1), refused(4, 0));
+    let no_version = Lent { version: 0, ..book.lent() };
+    assert_eq!(Reference::new().rate(no_version, &[0; 4], 1), refused(3, 0), "3 before 4");
 }
 
 /// A number that a careless caller might lend.
@@ -377,12 +526,13 @@ fn never_panics() {
     let random = &mut random;
     let mut reference = Reference::new();
     for _ in 0..50_000 {
-        let Book { b, t, held, lines } = edge_book(random);
+        let Book { version, b, t, held, lines } = edge_book(random);
+        let version = if random.once_in(2) { version } else { any_number(random) };
         let b = if random.once_in(2) { b } else { any_number(random) };
         let t = if random.once_in(2) { t } else { any_number(random) };
         let held = if random.once_in(2) { held } else { any_numbers(random) };
         let lines = if random.once_in(2) { any_numbers(random) } else { lines };
-        let mut book = Book { b, t, held, lines };
+        let mut book = Book { version, b, t, held, lines };
         let (number, difference) = (any_number(random), any_number(random));
         let mut out = any_numbers(random);
         let file: Vec<u8> = (0..random.below(30)).map(|_| random.bits() as u8).collect();

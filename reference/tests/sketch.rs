@@ -7,8 +7,8 @@ use reference::*;
 
 /// A line of 100 m and no difference between each pair of marks.
 fn book(b: i64, pairs: &[(i64, i64)]) -> Book {
-    let lines = pairs.iter().flat_map(|&(from, to)| [from, to, 0, 100, 1]).collect();
-    Book { b, t: 40, held: vec![], lines }
+    let lines = pairs.iter().flat_map(|&(from, to)| [from, to, 0, 100, 1, NO_CLASS]).collect();
+    Book { version: 1, b, t: 40, held: vec![], lines }
 }
 
 /// The Memorandum's letters in alphabetical order as marks 1 to 16; there is no I and no O.
@@ -84,11 +84,31 @@ fn the_memorandums_network() {
     assert_eq!(ways(&sketch.spurs), spurs);
 }
 
+/// A sketch looks neither at versions nor at classes, and its text names no version.
+#[test]
+fn the_same_in_version_2() {
+    let (book, classed) = (memorandum(), memorandum().classed(|i| i as i64 % 5));
+    assert_eq!(sketch(&book), sketch(&classed));
+    assert_eq!(text(&book.file()), text(&classed.file()));
+}
+
+/// Unlike version 1, a version 2 file says which lines are withdrawn.
+#[test]
+fn withdrawn_in_the_file() {
+    let mut book = memorandum().classed(|_| 2);
+    book.lines[LINE * 8 + 4] = 0;
+    let text = text(&book.file());
+    assert!(
+        text.starts_with("JUNCTION SKETCH\nMARKS 16 LINES 20 LINKS 3 SPURS 4 LOOPS 2\n"),
+        "{text}"
+    );
+}
+
 #[test]
 fn refused_files() {
     assert_eq!(text(&[]), "REFUSED 1 AT 0\n");
     let mut file = memorandum().file();
-    file[HEAD_BYTES + 3 * LINE_BYTES] = 9;
+    file[HEAD_BYTES + 3 * Version::ONE.line_bytes] = 9;
     assert_eq!(text(&file), "REFUSED 7 AT 4\n");
     file.resize(MAX_READ + 1, 0);
     assert_eq!(text(&file), "REFUSED 2 AT 0\n");
@@ -154,7 +174,7 @@ fn tails() {
 fn withdrawn_lines() {
     let mut book = memorandum();
     for number in [9, 17] {
-        book.lines[LINE * number - 1] = 0;
+        book.lines[LINE * (number - 1) + 4] = 0;
     }
     let sketch = sketch(&book);
     let spurs = [

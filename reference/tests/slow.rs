@@ -1,6 +1,7 @@
 //! The rules once more, word by word and slowly, on small books with many ties.
 
 use reference::trial::call::own_report;
+use reference::trial::damage::{any_book, files};
 use reference::trial::random::Random;
 use reference::trial::shapes::{edge_book, good_book, roots, small_book};
 use reference::trial::Book;
@@ -14,9 +15,33 @@ struct Line {
     to: i64,
     difference: i64,
     length: i64,
+    tolerance: i64,
+}
+
+/// "The tolerance of each comes from a table of five"; "version 1 keeps its single t".
+fn tolerance(book: &Book, class: i64) -> i64 {
+    match (book.version, class) {
+        (1, -1) => book.t,
+        (2, 0) => 40,
+        (2, 1) => 50,
+        (2, 2) => 60,
+        (2, 3) => 80,
+        (2, 4) => 120,
+        _ => panic!("class {class} in version {}", book.version),
+    }
 }
 
 impl Line {
+    fn new(book: &Book, number: i64, l: &[i64]) -> Self {
+        let tolerance = tolerance(book, l[5]);
+        Line { number, from: l[0], to: l[1], difference: l[2], length: l[3], tolerance }
+    }
+
+    /// "Tolerance squared times length", a length of less than 250 taken as 250.
+    fn allows(&self) -> i64 {
+        self.tolerance * self.tolerance * if self.length < 250 { 250 } else { self.length }
+    }
+
     /// The other end, seen from a mark, if the line touches it.
     fn beyond(&self, mark: i64) -> Option<i64> {
         match mark {
@@ -40,9 +65,7 @@ impl Line {
 fn standing(book: &Book) -> Vec<Line> {
     let numbered = (1..).zip(book.lines.chunks_exact(LINE));
     let standing = numbered.filter(|(_, l)| l[4] == 1);
-    standing
-        .map(|(number, l)| Line { number, from: l[0], to: l[1], difference: l[2], length: l[3] })
-        .collect()
+    standing.map(|(number, l)| Line::new(book, number, l)).collect()
 }
 
 /// Tree and closing lines, and the number of pieces.
@@ -128,18 +151,18 @@ fn slow_path(subgraph: &[Line], line: Line) -> Option<(i64, Vec<i64>)> {
 }
 
 /// Report rows, and each loop's listing.
-fn slow_loops(t: i64, slow: &Slow) -> (Vec<i64>, Vec<Vec<i64>>) {
+fn slow_loops(slow: &Slow) -> (Vec<i64>, Vec<Vec<i64>>) {
     let mut subgraph = slow.tree.clone();
     let (mut rows, mut lists) = (vec![], vec![]);
     for &closing in &slow.closing {
         let (length, path) = slow_path(&subgraph, closing).expect("the tree joins every piece");
         let (mut misclosure, mut at) = (closing.difference, closing.to);
-        let mut judged = closing.length.max(250);
+        let mut allowed = closing.allows();
         let mut list = vec![closing.number];
         for &number in &path {
             let l = subgraph.iter().find(|l| l.number == number).expect("a line of the path");
             misclosure += l.rise_from(at);
-            judged += l.length.max(250);
+            allowed += l.allows();
             list.push(if l.from == at { number } else { -number });
             at = l.beyond(at).expect("the path is joined");
         }
@@ -148,7 +171,7 @@ fn slow_loops(t: i64, slow: &Slow) -> (Vec<i64>, Vec<Vec<i64>>) {
             subgraph.push(closing);
         }
         let length = length + closing.length;
-        let within = misclosure as i128 * misclosure as i128 <= (10 * t * t * judged) as i128;
+        let within = misclosure as i128 * misclosure as i128 <= 10 * allowed as i128;
         let count = list.len() as i64;
         rows.extend([closing.number, count, length, misclosure, !within as i64]);
         lists.push(list);
@@ -378,7 +401,7 @@ fn corrections(reference: &mut Reference, book: &Book, rows: &[i64], random: &mu
 fn same_as_slow(reference: &mut Reference, book: &Book, random: &mut Random) {
     let all = standing(book);
     let slow = slow_tree(book.b, &all);
-    let (rows, lists) = slow_loops(book.t, &slow);
+    let (rows, lists) = slow_loops(&slow);
     let open = slow_not_checked(&all, &lists);
     assert_eq!(open, slow_on_no_circuit(&all), "{book:?}");
 
@@ -435,6 +458,100 @@ fn edge_books() {
     for _ in 0..200 {
         let book = edge_book(&mut random);
         same_as_slow(&mut reference, &book, &mut random);
+    }
+}
+
+fn outside(number: i64, low: i64, high: i64) -> bool {
+    number < low || number > high
+}
+
+/// The refusal of a lent book by the table: its number and place, or zeros.
+fn slow_refusal(book: &Book) -> (i64, i64) {
+    let Book { version, b, t, ref held, ref lines } = *book;
+    if version != 1 && version != 2 {
+        return (3, 0);
+    }
+    let tolerance = if version == 1 { outside(t, 1, 1000) } else { t != 0 };
+    let whole = held.len() % 2 == 0 && lines.len() % 6 == 0;
+    if outside(b, 1, 256) || tolerance || !whole || held.len() > 512 || lines.len() > 3072 {
+        return (4, 0);
+    }
+    for (place, entry) in (1..).zip(held.chunks(2)) {
+        let earlier = held.chunks(2).take(place - 1).any(|earlier| earlier[0] == entry[0]);
+        let height = outside(entry[1], -10_000_000_000, 10_000_000_000);
+        if outside(entry[0], 1, b) || height || earlier {
+            return (6, place as i64);
+        }
+    }
+    for (place, line) in (1..).zip(lines.chunks(6)) {
+        let ends = outside(line[0], 1, b) || outside(line[1], 1, b) || line[0] == line[1];
+        let difference = outside(line[2], -100_000_000, 100_000_000);
+        let length = outside(line[3], 10, 100_000);
+        let class = if version == 1 { line[5] != -1 } else { outside(line[5], 0, 4) };
+        if ends || difference || length || outside(line[4], 0, 1) || class {
+            return (7, place);
+        }
+    }
+    (0, 0)
+}
+
+/// The book of a file, byte by byte; or the refusal's number and place.
+fn slow_read(file: &[u8]) -> Result<Book, (i64, i64)> {
+    if file.len() < 13 {
+        return Err((1, 0));
+    }
+    let mut bytes = file.iter();
+    let mut take = |count| bytes.by_ref().take(count).fold(0, |n, &byte| n << 8 | byte as i64);
+    let [stated, version, t, b, h, n] = [4, 1, 2, 2, 2, 2].map(&mut take);
+    if stated != file.len() as i64 {
+        return Err((2, 0));
+    }
+    let mut book = Book { version, b, t, held: vec![], lines: vec![] };
+    match slow_refusal(&book) {
+        (0, 0) if h <= 256 && n <= 512 => {}
+        (3, 0) => return Err((3, 0)),
+        _ => return Err((4, 0)),
+    }
+    if stated != 13 + 10 * h + if version == 1 { 12 * n } else { 14 * n } {
+        return Err((5, 0));
+    }
+    for _ in 0..h {
+        book.held.extend([2, 8].map(&mut take));
+    }
+    for _ in 0..n {
+        let [from, to, difference, length] = [2, 2, 4, 4].map(&mut take);
+        let [class, standing] = if version == 1 { [-1, 1] } else { [1, 1].map(&mut take) };
+        book.lines.extend([from, to, difference as i32 as i64, length, standing, class]);
+    }
+    match slow_refusal(&book) {
+        (0, 0) => Ok(book),
+        refusal => Err(refusal),
+    }
+}
+
+#[test]
+fn refusals_of_books() {
+    let mut random = Random::new(8);
+    let mut rows = [0; ROW * MAX_LINES];
+    for _ in 0..20_000 {
+        let book = any_book(&mut random);
+        let answer = Reference::new().survey(book.lent(), &mut rows);
+        assert_eq!((answer.number, answer.place), slow_refusal(&book), "{book:?}");
+    }
+}
+
+#[test]
+fn files_of_both_versions() {
+    let mut random = Random::new(9);
+    let (mut held, mut lines) = ([0; HELD * MAX_HELD], [0; LINE * MAX_LINES]);
+    for file in (0..4000).flat_map(|_| files(&mut random)) {
+        let ReadAnswer { number, place, version, b, t, h, n } =
+            Reference::new().read(&file, &mut held, &mut lines);
+        let held = held[..HELD * h as usize].to_vec();
+        let lines = lines[..LINE * n as usize].to_vec();
+        let read = Book { version, b, t, held, lines };
+        let read = if number == 0 { Ok(read) } else { Err((number, place)) };
+        assert_eq!(read, slow_read(&file), "{file:?}");
     }
 }
 

@@ -6,15 +6,15 @@ use reference::*;
 fn worked() -> Book {
     #[rustfmt::skip]
     let lines = vec![
-        1, 3, 6_345_000, 1600, 1,
-        2, 3, 4_235_000, 2500, 1,
-        5, 2, 3_060_000, 1000, 1,
-        5, 1,   920_000, 4000, 1,
-        1, 4, 3_895_000, 1600, 1,
-        4, 3, 2_410_000, 1250, 1,
-        5, 4, 4_820_000, 2000, 1,
+        1, 3, 6_345_000, 1600, 1, -1,
+        2, 3, 4_235_000, 2500, 1, -1,
+        5, 2, 3_060_000, 1000, 1, -1,
+        5, 1,   920_000, 4000, 1, -1,
+        1, 4, 3_895_000, 1600, 1, -1,
+        4, 3, 2_410_000, 1250, 1, -1,
+        5, 4, 4_820_000, 2000, 1, -1,
     ];
-    Book { b: 5, t: 120, held: vec![1, 100_000_000], lines }
+    Book { version: 1, b: 5, t: 120, held: vec![1, 100_000_000], lines }
 }
 
 /// The book's report, with numbers after it that no call may touch.
@@ -28,13 +28,15 @@ fn done(rows: i64, pieces: i64) -> Answer {
     Answer { number: 0, place: 0, rows, pieces }
 }
 
+fn report(book: &Book) -> String {
+    String::from_utf8(Reference::new().report(&book.file())).unwrap()
+}
+
 #[test]
 fn a_report() {
-    let file = worked().file();
-    assert_eq!(file.len(), 13 + 10 + 12 * 7);
-    let text = Reference::new().report(&file);
+    assert_eq!(worked().file().len(), 13 + 10 + 12 * 7);
     assert_eq!(
-        String::from_utf8(text).unwrap(),
+        report(&worked()),
         "LEVEL BOOK 1\n\
          MARKS 5 LINES 7 PIECES 1 LOOPS 3\n\
          LOOP 1 LENGTH 4450 MISCLOSURE -40000 OVER: 6 -1 5\n\
@@ -49,9 +51,10 @@ fn a_report() {
 #[test]
 fn a_read() {
     let book = worked();
-    let (mut held, mut lines) = ([9; 3], [9; 36]);
+    let (mut held, mut lines) = ([9; 3], [9; 43]);
     let answer = Reference::new().read(&book.file(), &mut held, &mut lines);
-    assert_eq!(answer, ReadAnswer { number: 0, place: 0, b: 5, t: 120, h: 1, n: 7 });
+    let want = ReadAnswer { version: 1, b: 5, t: 120, h: 1, n: 7, ..ReadAnswer::default() };
+    assert_eq!(answer, want);
     assert_eq!(held[..], [&book.held[..], &[9]].concat());
     assert_eq!(lines[..], [&book.lines[..], &[9]].concat());
 }
@@ -69,7 +72,7 @@ fn c_rerun() {
     assert_eq!(rows[..16], [6, 3, 4450, -22000, 0, 4, 3, 7600, -5000, 0, 3, 4, 6750, 47000, 1, -7]);
     assert_eq!(fresh(&book), rows);
     let mut only_change = worked();
-    only_change.lines[27] = 2_428_000;
+    only_change.lines[LINE * 5 + 2] = 2_428_000;
     assert_eq!(book, only_change);
 }
 
@@ -101,12 +104,13 @@ fn e_not_checked() {
 
 #[test]
 fn f_edge_of_tolerance() {
-    assert_eq!(verdict(40, 1000, 4000), 0);
-    assert_eq!(verdict(40, 1000, -4000), 0);
-    assert_eq!(verdict(40, 1000, 4001), 1);
+    let allowed = 40 * 40 * 1000;
+    assert_eq!(verdict(allowed, 4000), 0);
+    assert_eq!(verdict(allowed, -4000), 0);
+    assert_eq!(verdict(allowed, 4001), 1);
     for (misclosure, want) in [(4000, 0), (-4000, 0), (4001, 1), (-4001, 1)] {
-        let lines = vec![1, 2, misclosure, 400, 1, 1, 2, 0, 600, 1];
-        let book = Book { b: 2, t: 40, held: vec![], lines };
+        let lines = vec![1, 2, misclosure, 400, 1, -1, 1, 2, 0, 600, 1, -1];
+        let book = Book { version: 1, b: 2, t: 40, held: vec![], lines };
         let mut rows = [0; 5];
         Reference::new().survey(book.lent(), &mut rows);
         assert_eq!(rows, [2, 2, 1000, -misclosure, want]);
@@ -116,14 +120,15 @@ fn f_edge_of_tolerance() {
 #[test]
 fn g_no_lines() {
     let mut rows = [9; 5];
-    let book = Book { b: 7, t: 1, held: vec![], lines: vec![] };
+    let book = Book { version: 1, b: 7, t: 1, held: vec![], lines: vec![] };
     assert_eq!(Reference::new().survey(book.lent(), &mut rows), done(0, 7));
     assert_eq!(rows, [9; 5]);
 }
 
 #[test]
 fn h_rate() {
-    let book = Book { b: 2, t: 1, held: vec![], lines: vec![1, 2, 0, 2000, 1] };
+    let lines = vec![1, 2, 0, 2000, 1, -1];
+    let book = Book { version: 1, b: 2, t: 1, held: vec![], lines };
     let want = Rated { line: 1, correction: 500, rate: 0.25, ..Rated::default() };
     assert_eq!(Reference::new().rate(book.lent(), &[0, 500], 1), want);
 }
@@ -140,12 +145,32 @@ fn adjusted_heights() {
     }
 }
 
+/// The tolerance of class 4 is 120, as t is: all stays as it is but the report's first line.
+#[test]
+fn every_line_of_class_4() {
+    let classed = worked().classed(|_| 4);
+    assert_eq!(classed.file().len(), 13 + 10 + 14 * 7);
+    assert_eq!(report(&classed), report(&worked()).replace("LEVEL BOOK 1", "LEVEL BOOK 2"));
+    assert_eq!(fresh(&classed), fresh(&worked()));
+    let corrected = |mut book: Book| {
+        let (mut reference, mut rows) = (Reference::new(), fresh(&book));
+        assert_eq!(reference.rerun(book.lent_mut(), &mut rows, 6, 2_428_000), done(3, 1));
+        let rerun = rows.clone();
+        assert_eq!(reference.withdraw(book.lent_mut(), &mut rows, 3), done(2, 1));
+        [rerun, rows]
+    };
+    assert_eq!(corrected(classed), corrected(worked()));
+    // Class 3 allows 16,876 in loop 1, which stays over when line 6 has been run again.
+    let [rerun, _] = corrected(worked().classed(|_| 3));
+    assert_eq!(rerun[..5], [6, 3, 4450, -22000, 1]);
+}
+
 /// The Memorandum's six marks and seven equal links, A to F as 1 to 6: its two squares.
 #[test]
 fn two_squares_and_not_the_outer_ring() {
     let links = [[1, 2], [1, 3], [2, 4], [3, 4], [3, 5], [4, 6], [5, 6]];
-    let lines = links.iter().flat_map(|&[from, to]| [from, to, 0, 1000, 1]).collect();
-    let book = Book { b: 6, t: 1, held: vec![], lines };
+    let lines = links.iter().flat_map(|&[from, to]| [from, to, 0, 1000, 1, -1]).collect();
+    let book = Book { version: 1, b: 6, t: 1, held: vec![], lines };
     let mut reference = Reference::new();
     let mut rows = [0; 10];
     assert_eq!(reference.survey(book.lent(), &mut rows), done(2, 1));

@@ -68,11 +68,14 @@ fn other(version: &Version) -> &'static Version {
     }
 }
 
-/// Makes the version one that there is not, or the other: as a rule with a t of that, so that only the classes are
-/// wrong.
+/// Makes the version one that there is not, at times with b outside too; or the other: as a rule with a t of that,
+/// so that only the classes are wrong.
 fn damage_version(random: &mut Random, book: &mut Book) {
     if random.once_in(2) {
         book.version = random.pick(&NO_VERSIONS);
+        if random.once_in(4) {
+            book.b = outside(random, 1..=MAX_MARKS as i64);
+        }
         return;
     }
     let other = other(book.limits());

@@ -233,12 +233,15 @@ fn true_heights(random: &mut Random, marks: i64) -> Vec<i64> {
     (0..marks).map(|_| height()).collect()
 }
 
-/// A line's difference by one of several habits.
-fn difference(random: &mut Random, habit: usize, rise: i64) -> i64 {
+/// A line's difference by one of several habits. By one the error is about what a line of the middle class
+/// allows, so that other classes make another verdict.
+fn difference(random: &mut Random, habit: usize, rise: i64, length: i64) -> i64 {
+    let error = 100 * (10 * length.max(MIN_JUDGED)).isqrt();
     let difference = match habit {
         0 => 0,
         1 => random.within(-1000, 1000),
-        2 | 3 => rise + random.within(-3000, 3000),
+        2 => rise + random.within(-3000, 3000),
+        3 | 6 => rise + random.within(-error, error),
         4 => rise,
         5 => random.pick(&[-MAX_DIFFERENCE, MAX_DIFFERENCE]),
         _ => random.within(-MAX_DIFFERENCE, MAX_DIFFERENCE),
@@ -321,7 +324,7 @@ fn finished(random: &mut Random, shape: Shape) -> Book {
     let mut lines = Vec::with_capacity(LINE * shape.pairs.len());
     for (&(from, to), length) in shape.pairs.iter().zip(lengths) {
         let rise = heights[to as usize - 1] - heights[from as usize - 1];
-        let difference = difference(random, habit, rise);
+        let difference = difference(random, habit, rise, length);
         let standing = withdrawn_once_in == 0 || !random.once_in(withdrawn_once_in);
         lines.extend([from, to, difference, length, standing as i64, NO_CLASS]);
     }
@@ -364,7 +367,7 @@ pub fn edge_book(random: &mut Random) -> Book {
     let book = Book { version: 1, b: marks, t, held: vec![1, 0], lines };
     let mut book = of_either_version(random, book);
     let allowed: i64 = book.lines.chunks_exact(LINE).map(|line| line_allows(book.t, line)).sum();
-    book.lines[2] = (10 * allowed).isqrt() * random.pick(&[-1, 1]) + random.within(-1, 1);
+    book.lines[2] = (10 * allowed).isqrt() * random.pick(&[-1, 1]) + random.pick(&[-1, 0, 0, 1]);
     book
 }
 
@@ -393,9 +396,9 @@ pub fn good_book(random: &mut Random) -> Book {
             let shape = full_shape(random);
             finished(random, shape)
         }
-        1 => edge_book(random),
-        2 if random.once_in(10) => of_either_version(random, longest_listings()),
-        3 if random.once_in(2) => largest_book(random),
+        1..=4 => edge_book(random),
+        5 if random.once_in(10) => of_either_version(random, longest_listings()),
+        6 if random.once_in(2) => largest_book(random),
         _ => {
             let shape = any_shape(random);
             finished(random, shape)

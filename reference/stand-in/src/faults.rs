@@ -29,6 +29,9 @@ impl Faulty {
         if Faulty::named("book-of-255-marks") && book.b == 256 {
             return Some((4, 0));
         }
+        if Faulty::named("book-limits-before-version") && Version::of(book.version).is_none() {
+            return (!(1..=MAX_MARKS as i64).contains(&book.b)).then_some((4, 0));
+        }
         if Faulty::named("book-lines-before-held") {
             let survey = |book: Lent| Reference::new().survey(book, &mut [0; ROW * MAX_LINES]);
             let alone = survey(Lent { held: &[], ..book });
@@ -56,8 +59,43 @@ impl Faulty {
         if Faulty::named("book-half-a-line") {
             seen.lines.truncate(LINE * seen.lines_count());
         }
+        match fault() {
+            "book-version-by-its-last-byte" => seen.version = book.version as u8 as i64,
+            "book-any-tolerance-in-version-2" if book.version == 2 => seen.t = 0,
+            "book-any-class-in-version-1" if book.version == 1 => {
+                seen.lines.chunks_exact_mut(LINE).for_each(|line| line[5] = NO_CLASS);
+            }
+            "book-six-classes" if book.version == 2 => {
+                seen.lines.chunks_exact_mut(LINE).for_each(|line| line[5] -= (line[5] == 5) as i64);
+            }
+            _ => {}
+        }
         seen
     }
+
+    /// Judges every row anew. What a line allows is told of the book's t, the closing line and the line; what is
+    /// over, of the misclosure's square and ten times the sum.
+    fn judge(
+        &mut self,
+        book: Lent,
+        rows: &mut [i64],
+        allows: impl Fn(i64, &[i64], &[i64]) -> i64,
+        is_over: impl Fn(i128, i128) -> bool,
+    ) {
+        let line = |signed: i64| &book.lines[LINE * (signed.unsigned_abs() as usize - 1)..][..LINE];
+        for (number, row) in (1..).zip(rows.chunks_exact_mut(ROW)) {
+            let mut out = [0; MAX_LINES];
+            let count = self.0.listing(book, number, &mut out).entries as usize;
+            let closing = line(out[0]);
+            let allowed: i64 = out[..count].iter().map(|&s| allows(book.t, closing, line(s))).sum();
+            row[4] = is_over(row[3] as i128 * row[3] as i128, 10 * allowed as i128) as i64;
+        }
+    }
+}
+
+/// What a line allows with another class.
+fn allows_as(t: i64, line: &[i64], class: i64) -> i64 {
+    line_allows(t, &[&line[..5], &[class]].concat())
 }
 
 /// A book whose lines are numbered from the last to the first.
@@ -137,6 +175,24 @@ impl Level for Faulty {
                 mended[4] = 1;
                 self.0.read(&mended, held, lines)
             }
+            "read-any-tolerance-in-version-2" if right.number == 4 && file[4] == 2 => {
+                let mut mended = file.to_vec();
+                mended[5..7].fill(0);
+                self.0.read(&mended, held, lines)
+            }
+            "read-version-when-refused" if right.number > 3 => {
+                ReadAnswer { version: file[4] as i64, ..right }
+            }
+            "read-withdrawn-as-standing" if right.number == 0 => {
+                let read = lines.chunks_exact_mut(LINE).take(right.n as usize);
+                read.for_each(|line| line[4] = 1);
+                right
+            }
+            "read-class-0-in-version-1" if right.version == 1 => {
+                let read = lines.chunks_exact_mut(LINE).take(right.n as usize);
+                read.for_each(|line| line[5] = 0);
+                right
+            }
             _ => right,
         }
     }
@@ -150,10 +206,17 @@ impl Level for Faulty {
         let count = right.rows as usize;
         match fault() {
             "survey-equal-is-over" => {
-                for row in rows.chunks_exact_mut(ROW).take(count) {
-                    let square = row[3] as i128 * row[3] as i128;
-                    row[4] = (square >= (10 * book.t * book.t * row[2]) as i128) as i64;
-                }
+                let allows = |t, _: &[i64], line: &[i64]| line_allows(t, line);
+                self.judge(seen.lent(), &mut rows[..ROW * count], allows, |m, most| m >= most);
+            }
+            "survey-class-of-the-closing-line" => {
+                let allows = |t, closing: &[i64], line: &[i64]| allows_as(t, line, closing[5]);
+                self.judge(seen.lent(), &mut rows[..ROW * count], allows, |m, most| m > most);
+            }
+            "survey-class-1-as-2" => {
+                let class = |line: &[i64]| if line[5] == 1 { 2 } else { line[5] };
+                let allows = |t, _: &[i64], line: &[i64]| allows_as(t, line, class(line));
+                self.judge(seen.lent(), &mut rows[..ROW * count], allows, |m, most| m > most);
             }
             "survey-last-row-zeros" if count > 1 => {
                 rows[ROW * (count - 1)..ROW * count].fill(0);
@@ -258,6 +321,19 @@ impl Level for Faulty {
                 book.lines.copy_from_slice(&old_lines);
                 report.copy_from_slice(&old_report);
             }
+            "rerun-difference-before-version"
+                if right.number == 3 && difference.unsigned_abs() > MAX_DIFFERENCE as u64 =>
+            {
+                return Answer { number: 4, ..right };
+            }
+            "rerun-loses-the-class" if right.number == 0 => {
+                book.lines[LINE * (line as usize - 1) + 5] = NO_CLASS;
+            }
+            "rerun-judges-by-t" if right.number == 0 && book.t == 0 => {
+                let rows = report.chunks_exact_mut(ROW).zip(old_report.chunks_exact(ROW));
+                let changed = rows.filter(|(row, old)| row[3] != old[3]);
+                changed.for_each(|(row, _)| row[4] = verdict(0, row[3]));
+            }
             "rerun-keeps-old-verdict" if right.number == 0 => {
                 let rows = report.chunks_exact_mut(ROW).zip(old_report.chunks_exact(ROW));
                 rows.for_each(|(row, old)| row[4] = old[4]);
@@ -292,6 +368,9 @@ impl Level for Faulty {
                 let last = lines.len() - LINE;
                 lines[LINE * (line as usize - 1)..].rotate_left(LINE);
                 lines[last + 4] = 0;
+            }
+            "withdraw-loses-the-class" if right.number == 0 => {
+                lines[LINE * (line as usize - 1) + 5] = NO_CLASS;
             }
             "withdraw-of-withdrawn"
                 if right.number == 8 && (1..=lines.len() / LINE).contains(&(line as usize)) =>
@@ -329,6 +408,9 @@ impl Level for Faulty {
                 right = Rated { line, withdrawn: 1, ..Rated::default() };
             }
             "rate-names-refused-line" if right.number == 8 => right.line = line,
+            "rate-heights-before-version" if right.number == 3 => {
+                right.number = if heights.len() as i64 == book.b { 3 } else { 4 };
+            }
             _ => {}
         }
         right

@@ -21,6 +21,9 @@ pub fn run(name: &str, text: impl FnOnce(&[u8]) -> Vec<u8>) {
     if named("reads-on") && file.len() > MAX_READ {
         text = b"REFUSED 2 AT 0\n".to_vec();
     }
+    if named("of-version-1") && text.starts_with(b"LEVEL BOOK 2") {
+        text[11] = b'1';
+    }
     if named("without-last-newline") {
         text.pop();
     }
