@@ -1,10 +1,11 @@
-/* Reads a book file, surveys it, runs line 6 again and withdraws line 3. examples/run builds and runs this. */
+/* Reads a book file, surveys it, runs line 6 again and withdraws line 3; then a book of version 2. examples/run builds and
+ * runs this. */
 #include "level.h"
 #include <stdio.h>
 
 enum { MARKS = 256, LINES = 512 };
 
-static int64_t held[2 * MARKS], lines[5 * LINES], rows[5 * LINES];
+static int64_t held[2 * MARKS], lines[6 * LINES], rows[5 * LINES];
 
 static void print(const char *what, struct Answer a)
 {
@@ -25,15 +26,21 @@ int main(int count, char **words)
     size_t bytes = fread(file, 1, sizeof file, from);
     fclose(from);
 
-    struct ReadAnswer r = level_read(file, bytes, held, 2 * MARKS, lines, 5 * LINES);
-    printf("read: number %lld, %lld marks, %lld lines\n", (long long)r.number, (long long)r.b, (long long)r.n);
+    struct ReadAnswer r = level_read(file, bytes, held, 2 * MARKS, lines, 6 * LINES);
+    printf("read: number %lld, version %lld, %lld marks, %lld lines\n", (long long)r.number, (long long)r.version,
+           (long long)r.b, (long long)r.n);
     if (r.number != 0)
         return 1;
-    size_t h = 2 * (size_t)r.h, n = 5 * (size_t)r.n;
+    size_t h = 2 * (size_t)r.h, n = 6 * (size_t)r.n;
 
-    print("survey", level_survey(r.b, r.t, held, h, lines, n, rows, 5 * LINES));
-    print("line 6 run again", level_rerun(r.b, r.t, held, h, lines, n, rows, 5 * LINES, 6, 2428000));
-    print("line 3 withdrawn", level_withdraw(r.b, r.t, held, h, lines, n, rows, 5 * LINES, 3));
-    print("line 3 once more", level_withdraw(r.b, r.t, held, h, lines, n, rows, 5 * LINES, 3));
+    print("survey", level_survey(r.version, r.b, r.t, held, h, lines, n, rows, 5 * LINES));
+    print("line 6 run again", level_rerun(r.version, r.b, r.t, held, h, lines, n, rows, 5 * LINES, 6, 2428000));
+    print("line 3 withdrawn", level_withdraw(r.version, r.b, r.t, held, h, lines, n, rows, 5 * LINES, 3));
+    print("line 3 once more", level_withdraw(r.version, r.b, r.t, held, h, lines, n, rows, 5 * LINES, 3));
+
+    /* Version 2: t is 0, and the last number of a line is its class. Classes 0 and 4 allow 12649 here. */
+    int64_t two[] = {1, 2, 0, 1000, 1, 0, 1, 2, 12649, 1000, 1, 4};
+    print("classes 0 and 4", level_survey(2, 2, 0, held, 0, two, 12, rows, 5));
+    print("line 2 run again", level_rerun(2, 2, 0, held, 0, two, 12, rows, 5, 2, 12650));
     return 0;
 }
