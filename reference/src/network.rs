@@ -100,7 +100,7 @@ pub(crate) struct Network {
     closing: [u16; MAX_LINES],
     pub rows: usize,
     pub pieces: usize,
-    /// What the lines of the row allow that was taken last.
+    /// What the lines of the row that was taken last allow together.
     pub allowed: i64,
     /// Candidates by rank, and the best rank for each mark that is still out.
     candidates: BinaryHeap<Reverse<u64>>,

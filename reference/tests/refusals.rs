@@ -148,6 +148,8 @@ fn files_of_the_other_version() {
     };
     assert_eq!(refused_file(without_lines(ring()), &two), (0, 0));
     assert_eq!(refused_file(without_lines(classed_ring()), &one), (0, 0));
+    assert_eq!(refused_file(without_lines(ring()), &two[..1]), (4, 0));
+    assert_eq!(refused_file(without_lines(classed_ring()), &one[..1]), (4, 0));
     // Seven lines of 12 bytes are as long as six of 14.
     let mut seven = ring();
     seven.lines = [1, 2, 0, 1000, 1, -1].repeat(7);
