@@ -13,7 +13,7 @@ use Rattle.laws.proofs.Scans.{first-most}
 use Rattle.book.specs.Limits.{mostLines, mostMarks}
 use Rattle.book.specs.Height.{workHeightOut}
 use Rattle.book.specs.Lent.{Lent}
-use Rattle.book.specs.Test.{refusal}
+use Rattle.book.specs.Test.{refusal, testOf}
 use Rattle.book.proofs.IfGood.{either-way}
 use Rattle.book.proofs.Goods.{tested-good, tested-numbered}
 use Rattle.fields.specs.Heights.{height}

@@ -1,6 +1,9 @@
 use mathlib.Core.Path.{_≡_, sym, _∙_, ap}
-use mathlib.Core.Bool.{Bool, not}
+use mathlib.Core.Bool.{not}
+use lib.IntN.{pos}
+use lib.ListN.{length}
 use mir.Facts.{toZ-ofZ}
+use Rattle.laws.specs.Tests.{eqZ}
 use Rattle.laws.proofs.Signed.{stored}
 use Rattle.book.specs.Lent.{lent}
 use Rattle.book.specs.Test.{testBeside}
@@ -19,7 +22,9 @@ unfolding heightsOut
 flag c =
     let s = c .before .before in
     let k = c .before .signed-count in
-    ap not (c .same .ensures ∙ rw (stored (k .result) (k .ok) (k .ensures), toZ-ofZ (s .fits .b)))
+    let same : c .same .result ≡ eqZ (pos (length (s .args .heights .now))) (s .args .b)
+    = c .same .ensures ∙ rw (stored (k .result) (k .ok) (k .ensures), toZ-ofZ (s .fits .b)) in
+    ap not same
 
 -- what the test answered, at the numbers that were lent
 tested : (c : tie.After-test-beside) → (let s : tie.Start = search in let a = s .args in
