@@ -1,7 +1,8 @@
 // Writes the page to standard output, from its parts in page/: node page/assemble.mjs MODULE EXAMPLE-BOOK
 //
 // A browser takes no script beside a page that was opened from disk. So the modules, from src/main.js on, become one script: each is a
-// function that is called once, after those it imports, and gives what it exports.
+// function that is called once, after those it imports, and gives what it exports. That is known to all that come after it, so that no
+// import has to be written out and no two modules may export the same name.
 import { createHash } from 'node:crypto';
 import { readFileSync } from 'node:fs';
 import { squeezed } from './squeeze.mjs';
@@ -21,24 +22,44 @@ function modulesFrom(name, above = [], found = new Set()) {
   return found.add(name);
 }
 
+/** The names that a module exports. */
+const exportsOf = name => [...part(`src/${name}`).matchAll(EXPORT)].map(([, , each]) => each);
+
+/** Every name that is imported must be exported where it is said to be, and no name in two places. */
+function holdNames(names) {
+  const exported = names.flatMap(exportsOf);
+  const twice = exported.filter((each, i) => exported.indexOf(each) !== i);
+  if (twice.length > 0) throw new Error(`exported by two modules: ${twice.join(', ')}`);
+  for (const name of names) {
+    for (const [, list, other] of part(`src/${name}`).matchAll(IMPORT)) {
+      const missing = list.trim().split(/,\s*/).filter(each => !exportsOf(other).includes(each));
+      if (missing.length > 0) throw new Error(`${name} imports ${missing.join(', ')}, which ${other} does not export`);
+    }
+  }
+}
+
 /** A module as a function that is called at once. */
 function called(name) {
-  const text = part(`src/${name}`);
-  const exported = [...text.matchAll(EXPORT)].map(([, , each]) => each);
-  const body = text.replace(IMPORT, "const {$1} = modules['$2'];").replace(EXPORT, '$1');
+  const body = part(`src/${name}`).replace(IMPORT, '').replace(EXPORT, '$1');
   if (/^(import|export)\b/m.test(body)) throw new Error(`${name} imports or exports in a form that is not taken here`);
-  return squeezed(`modules['${name}'] = (() => {\n${body}return { ${exported.join(', ')} };\n})();\n`);
+  const exported = `{ ${exportsOf(name).join(', ')} }`;
+  return squeezed(`const ${exported} = (() => {\n${body}return ${exported};\n})();\n`);
 }
 
 function script(core, example) {
   const inside = { CORE: core, EXAMPLE: example };
   const constants = Object.entries(inside).map(([name, bytes]) => `const ${name} = '${bytes.toString('base64')}';\n`);
-  const modules = [...modulesFrom('main.js')].map(called);
-  return `'use strict';\n(() => {\nconst modules = {};\n${[...constants, ...modules].join('')}})();\n`;
+  const modules = [...modulesFrom('main.js')];
+  holdNames(modules);
+  return `'use strict';\n(() => {\n${[...constants, ...modules.map(called)].join('')}})();\n`;
 }
 
-/** Styles without comments and indentation. */
-const squeezedStyle = text => text.replace(/\/\*[^]*?\*\/\n/g, '').replace(/^\s+/gm, '');
+/** Styles without comments and line ends, and without spaces beside signs; before a colon a space means something. */
+const squeezedStyle = text => text.replace(/\/\*[^]*?\*\//g, '').replace(/\s+/g, ' ')
+  .replace(/ ?([{};,]) ?/g, '$1').replace(/: /g, ':').replace(/;}/g, '}').trim();
+
+/** Markup without indentation. */
+const squeezedMarkup = text => text.replace(/^\s+/gm, '');
 
 /** No network, no inline handlers, no other script or style, and no text that becomes markup. */
 const policyFor = (js, css) => [
@@ -56,4 +77,4 @@ const [core, example] = process.argv.slice(2).map(name => readFileSync(name));
 const js = script(core, example);
 const css = STYLES.map(name => squeezedStyle(part(`style/${name}`))).join('');
 const parts = { POLICY: policyFor(js, css), STYLE: css, SCRIPT: js, CORE_ID: sha256(core, 'hex').slice(0, 12) };
-process.stdout.write(part('page.html').replace(/@([A-Z_]+)@/g, (whole, name) => parts[name] ?? whole));
+process.stdout.write(squeezedMarkup(part('page.html')).replace(/@([A-Z_]+)@/g, (whole, name) => parts[name] ?? whole));

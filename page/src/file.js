@@ -31,7 +31,7 @@ function putLine(bytes, at, [from, to, difference, length]) {
 }
 
 /** What stands in a file whose counts fit its length (the core refused it with 6 or 7), as whole numbers. */
-export function entriesOf(file) {
+export function numbersIn(file) {
   const bytes = new DataView(file.buffer, file.byteOffset, file.byteLength);
   const [tolerance, marks, entries, n] = [5, 7, 9, 11].map(at => bytes.getUint16(at));
   const held = [];

@@ -4,7 +4,7 @@ import { CoreStopped, count } from './core.js';
 import { chooseNothing } from './choice.js';
 import { isSaved, openBook, present, setSaved, theCore } from './desk.js';
 import { button, byId, make } from './dom.js';
-import { entriesOf, fileBytes } from './file.js';
+import { numbersIn, fileBytes } from './file.js';
 import { hush, refuse, strong, tell, undoHere } from './notice.js';
 import { FILE_WORDS } from './refusals.js';
 import { named, plural, short } from './text.js';
@@ -24,7 +24,7 @@ const fileWords = (number, place) => ({ 6: `Held entry ${place} is wrong.`, 7: `
 function showButton(name, bytes) {
   return button('Show it, to mend it', () => {
     chooseNothing();
-    openBook(`${name} mended`, bookOf(entriesOf(bytes)), false);
+    openBook(`${name} mended`, bookOf(numbersIn(bytes)), false);
     hush();
   }, { id: 'show-it' });
 }

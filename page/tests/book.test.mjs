@@ -3,11 +3,11 @@ import assert from 'node:assert/strict';
 import { readFileSync } from 'node:fs';
 import { test } from 'node:test';
 import { bookOf, cellName, cellOf, emptyBook, faultWords, pasted, readBook, sameBook, withCell, withoutRow } from '../src/book.js';
-import { entriesOf, fileBytes } from '../src/file.js';
+import { numbersIn, fileBytes } from '../src/file.js';
 
 const WORKED = new Uint8Array(readFileSync(new URL('../../books/worked.book', import.meta.url)));
 const line = (from, to, difference, length, standing = true) => ({ from, to, difference, length, standing });
-const worked = () => bookOf(entriesOf(WORKED));
+const worked = () => bookOf(numbersIn(WORKED));
 
 test('a file is the same after its texts were read back', () => {
   const { numbers, faults } = readBook(worked());

@@ -26,6 +26,7 @@ export const cases = [
   { name: 'nothing-leaves-the-page', run: nothingLeavesThePage, browsers: BOTH },
   { name: 'glance-says-it-in-words', run: glanceSaysItInWords },
   { name: 'foot-names-the-core', run: footNamesTheCore },
+  { name: "exported-names-are-not-the-browser's", run: exportedNamesAreOurs, browsers: BOTH },
   { name: 'text-is-copied', run: textIsCopied, window: { before: `(${watchClipboard})()` } },
   { name: 'text-is-copied-without-clipboard', run: textIsCopied, window: { before: `(${denyClipboard})()` } },
 ];
@@ -178,6 +179,18 @@ async function footNamesTheCore(desk) {
   const digits = crypto.createHash('sha256').update(core).digest('hex').slice(0, 12);
   same(await desk.text('#core-id'), digits, 'the digits of the core');
   includes(await desk.text('.foot, footer'), 'Nothing is sent anywhere.', 'the foot');
+}
+
+/** The modules share one scope: one that means something of the browser must not be given what another exports. */
+async function exportedNamesAreOurs(desk) {
+  const folder = path.join(TOP, 'page', 'src');
+  const source = fs.readdirSync(folder).map(name => fs.readFileSync(path.join(folder, name), 'utf8')).join('');
+  const names = Array.from(source.matchAll(/^export (?:async )?(?:const|function|class) (\w+)/gm), ([, name]) => name);
+  const blank = await desk.profile.openPage();
+  const taken = await blank.evaluate(all => all.filter(name => name in globalThis), [...names, 'print']);
+  await blank.close();
+  same(taken, ['print'], 'names that the browser has too, and one that it has');
+  return `${names.length} names`;
 }
 
 /** Runs before the page's own script: what is put into the clipboard is noted. */
