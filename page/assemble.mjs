@@ -32,7 +32,7 @@ function holdNames(names) {
   if (twice.length > 0) throw new Error(`exported by two modules: ${twice.join(', ')}`);
   for (const name of names) {
     for (const [, list, other] of part(`src/${name}`).matchAll(IMPORT)) {
-      const missing = list.trim().split(/,\s*/).filter(each => !exportsOf(other).includes(each));
+      const missing = list.match(/\w+/g).filter(each => !exportsOf(other).includes(each));
       if (missing.length > 0) throw new Error(`${name} imports ${missing.join(', ')}, which ${other} does not export`);
     }
   }

@@ -1,24 +1,30 @@
-// What the tolerance allows a loop: asked of the core, so that it stays right when the rule of the verdict changes.
+// What the tolerance allows a loop, or the classes of its lines do: asked of the core, so that it stays right when the rule of the verdict
+// changes. A side is what counts of a line: its length and its class.
 
 const KEPT = 20_000;
 const kept = new Map();
 const NONE = new BigInt64Array(0);
+// By class, in tenths of mm per root km.
+const TOLERANCES = [40n, 50n, 60n, 80n, 120n];
 
-/** Whether the core calls a ring of these lengths within, if its misclosure is m. */
-function isWithin(core, tolerance, lengths, m) {
-  const marks = BigInt(lengths.length);
-  const lines = lengths.flatMap((length, i) => {
+/** Whether the core calls a ring of these sides within, if its misclosure is m. */
+function isWithin(core, { version, tolerance }, sides, m) {
+  const marks = BigInt(sides.length);
+  const lines = sides.flatMap(([length, itsClass], i) => {
     const from = BigInt(i + 1);
-    return [from, from === marks ? 1n : from + 1n, i === 0 ? m : 0n, length, 1n];
+    return [from, from === marks ? 1n : from + 1n, i === 0 ? m : 0n, length, 1n, itsClass];
   });
-  const { number, report } = core.survey({ marks, tolerance, held: NONE, lines });
+  const { number, report } = core.survey({ version, marks, tolerance, held: NONE, lines });
   return number === 0 && report[4] === 0n;
 }
 
 /** A first guess by a root. It counts only if the core says that it is right. */
-function guess(tolerance, lengths) {
-  const length = lengths.reduce((sum, each) => sum + (each < 250n ? 250n : each), 0n);
-  return BigInt(Math.floor(Math.sqrt(Number(10n * tolerance * tolerance * length))));
+function guess({ tolerance }, sides) {
+  const allows = sides.reduce((all, [length, itsClass]) => {
+    const own = TOLERANCES[itsClass] ?? tolerance;
+    return all + own * own * (length < 250n ? 250n : length);
+  }, 0n);
+  return BigInt(Math.floor(Math.sqrt(Number(10n * allows))));
 }
 
 /** The greatest misclosure within, between one that is and one that is not. */
@@ -38,12 +44,12 @@ function greatestWithin(within, first) {
   return between(within, high / 2n, high);
 }
 
-/** The greatest misclosure that the core calls within, of a loop with lines of these lengths. */
-export function allowedFor(core, tolerance, lengths) {
-  const key = `${tolerance}:${lengths.join()}`;
+/** The greatest misclosure that the core calls within, of a loop with these sides in a book of this version and tolerance. */
+export function allowedFor(core, book, sides) {
+  const key = `${book.tolerance}:${sides.join()}`;
   if (!kept.has(key)) {
     if (kept.size >= KEPT) kept.clear();
-    kept.set(key, greatestWithin(m => isWithin(core, tolerance, lengths, m), guess(tolerance, lengths)));
+    kept.set(key, greatestWithin(m => isWithin(core, book, sides, m), guess(book, sides)));
   }
   return kept.get(key);
 }

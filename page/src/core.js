@@ -3,11 +3,19 @@
 
 // How much of each the core is lent, in numbers: as much as the largest book needs.
 const ROOM = {
-  answer: 8, file: 16_384 / 8, held: 512, lines: 2_560, rows: 2_560, entries: 65_792, heights: 256,
+  answer: 8, file: 16_384 / 8, held: 512, lines: 3_072, rows: 2_560, entries: 65_792, heights: 256,
   links: 2_560, spurs: 2_560, loops: 2_560, run: 512,
 };
 const NUMBER = 8;
 const PAGE = 65_536;
+
+/** How many numbers a line has: from, to, difference, length, standing, class. */
+export const LINE = 6;
+/** The class of each line in a book of version 1. */
+export const NO_CLASS = -1n;
+
+/** How many lines a book of numbers has. */
+export const lineCount = ({ lines }) => lines.length / LINE;
 
 /** A count, a place or a line number that the core gave, as an index. */
 export const count = whole => Number(whole);
@@ -64,8 +72,8 @@ class Core {
     return [at, BigInt(numbers.length)];
   }
 
-  lendBook({ marks, tolerance, held, lines }) {
-    return [marks, tolerance, ...this.lend('held', held), ...this.lend('lines', lines)];
+  lendBook({ version, marks, tolerance, held, lines }) {
+    return [version, marks, tolerance, ...this.lend('held', held), ...this.lend('lines', lines)];
   }
 
   /** Lends room for an answer, all of it. */
@@ -83,10 +91,10 @@ class Core {
     const { at, numbers } = this.room.file;
     new Uint8Array(numbers.buffer, at, numbers.byteLength).set(file);
     const words = [at, BigInt(file.length), ...this.out('held'), ...this.out('lines')];
-    const [number, place, marks, tolerance, h, n] = this.call('level_read', words, 6);
+    const [number, place, version, marks, tolerance, h, n] = this.call('level_read', words, 7);
     const held = this.given('held', 2 * count(h));
-    const lines = this.given('lines', 5 * count(n));
-    return { number: count(number), place: count(place), numbers: { marks, tolerance, held, lines } };
+    const lines = this.given('lines', LINE * count(n));
+    return { number: count(number), place: count(place), numbers: { version, marks, tolerance, held, lines } };
   }
 
   survey(book) {
@@ -158,7 +166,7 @@ class Core {
   rates(book, heights) {
     const words = [...this.lendBook(book), ...this.lend('heights', heights)];
     const rate = new Float64Array(this.room.answer.numbers.buffer, this.room.answer.at, 6);
-    return Array.from({ length: book.lines.length / 5 }, (_, row) => {
+    return Array.from({ length: lineCount(book) }, (_, row) => {
       const [, , , correction, withdrawn] = this.call('level_rate', [...words, BigInt(row + 1)], 5);
       return { correction, withdrawn: withdrawn === 1n, rate: rate[5] };
     });

@@ -1,7 +1,7 @@
 // A line that was run again, or is withdrawn: asked in a row of its own under the line, done by the core on the kept report.
 import { fieldOf, goTo } from './cells.js';
 import { cellOf } from './book.js';
-import { CoreStopped } from './core.js';
+import { CoreStopped, LINE, lineCount } from './core.js';
 import { present, takeStep, theCore, work } from './desk.js';
 import { button, byId, fill, make } from './dom.js';
 import { strong, tell, undoHere } from './notice.js';
@@ -38,10 +38,11 @@ export function openCorrection(row) {
   closeCorrection();
   const { book, results } = present();
   const above = fieldOf(cellOf('lines', row, 'from'));
-  if (!above || !results.done || row >= results.numbers.lines.length / 5 || !book.lines[row].standing) return;
-  const element = make('tr', { class: 'correction' }, make('td', { colspan: 7 }, form(row)));
-  open = { row, element };
-  above.closest('tr').after(element);
+  if (!above || !results.done || row >= lineCount(results.numbers) || !book.lines[row].standing) return;
+  const line = above.closest('tr');
+  const element = make('tr', { class: 'correction' }, make('td', { colspan: line.cells.length }, form(row)));
+  open = { row, element, version: book.version };
+  line.after(element);
   element.scrollIntoView({ block: 'nearest' });
   byId('new-difference').focus();
 }
@@ -63,7 +64,7 @@ export const correctedLine = () => (open ? open.row : -1);
 /** A row for a correction that can no longer be made goes. */
 export function showCorrection({ book, results }) {
   const line = open && book.lines[open.row];
-  if (open && !(results.done && line && line.standing)) closeCorrection();
+  if (open && !(results.done && line && line.standing && book.version === open.version)) closeCorrection();
 }
 
 function fail(words, isField) {
@@ -98,7 +99,7 @@ function rerun(row, text) {
   if (fault) return fail(`The new difference ${faultText(fault, text, DECIMALS)}.`, true);
   const answer = answered(row + 1, (core, { numbers, report }) => core.rerun(numbers, report, row + 1, whole));
   if (!answer) return;
-  const was = present().results.numbers.lines[5 * row + 2];
+  const was = present().results.numbers.lines[LINE * row + 2];
   accept(row, { difference: metres(whole, 3, '-') }, `Line ${row + 1} re-run: ${metres(was)} m became ${metres(whole)} m.`, answer);
 }
 

@@ -42,28 +42,32 @@ function keepNow() {
 }
 
 const isText = text => typeof text === 'string';
-const areRows = (table, rows) => Array.isArray(rows) && rows.length <= TABLES[table].most
-  && rows.every(row => row && TABLES[table].columns.every(({ key }) => isText(row[key])))
+const areRows = (table, rows) => rows.length <= TABLES[table].most
+  && rows.every(row => TABLES[table].columns.every(({ key }) => isText(row[key])))
   && (table === 'held' || rows.every(({ standing }) => typeof standing === 'boolean'));
+const isBook = ({ version, marks, tolerance, held, lines }) => ['1', '2'].includes(version) && isText(marks) && isText(tolerance)
+  && areRows('held', held) && areRows('lines', lines);
 
 /** A draft, if it is one. */
 function draftOf(text) {
   try {
-    const { version, name, when, book } = JSON.parse(text);
-    const isBook = isText(book.marks) && isText(book.tolerance) && areRows('held', book.held) && areRows('lines', book.lines);
-    return version === 1 && isText(name) && isText(when) && isBook ? { name, when, book: plainBook(book) } : null;
+    const { version, name, when, book: kept } = JSON.parse(text);
+    const book = plainBook(kept);
+    return version === 1 && isText(name) && isText(when) && isBook(book) ? { name, when, book } : null;
   } catch {
     return null;
   }
 }
 
-/** The texts of a draft's book and no more. */
-function plainBook({ marks, tolerance, held, lines }) {
+/** The texts of a draft's book and no more. One that was kept before there were classes is of version 1. */
+function plainBook({ version = '1', marks, tolerance, held, lines }) {
   return {
+    version,
     marks,
     tolerance,
     held: held.map(({ mark, height }) => ({ mark, height })),
-    lines: lines.map(({ from, to, difference, length, standing }) => ({ from, to, difference, length, standing })),
+    lines: lines.map(({ from, to, difference, length, class: itsClass = '', standing }) =>
+      ({ from, to, difference, length, class: itsClass, standing })),
   };
 }
 

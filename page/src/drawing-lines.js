@@ -1,7 +1,7 @@
 // The lines in the picture, with arrows and labels. A line that is not checked is loudest, and its label is never left out.
 import { cellOf, groups } from './book.js';
 import { shownText } from './cells.js';
-import { count } from './core.js';
+import { LINE, count } from './core.js';
 import { draw } from './dom.js';
 import { RADIUS, at, fixed } from './drawing-pen.js';
 import { along, bowBetween, centreOf, distance, meet } from './geometry.js';
@@ -20,7 +20,7 @@ const curve = ([p, pull, q]) => `M${at(p)}Q${at(pull)} ${at(q)}`;
  */
 export function drawable({ done, numbers }, most) {
   const marks = Math.max(0, Math.min(count(numbers.marks), most));
-  const lines = groups(numbers.lines, 5).map((line, row) => {
+  const lines = groups(numbers.lines, LINE).map((line, row) => {
     const [from, to, , length] = Array.from(line, count);
     return { row, from: from - 1, to: to - 1, length: Math.max(10, Math.min(100_000, length)) };
   }).filter(({ from, to }) => from >= 0 && to >= 0 && from < marks && to < marks && from !== to);

@@ -1,11 +1,15 @@
-// The panel of the book: marks, tolerance, held marks and lines. Rows stay, and only what differs is written into them, so that
+// The panel of the book: marks, version, tolerance, held marks and lines. Rows stay, and only what differs is written into them, so that
 // neither typing nor focus is ever lost.
-import { TABLES, cellName, cellOf, decimalsOf, sameCell, textAt, withCell, withoutRow } from './book.js';
+import {
+  TABLES, cellName, cellOf, columnsOf, decimalsOf, hasClasses, sameCell, textAt, withCell, withVersion, withoutRow,
+} from './book.js';
 import { fieldOf, finest, rowIndex, shownText } from './cells.js';
 import { chosen, onChoice } from './choice.js';
+import { lineCount } from './core.js';
 import { edit, present } from './desk.js';
 import { button, byId, chip, make, refill, setText } from './dom.js';
 import { openCorrection } from './correction.js';
+import { tell, undoHere } from './notice.js';
 import { wrongCells } from './results.js';
 
 const LOOPS_NAMED = 4;
@@ -19,8 +23,8 @@ const field = cell => make('input', {
   'aria-label': cellName(cell),
 });
 
-function makeRow(table, row) {
-  const cells = TABLES[table].columns.map(({ key }) => make('td', { class: key }, field(cellOf(table, row, key))));
+function makeRow(book, table, row) {
+  const cells = columnsOf(book, table).map(({ key }) => make('td', { class: key }, field(cellOf(table, row, key))));
   const [state, chips, acts] = ['state', 'chips', 'acts'].map(kind => make('span', { class: kind }));
   if (table === 'held') return make('tr', { 'data-row': row }, cells, make('td', { class: 'act' }, acts, state, chips));
   const number = make('td', { class: 'number' }, String(row + 1));
@@ -28,13 +32,14 @@ function makeRow(table, row) {
   return make('tr', { 'data-row': row }, number, cells, checkedBy, make('td', { class: 'act' }, acts));
 }
 
-/** As many rows as the book has, and an empty one, as long as there may be more. */
-function rowsOf(table, many) {
+/** As many rows as the book has, and an empty one, as long as there may be more. Another version has rows of its own. */
+function rowsOf(book, table) {
   const body = byId(table);
   const rows = [...body.querySelectorAll('tr[data-row]')];
-  const wanted = Math.min(TABLES[table].most, many + 1);
-  rows.splice(wanted).forEach(row => row.remove());
-  const added = Array.from({ length: wanted - rows.length }, (_, i) => makeRow(table, rows.length + i));
+  const wanted = Math.min(TABLES[table].most, book[table].length + 1);
+  rows.splice(body.dataset.version === book.version ? wanted : 0).forEach(row => row.remove());
+  body.dataset.version = book.version;
+  const added = Array.from({ length: wanted - rows.length }, (_, i) => makeRow(book, table, rows.length + i));
   body.append(...added);
   return [...rows, ...added];
 }
@@ -50,7 +55,7 @@ function checkedWords({ done, checkedBy }, row) {
 function lineState({ book, results, log }, row) {
   const line = book.lines[row];
   if (!line) return { look: 'waiting' };
-  if (row >= results.numbers.lines.length / 5) return { look: 'waiting', words: 'not complete' };
+  if (row >= lineCount(results.numbers)) return { look: 'waiting', words: 'not complete' };
   if (!line.standing) return { look: 'withdrawn', chips: [['withdrawn', 'withdrawn']] };
   const isOpen = results.done && results.notChecked.includes(row + 1);
   const chips = [...(isOpen ? [['unchecked', 'NOT CHECKED']] : [])];
@@ -73,11 +78,13 @@ const removeButton = row => button('Remove', () => edit(withoutRow(present().boo
   'class': 'remove', 'tabindex': -1, 'aria-label': `Remove held entry ${row + 1}`,
 });
 
-function writeField(step, cell, input, wrong) {
+/** What is locked can still be mended. */
+function writeField(step, cell, input, wrong, isLocked = false) {
   const text = shownText(step.book, cell);
   if (input.value !== text) input.value = text;
   input.dataset.was = text;
   const isWrong = wrong.some(each => sameCell(each, cell));
+  input.disabled = isLocked && !isWrong;
   input.setAttribute('aria-invalid', isWrong);
   input.parentNode.classList.toggle('wrong', isWrong);
 }
@@ -97,8 +104,7 @@ function writeCells(step, table, element, look, wrong) {
   if (element.signature === signature) return;
   element.signature = signature;
   for (const input of element.querySelectorAll('input')) {
-    writeField(step, cellOf(table, row, input.dataset.column), input, wrong);
-    input.disabled = look === 'withdrawn';
+    writeField(step, cellOf(table, row, input.dataset.column), input, wrong, look === 'withdrawn');
   }
   element.className = look + (table === 'lines' && chosen.line === row ? ' chosen' : '');
 }
@@ -108,17 +114,27 @@ const placesOf = (book, table) => TABLES[table].columns.map(({ key, decimals }) 
 function showTable(step, table) {
   const stateOf = table === 'lines' ? lineState : heldState;
   const wrong = wrongCells(step.results).filter(cell => cell.table === table);
-  rowsOf(table, step.book[table].length).forEach((element, row) => {
+  rowsOf(step.book, table).forEach((element, row) => {
     const state = stateOf(step, row);
     writeCells(step, table, element, state.look, wrong.filter(cell => cell.row === row));
     writeState(table, element, state);
   });
 }
 
-export function showEntry(step) {
+/** The head of the book. Where lines have classes the tolerance is 0, and not for the user to set. */
+function showHead(step) {
   const wrong = wrongCells(step.results).filter(cell => cell.table === 'head');
-  for (const key of ['marks', 'tolerance']) writeField(step, cellOf('head', 0, key), byId(key), wrong);
+  const areClasses = hasClasses(step.book);
+  byId('version').value = step.book.version;
+  byId('book').classList.toggle('classes', areClasses);
+  for (const key of ['marks', 'tolerance']) {
+    writeField(step, cellOf('head', 0, key), byId(key), wrong, areClasses && key === 'tolerance');
+  }
   byId('marks').placeholder = step.book.marks === '' ? String(step.results.numbers.marks) : '';
+}
+
+export function showEntry(step) {
+  showHead(step);
   showTable(step, 'held');
   showTable(step, 'lines');
 }
@@ -131,7 +147,15 @@ export function takeCell(cell, text) {
   else writeField(present(), cell, fieldOf(cell), wrongCells(present().results));
 }
 
+/** Makes the book one of the version that is chosen. */
+function takeVersion() {
+  const book = withVersion(present().book, byId('version').value);
+  edit(book);
+  if (hasClasses(book) && book.lines.some(line => line.class === '')) tell('Now each line needs its class, 0 to 4. ', undoHere());
+}
+
 export function wireEntry() {
+  byId('version').addEventListener('change', takeVersion);
   onChoice(before => {
     const rows = byId('lines').querySelectorAll('tr[data-row]');
     if (rows[before.line]) rows[before.line].classList.remove('chosen');

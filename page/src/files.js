@@ -1,6 +1,6 @@
 // Opening and saving book files. A refused file never replaces the book that is open.
-import { bookOf } from './book.js';
-import { CoreStopped, count } from './core.js';
+import { bookOf, groups, hasClasses } from './book.js';
+import { CoreStopped, LINE, count, lineCount } from './core.js';
 import { chooseNothing } from './choice.js';
 import { isSaved, openBook, present, setSaved, theCore } from './desk.js';
 import { button, byId, make } from './dom.js';
@@ -20,12 +20,20 @@ export const cleanName = name => name.replace(NOT_IN_NAMES, ' ').trim();
 /** What is wrong with a refused file. */
 const fileWords = (number, place) => ({ 6: `Held entry ${place} is wrong.`, 7: `Line ${place} is wrong.`, ...FILE_WORDS })[number];
 
+/** A line that neither stands nor is withdrawn is shown as withdrawn, and there is no cell for that: so it is said. */
+function tellDoubtful({ lines }) {
+  const doubtful = groups(lines, LINE).flatMap(([, , , , standing], i) => (standing === 0n || standing === 1n ? [] : [i + 1]));
+  if (doubtful.length > 0) tell(`In the file ${named('line', doubtful)} neither stood nor was withdrawn. Shown as withdrawn.`);
+}
+
 /** The entries of a refused file can be shown, so that their cells can be mended. */
 function showButton(name, bytes) {
   return button('Show it, to mend it', () => {
+    const numbers = numbersIn(bytes);
     chooseNothing();
-    openBook(`${name} mended`, bookOf(numbersIn(bytes)), false);
+    openBook(`${name} mended`, bookOf(numbers), false);
     hush();
+    tellDoubtful(numbers);
   }, { id: 'show-it' });
 }
 
@@ -61,7 +69,7 @@ const sameNumbers = (p, q) => p.length === q.length && p.every((each, i) => each
 /** Whether the core reads the same book back. */
 function readsBack(numbers, bytes) {
   const { number, numbers: back } = theCore().read(bytes);
-  return number === 0 && back.marks === numbers.marks && back.tolerance === numbers.tolerance
+  return number === 0 && ['version', 'marks', 'tolerance'].every(key => back[key] === numbers[key])
     && sameNumbers(back.held, numbers.held) && sameNumbers(back.lines, numbers.lines);
 }
 
@@ -69,9 +77,9 @@ function readsBack(numbers, bytes) {
 function whyNot({ book, results }) {
   if (!results.done) return 'A file holds only a book that is right. What is wrong stands above the book.';
   const gone = book.lines.flatMap((line, i) => (line.standing ? [] : [i + 1]));
-  if (gone.length === 0) return '';
+  if (gone.length === 0 || hasClasses(book)) return '';
   return `A version 1 file cannot say that a line is withdrawn, and this book has ${named('line', gone, ', ')} withdrawn. `
-    + 'Print the report, or undo the withdrawal.';
+    + 'Print the report, undo the withdrawal, or make it a book of version 2, with a class for each line.';
 }
 
 function download(name, bytes) {
@@ -93,7 +101,7 @@ export function saveFile() {
   const name = (step.name || 'level') + ENDING;
   download(name, bytes);
   setSaved();
-  const n = numbers.lines.length / 5;
+  const n = lineCount(numbers);
   const open = step.book.lines.length > n ? ` Line ${n + 1} is not complete and is not in the file.` : '';
   tell('Saved as ', strong(name), `, ${bytes.length} bytes.${open}`);
 }

@@ -1,5 +1,5 @@
 // The book at a glance: tiles, and what is not watched first of them.
-import { count } from './core.js';
+import { count, lineCount } from './core.js';
 import { sinceStart } from './desk.js';
 import { byId, make, refill } from './dom.js';
 import { tallyText } from './since.js';
@@ -33,7 +33,7 @@ function loopsTile({ loops }) {
 
 function linesTile({ book, results }) {
   const { numbers, notChecked, pieces } = results;
-  const many = numbers.lines.length / 5;
+  const many = lineCount(numbers);
   const withdrawn = book.lines.filter(line => !line.standing).length;
   const lines = plural(many, 'line') + (withdrawn > 0 ? `, ${withdrawn} withdrawn` : '');
   const network = `${plural(count(numbers.marks), 'mark')}, ${plural(pieces, 'piece')}`;

@@ -1,7 +1,7 @@
 // The panel of the adjusted heights, corrections and rates.
-import { cellOf, groups } from './book.js';
+import { cellOf, groups, hasClasses } from './book.js';
 import { goTo } from './cells.js';
-import { count } from './core.js';
+import { LINE, NO_CLASS, count } from './core.js';
 import { edit, present, sinceStart } from './desk.js';
 import { button, byId, chip, fill, make, none, paler, tableHead } from './dom.js';
 import { whenSeen } from './insight.js';
@@ -57,13 +57,14 @@ function lineResult(standing, rate) {
   ];
 }
 
-const lineRow = ([from, to, difference, length, standing], i, rates) => make('tr', {},
+const lineRow = ([from, to, difference, length, standing, itsClass], i, rates) => make('tr', {},
   cell('Line', String(i + 1)), cell('From', String(from)), cell('To', String(to)), cell('Observed m', paler(metres(difference))),
-  cell('Length m', String(length)), lineResult(standing, rates && rates[i]));
+  cell('Length m', String(length)), itsClass !== NO_CLASS && cell('Class', String(itsClass)), lineResult(standing, rates && rates[i]));
 
-function linesTable({ numbers, rates }) {
-  const head = tableHead('Line', 'From', 'To', ['Observed', 'm'], ['Length', 'm'], ['Correction', 'mm'], ['Rate', 'mm/km']);
-  const rows = groups(numbers.lines, 5).map((line, i) => lineRow(line, i, rates));
+function linesTable({ book, results: { numbers, rates } }) {
+  const head = tableHead('Line', 'From', 'To', ['Observed', 'm'], ['Length', 'm'], ...(hasClasses(book) ? ['Class'] : []),
+    ['Correction', 'mm'], ['Rate', 'mm/km']);
+  const rows = groups(numbers.lines, LINE).map((line, i) => lineRow(line, i, rates));
   // Without heights the lines are still wanted on paper, where the book's own table is not.
   return make('table', { class: rates ? 'stacked' : 'stacked paper-only' }, head, make('tbody', {}, rows));
 }
@@ -77,7 +78,7 @@ function writeHeights(step) {
   const comparison = sinceStart();
   const isRefused = results.adjusted.number !== 0;
   fill(byId('heights-box'), isRefused ? refusedBox(results.adjusted) : settledWords(results.adjusted, comparison),
-    make('div', { class: 'beside' }, !isRefused && marksTable(step, comparison), linesTable(results)));
+    make('div', { class: 'beside' }, !isRefused && marksTable(step, comparison), linesTable(step)));
 }
 
 const panel = whenSeen('heights', writeHeights);

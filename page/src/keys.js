@@ -1,5 +1,5 @@
 // The keyboard and the clipboard: moving through cells, correcting, undoing, pasting.
-import { TABLES, cellOf, pasted } from './book.js';
+import { TABLES, cellOf, columnsOf, pasted } from './book.js';
 import { cellAt, fieldOf, goTo } from './cells.js';
 import { choose } from './choice.js';
 import { cancelCorrection, correctedLine, openCorrection } from './correction.js';
@@ -46,7 +46,7 @@ const ALWAYS = {
 
 /** Down the column; from the last column to the next row's first. */
 function enter({ table, row, column }) {
-  const { columns } = TABLES[table];
+  const columns = columnsOf(present().book, table);
   const at = columns.findIndex(each => each.key === column);
   if (at === columns.length - 1) return goTo(cellOf(table, row + 1, columns[0].key));
   return goTo(cellOf(table, row + 1, column)) || goTo(cellOf(table, row, columns[at + 1].key));
@@ -56,7 +56,7 @@ function enter({ table, row, column }) {
 function beside({ table, row, column }, field, by) {
   const edge = by < 0 ? 0 : field.value.length;
   if (field.selectionStart !== edge || field.selectionEnd !== edge) return false;
-  const { columns } = TABLES[table];
+  const columns = columnsOf(present().book, table);
   const next = columns[columns.findIndex(each => each.key === column) + by];
   return next !== undefined && goTo(cellOf(table, row, next.key));
 }

@@ -1,7 +1,7 @@
 // All results of a book, as the core gives them.
 import { allowedFor } from './allowed.js';
 import { readBook } from './book.js';
-import { CoreStopped, count } from './core.js';
+import { CoreStopped, LINE, count, lineCount } from './core.js';
 import { explained, takesMarks } from './refusals.js';
 
 const KEPT = 40;
@@ -9,17 +9,17 @@ const keptLists = new Map();
 
 /** As many marks as lines and held marks name: the highest that the core takes as a count of marks, or 1. */
 function namedMarks(core, { held, lines }) {
-  const named = [...held.filter((_, i) => i % 2 === 0), ...lines.filter((_, i) => i % 5 < 2)];
+  const named = [...held.filter((_, i) => i % 2 === 0), ...lines.filter((_, i) => i % LINE < 2)];
   const falling = [...new Set(named)].sort((p, q) => (p < q ? 1 : -1));
   return falling.find(mark => takesMarks(core, mark)) ?? 1n;
 }
 
 /**
- * The lines of each loop. No path depends on a difference, so that lists are kept by all else, and a re-run lists nothing
+ * The lines of each loop. No path depends on a difference or a class, so that lists are kept by all else, and a re-run lists nothing
  * anew.
  */
 function listsOf(core, numbers, loops) {
-  const key = `${numbers.marks}|${numbers.lines.filter((_, i) => i % 5 !== 2).join()}`;
+  const key = `${numbers.marks}|${numbers.lines.filter((_, i) => ![2, 5].includes(i % LINE)).join()}`;
   if (!keptLists.has(key)) {
     if (keptLists.size >= KEPT) keptLists.delete(keptLists.keys().next().value);
     const { list } = core.listings(numbers);
@@ -30,7 +30,7 @@ function listsOf(core, numbers, loops) {
 }
 
 /** The numbers of a line, from 0. */
-const lineOf = (numbers, row) => numbers.lines.subarray(5 * row, 5 * row + 5);
+const lineOf = (numbers, row) => numbers.lines.subarray(LINE * row, LINE * row + LINE);
 
 /** A line's row, of its number with the sense in which a loop runs it. */
 export const rowOf = line => (line < 0 ? -line : line) - 1;
@@ -47,8 +47,11 @@ function listedLoops(core, numbers, report) {
   const lists = listsOf(core, numbers, loops);
   return loops.map((loop, i) => {
     const lines = lists[i];
-    const lengths = lines.map(line => lineOf(numbers, rowOf(line))[3]);
-    return { ...loop, lines, allowed: allowedFor(core, numbers.tolerance, lengths) };
+    const sides = lines.map(line => {
+      const [, , , length, , itsClass] = lineOf(numbers, rowOf(line));
+      return [length, itsClass];
+    });
+    return { ...loop, lines, allowed: allowedFor(core, numbers, sides) };
   });
 }
 
@@ -68,7 +71,7 @@ function worked(core, numbers, { report, pieces }) {
     report,
     pieces,
     loops,
-    checkedBy: checkedBy(loops, numbers.lines.length / 5),
+    checkedBy: checkedBy(loops, lineCount(numbers)),
     notChecked: core.notChecked(numbers).list,
     adjusted,
     rates: adjusted.number === 0 ? core.rates(numbers, adjusted.heights) : null,

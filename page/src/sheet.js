@@ -1,7 +1,7 @@
-// The report as text: what the report program, the sketch program and the heights program print for this book. They cannot be told of
-// withdrawn lines; the page shows those too.
+// The report as text: what the report program, the sketch program and the heights program print for this book. A version 1 file cannot
+// tell them of withdrawn lines; the page shows those too.
 import { groups } from './book.js';
-import { count } from './core.js';
+import { count, lineCount } from './core.js';
 import { present } from './desk.js';
 import { byId } from './dom.js';
 import { sketchOf } from './junctions.js';
@@ -18,8 +18,8 @@ function reportText({ done, faults, stopped, refusal, numbers, pieces, loops, no
   if (stopped) return STOPPED;
   if (!done) return faults.length > 0 ? 'CANNOT BE READ\n' : `REFUSED ${refusal.number} AT ${refusal.place}\n`;
   return [
-    'LEVEL BOOK 1',
-    `MARKS ${numbers.marks} LINES ${numbers.lines.length / 5} PIECES ${pieces} LOOPS ${loops.length}`,
+    `LEVEL BOOK ${numbers.version}`,
+    `MARKS ${numbers.marks} LINES ${lineCount(numbers)} PIECES ${pieces} LOOPS ${loops.length}`,
     ...loops.map(({ length, misclosure, over, lines }, i) =>
       `LOOP ${i + 1} LENGTH ${length} MISCLOSURE ${misclosure} ${over ? 'OVER' : 'WITHIN'}: ${lines.join(' ')}`),
     `NOT CHECKED ${notChecked.length}:${notChecked.map(line => ` ${line}`).join('')}`,
@@ -37,7 +37,7 @@ function sketchText(results) {
   const rest = (word, { length, difference, lines }) => `LENGTH ${length} ${word} ${difference}: ${lines.join(' ')}`;
   return [
     'JUNCTION SKETCH',
-    `MARKS ${numbers.marks} LINES ${numbers.lines.length / 5} LINKS ${links.length} SPURS ${spurs.length} LOOPS ${loops.length}`,
+    `MARKS ${numbers.marks} LINES ${lineCount(numbers)} LINKS ${links.length} SPURS ${spurs.length} LOOPS ${loops.length}`,
     ...links.map(link => `LINK ${link.first} ${link.last} ${rest('DIFFERENCE', link)}`),
     ...spurs.map(spur => `SPUR ${spur.first} ${rest('DIFFERENCE', spur)}`),
     ...loops.map(loop => `LOOP ${loop.first} ${rest('MISCLOSURE', loop)}`),
@@ -58,7 +58,7 @@ function heightsText({ done, numbers, adjusted, rates }) {
   const held = new Set(groups(numbers.held, 2).map(([mark]) => count(mark)));
   return [
     'ADJUSTED HEIGHTS',
-    `MARKS ${numbers.marks} LINES ${numbers.lines.length / 5} HELD ${held.size} SWEEPS ${sweeps}`,
+    `MARKS ${numbers.marks} LINES ${lineCount(numbers)} HELD ${held.size} SWEEPS ${sweeps}`,
     'MARK      HEIGHT m',
     ...Array.from(heights, (height, i) => markText(height, i + 1, held)),
     'LINE CORRECTION mm   RATE mm/km',
