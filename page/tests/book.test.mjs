@@ -2,17 +2,58 @@
 import assert from 'node:assert/strict';
 import { readFileSync } from 'node:fs';
 import { test } from 'node:test';
-import { bookOf, cellName, cellOf, emptyBook, faultWords, pasted, readBook, sameBook, withCell, withoutRow } from '../src/book.js';
-import { numbersIn, fileBytes } from '../src/file.js';
+import {
+  bookOf, cellName, cellOf, emptyBook, faultWords, pasted, readBook, sameBook, withCell, withVersion, withoutRow,
+} from '../src/book.js';
+import { fileBytes, numbersIn } from '../src/file.js';
 
-const WORKED = new Uint8Array(readFileSync(new URL('../../books/worked.book', import.meta.url)));
-const line = (from, to, difference, length, standing = true) => ({ from, to, difference, length, standing });
+const stored = name => new Uint8Array(readFileSync(new URL(`../../books/${name}.book`, import.meta.url)));
+const WORKED = stored('worked');
+const THREE_CLASSES = stored('three_classes');
+const line = (from, to, difference, length, standing = true, itsClass = '') =>
+  ({ from, to, difference, length, class: itsClass, standing });
 const worked = () => bookOf(numbersIn(WORKED));
+const classed = () => bookOf(numbersIn(THREE_CLASSES));
+const lineFaults = book => readBook(book).faults.map(faultWords);
 
-test('a file is the same after its texts were read back', () => {
-  const { numbers, faults } = readBook(worked());
-  assert.deepEqual(faults, []);
-  assert.deepEqual(fileBytes(numbers), WORKED);
+test('a file of either version is the same after its texts were read back', () => {
+  for (const file of [WORKED, THREE_CLASSES]) {
+    const { numbers, faults } = readBook(bookOf(numbersIn(file)));
+    assert.deepEqual(faults, []);
+    assert.deepEqual(fileBytes(numbers), file);
+  }
+});
+
+test('a line of version 2 has its class and its standing, one of version 1 has no class', () => {
+  const { version, tolerance, lines } = classed();
+  assert.deepEqual([version, tolerance], ['2', '0.0']);
+  assert.deepEqual(lines.map(each => each.class), ['0', '0', '0', '2', '4', '4', '2', '4']);
+  assert.deepEqual(lines.map(each => each.standing), [true, true, true, true, true, true, true, false]);
+  assert.deepEqual(readBook(classed()).numbers.lines.slice(-6), BigInt64Array.of(6n, 4n, 367_800n, 610n, 0n, 4n));
+  assert.deepEqual(readBook(worked()).numbers.lines.slice(0, 6), BigInt64Array.of(1n, 3n, 6_345_000n, 1600n, 1n, -1n));
+  assert.deepEqual([...new Set(worked().lines.map(each => each.class))], ['']);
+});
+
+test('a book that is made one of version 2 needs a class for each line, and as one of version 1 is as it was', () => {
+  const book = withVersion(worked(), '2');
+  assert.equal(book.tolerance, '0.0');
+  assert.deepEqual(lineFaults(book), [1, 2, 3, 4, 5, 6].map(row => `Line ${row}: the class is empty`));
+  const filled = book.lines.reduce((all, _, row) => withCell(all, cellOf('lines', row, 'class'), ' 04 '), book);
+  assert.deepEqual(lineFaults(filled), []);
+  assert.deepEqual(readBook(filled).numbers.lines.filter((_, i) => i % 6 === 5), new BigInt64Array(7).fill(4n));
+  const back = withVersion(filled, '1');
+  assert.deepEqual(readBook(back).numbers, readBook(worked()).numbers);
+  assert.deepEqual(withVersion(back, '2'), filled);
+  assert.deepEqual(lineFaults(withCell(filled, cellOf('lines', 2, 'class'), '1.5')),
+    ['Line 3: the class must be a whole number, without point or comma: “1.5”']);
+});
+
+test('a withdrawn line keeps its place, even the last one without a class', () => {
+  const book = worked();
+  book.lines[6] = { ...book.lines[6], standing: false };
+  const { numbers, faults } = readBook(withVersion(book, '2'));
+  assert.equal(numbers.lines.length, 42);
+  assert.equal(faults.length, 7);
 });
 
 test('a cell is taken in its plain form, or as it was typed', () => {
@@ -27,8 +68,15 @@ test('a last row that is not full is not in the book', () => {
   const book = withCell(worked(), cellOf('lines', 7, 'from'), '1');
   assert.equal(book.lines.length, 8);
   const { numbers, faults } = readBook(book);
-  assert.equal(numbers.lines.length, 35);
+  assert.equal(numbers.lines.length, 42);
   assert.deepEqual(faults, []);
+});
+
+test('in version 2 a last row without its class is not in the book', () => {
+  const cells = Object.entries({ from: '1', to: '2', difference: '2', length: '900' });
+  const book = cells.reduce((all, [key, text]) => withCell(all, cellOf('lines', 8, key), text), classed());
+  assert.equal(readBook(book).numbers.lines.length, 48);
+  assert.equal(readBook(withCell(book, cellOf('lines', 8, 'class'), '3')).numbers.lines.length, 54);
 });
 
 test('a text that cannot be read is a fault even in a row that is not full', () => {
@@ -57,6 +105,16 @@ test('cells are pasted in the forms that programs copy', () => {
   }
 });
 
+test('cells of version 2 are pasted with their class, with the number of the line in front or without', () => {
+  const empty = withVersion(emptyBook(), '2');
+  for (const text of ['1;2;1,5;100;0\n2;1;-1,5;100;4', '1\t1\t2\t1.5\t100\t0\n2\t2\t1\t-1.5\t100\t4']) {
+    const { book } = pasted(empty, cellOf('lines', 0, 'from'), text);
+    assert.deepEqual(book.lines, [line('1', '2', '1.500', '100', true, '0'), line('2', '1', '-1.500', '100', true, '4')], text);
+  }
+  const { book, beyond } = pasted(classed(), cellOf('lines', 0, 'class'), '1\n2\t7');
+  assert.deepEqual([book.lines[0].class, book.lines[1].class, beyond], ['1', '2', 1]);
+});
+
 test('what does not fit is left out and counted; a withdrawn line is not written over', () => {
   const rows = Array.from({ length: 514 }, () => '1\t2\t0.5\t700').join('\n');
   const { book, taken, left } = pasted(emptyBook(), cellOf('lines', 0, 'from'), rows);
@@ -71,7 +129,7 @@ test('what does not fit is left out and counted; a withdrawn line is not written
 test('withdrawn lines keep their place, and books are compared by their texts', () => {
   const book = worked();
   book.lines[2] = { ...book.lines[2], standing: false };
-  assert.equal(readBook(book).numbers.lines[14], 0n);
+  assert.equal(readBook(book).numbers.lines[16], 0n);
   assert.ok(sameBook(worked(), worked()));
   assert.ok(!sameBook(book, worked()));
 });

@@ -15,16 +15,17 @@ const memorandum = core.read(file('books/memorandum_network.book')).numbers;
 
 /** A book of lines [from, to], [from, to, difference] or [from, to, difference, length]; 0 and 100 m unless they are given. */
 const numbersOf = (marks, lines) => ({
+  version: 1n,
   marks: BigInt(marks),
   tolerance: 80n,
   held: new BigInt64Array(),
-  lines: BigInt64Array.from(lines.flatMap(([from, to, difference = 0, length = 100]) => [from, to, difference, length, 1]), BigInt),
+  lines: BigInt64Array.from(lines.flatMap(([from, to, difference = 0, length = 100]) => [from, to, difference, length, 1, -1]), BigInt),
 });
 
 /** The book with another number in a line's place: its difference is the third, its standing the fifth. */
 const changed = (numbers, line, place, number) => {
   const lines = numbers.lines.slice();
-  lines[5 * (line - 1) + place - 1] = number;
+  lines[6 * (line - 1) + place - 1] = number;
   return { ...numbers, lines };
 };
 

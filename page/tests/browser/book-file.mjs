@@ -1,14 +1,15 @@
-// Books as tables of whole numbers, and the bytes of their files (version 1). A table has tolerance, marks,
-// held [[mark, height], ..] and lines [[from, to, difference, length], ..], in the units of the file.
+// Books as tables of whole numbers, and the bytes of their files. A table has version (1 where it is not there), tolerance,
+// marks, held [[mark, height], ..] and lines [[from, to, difference, length], ..], in the units of the file; a line of
+// version 2 has class and standing behind.
 
 const HEAD = 13;
 const HELD_ENTRY = 10;
-const LINE = 12;
+const LINE = { 1: 12, 2: 14 };
 
-export function bytesOf({ tolerance, marks, held, lines }) {
-  const bytes = Buffer.alloc(HEAD + HELD_ENTRY * held.length + LINE * lines.length);
+export function bytesOf({ version = 1, tolerance, marks, held, lines }) {
+  const bytes = Buffer.alloc(HEAD + HELD_ENTRY * held.length + LINE[version] * lines.length);
   bytes.writeUInt32BE(bytes.length, 0);
-  bytes.writeUInt8(1, 4);
+  bytes.writeUInt8(version, 4);
   [tolerance, marks, held.length, lines.length].forEach((count, place) => bytes.writeUInt16BE(count, 5 + 2 * place));
   let at = HEAD;
   for (const [mark, height] of held) {
@@ -16,17 +17,19 @@ export function bytesOf({ tolerance, marks, held, lines }) {
     bytes.writeBigInt64BE(BigInt(height), at + 2);
     at += HELD_ENTRY;
   }
-  for (const [from, to, difference, length] of lines) {
+  for (const [from, to, difference, length, ...more] of lines) {
     bytes.writeUInt16BE(from, at);
     bytes.writeUInt16BE(to, at + 2);
     bytes.writeInt32BE(difference, at + 4);
     bytes.writeUInt32BE(length, at + 8);
-    at += LINE;
+    bytes.set(more, at + 12);
+    at += LINE[version];
   }
   return bytes;
 }
 
 export function tableOf(bytes) {
+  const version = bytes[4];
   const [tolerance, marks, heldCount, lineCount] = [5, 7, 9, 11].map(at => bytes.readUInt16BE(at));
   const linesAt = HEAD + HELD_ENTRY * heldCount;
   const held = Array.from({ length: heldCount }, (_, row) => {
@@ -34,10 +37,13 @@ export function tableOf(bytes) {
     return [bytes.readUInt16BE(at), Number(bytes.readBigInt64BE(at + 2))];
   });
   const lines = Array.from({ length: lineCount }, (_, row) => {
-    const at = linesAt + LINE * row;
-    return [bytes.readUInt16BE(at), bytes.readUInt16BE(at + 2), bytes.readInt32BE(at + 4), bytes.readUInt32BE(at + 8)];
+    const at = linesAt + LINE[version] * row;
+    const more = bytes.subarray(at + 12, at + LINE[version]);
+    return [
+      bytes.readUInt16BE(at), bytes.readUInt16BE(at + 2), bytes.readInt32BE(at + 4), bytes.readUInt32BE(at + 8), ...more,
+    ];
   });
-  return { tolerance, marks, held, lines };
+  return { version, tolerance, marks, held, lines };
 }
 
 /**

@@ -7,7 +7,7 @@ import { TOP } from './tools.mjs';
 
 const STORED = [
   'worked', 'memorandum_figure', 'memorandum_network', 'past_the_last_junction', 'two_pieces', 'parallel_lines',
-  'damaged',
+  'three_classes', 'damaged',
 ];
 const MOST_MARKS = 256;
 const MOST_LINES = 512;
@@ -40,7 +40,16 @@ const MADE = {
   ring256: () => ring(MOST_MARKS),
   free_tails: freeTails,
   city256: city,
+  classes25: () => withClasses(town(25, 5)),
+  // As long as a file can be: 9,741 bytes.
+  classes_full: () => withClasses(fullRing(1)),
 };
+
+/** The same network as a book of version 2: classes by turns, and every ninth line withdrawn. */
+function withClasses(table) {
+  const lines = table.lines.map((line, row) => [...line, row % 5, row % 9 === 8 ? 0 : 1]);
+  return { ...table, version: 2, tolerance: 0, lines };
+}
 
 const pairs = (count, ends) => Array.from({ length: count }, (_, row) => ends(row + 1));
 
@@ -57,7 +66,7 @@ function levelled(marks, ends, seed, { lengthOf = null, heldEach = marks } = {})
     return [from, to, heights[to - 1] - heights[from - 1] + error, length];
   });
   const held = pairs(marks, mark => [mark, 100_000_000 + heights[mark - 1] - heights[0]]);
-  return { tolerance: 80, marks, held: held.filter(([mark]) => mark % heldEach === 1), lines };
+  return { tolerance: 80, marks, held: held.filter(([mark]) => (mark - 1) % heldEach === 0), lines };
 }
 
 /** Marks as in a town: each is joined to the nearest earlier one, and about as many again to other near ones. */

@@ -12,7 +12,7 @@ export const lineCell = (line, column) => `#lines tr[data-row="${line - 1}"] inp
 /** The selector of a held entry's cell; entries count from 1. */
 export const heldCell = (entry, column) => `#held tr[data-row="${entry - 1}"] input[data-column="${column}"]`;
 
-const LINE_COLUMNS = ['from', 'to', 'difference', 'length'];
+const LINE_COLUMNS = ['from', 'to', 'difference', 'length', 'class'];
 
 /** Opens the page in a storage of its own. options: width, height, mobile; before, a script to run before its own. */
 export async function openDesk(browser, { file = PAGE, ...options } = {}) {
@@ -100,9 +100,12 @@ export class Desk {
   }
 
   async writeLine(line, values) {
-    for (const [place, column] of LINE_COLUMNS.entries()) {
-      await this.write(lineCell(line, column), String(values[place]));
-    }
+    for (const [place, value] of values.entries()) await this.write(lineCell(line, LINE_COLUMNS[place]), String(value));
+  }
+
+  /** Makes the shown book one of this version, '1' or '2'. */
+  async chooseVersion(version) {
+    await this.write('#version', version);
   }
 
   async paste(selector, text) {
@@ -290,11 +293,17 @@ function tableShown(book) {
     return typed.at(-1)?.cells.includes('') ? typed.slice(0, -1) : typed;
   };
   const lines = complete(book.lines);
+  const version = Number(book.version);
+  const standing = row => (version === 2 ? [row.standing ? 1 : 0] : []);
   const table = {
+    version,
     tolerance: whole(book.tolerance, 1),
     marks: Number(book.marks),
     held: complete(book.held).map(({ cells: [mark, height] }) => [Number(mark), whole(height, 6)]),
-    lines: lines.map(({ cells: [from, to, difference, length] }) => [+from, +to, whole(difference, 6), +length]),
+    lines: lines.map(row => {
+      const [from, to, difference, length, ...more] = row.cells;
+      return [+from, +to, whole(difference, 6), +length, ...more.map(Number), ...standing(row)];
+    }),
   };
   return { table, standing: lines.map(row => row.standing) };
 }

@@ -41,6 +41,11 @@ const STATES = {
     await desk.sketchPanel();
     await desk.press('#sketch-box tr[data-entry="2"]');
   },
+  'classes': opened('three_classes'),
+  'class-refused': async desk => {
+    await desk.openBook(book('three_classes'), 'three_classes.book');
+    await desk.write(lineCell(2, 'class'), '5');
+  },
   'two-pieces': opened('two_pieces'),
   'parallel-lines': opened('parallel_lines'),
   'free-tails': opened('free_tails'),
@@ -81,7 +86,7 @@ async function showWhole(desk, screen) {
 }
 
 async function takePaper(browser, file, folder) {
-  for (const name of ['first', 'withdrawn', 'not-checked', 'sketch', 'town-60', 'empty']) {
+  for (const name of ['first', 'withdrawn', 'not-checked', 'classes', 'sketch', 'town-60', 'empty']) {
     const desk = await openDesk(browser, { file, before: 'window.print = () => {};' });
     await STATES[name](desk);
     drawPaper(await desk.page.pdf(), path.join(folder, `paper-${name}`));

@@ -77,11 +77,13 @@ function run(program, bytes) {
 }
 
 /**
- * The programs cannot be told of withdrawn lines, but loops, paths, sketch and heights go by marks and by the order of
- * the lines that stand, not by their numbers. So what is printed of a book with withdrawn lines is that of the book
- * without them, with the old numbers put back. table: as in book-file.mjs; standing: true or false for each line
+ * A file of version 1 cannot tell the programs of withdrawn lines, but loops, paths, sketch and heights go by marks and
+ * by the order of the lines that stand, not by their numbers. So what is printed of a book with withdrawn lines is that
+ * of the book without them, with the old numbers put back. table: as in book-file.mjs; standing: true or false for each
+ * line
  */
 async function withOldNumbers(program, table, standing) {
+  if (table.version === 2) return program(bytesOf(table));
   const numbers = table.lines.map((_, row) => row + 1).filter(line => standing[line - 1]);
   const text = await program(bytesOf({ ...table, lines: numbers.map(line => table.lines[line - 1]) }));
   const old = line => line.replace(/\d+/, number => numbers[Number(number) - 1]);
@@ -97,6 +99,7 @@ export const sketchWithdrawn = (table, standing) => withOldNumbers(sketch, table
 
 /** And the sheet of heights likewise; a withdrawn line's row says so. */
 export async function heightsWithdrawn(table, standing) {
+  if (table.version === 2) return heights(bytesOf(table));
   const numbers = table.lines.map((_, row) => row + 1).filter(line => standing[line - 1]);
   const text = await heights(bytesOf({ ...table, lines: numbers.map(line => table.lines[line - 1]) }));
   const [top, rows] = text.split(/(?<=LINE CORRECTION mm {3}RATE mm\/km\n)/);

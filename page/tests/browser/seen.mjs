@@ -191,6 +191,7 @@ export function shownBook() {
   }));
   const marks = document.querySelector('#marks');
   return {
+    version: document.querySelector('#version').value,
     marks: marks.value || marks.placeholder,
     tolerance: document.querySelector('#tolerance').value,
     held: rows('held'),

@@ -120,6 +120,6 @@ async function read(comparison, random, file) {
   for (const one of [file, damageFile(random, file)]) {
     const held = output(random.onceIn(8) ? random.below(8) : HELD_NUMBERS * MOST_HELD);
     const lines = output(random.onceIn(8) ? random.below(20) : LINE_NUMBERS * MOST_LINES);
-    await comparison.ask('level_read', { b: 0n, t: 0n, held, lines }, [one]);
+    await comparison.ask('level_read', { version: 0n, b: 0n, t: 0n, held, lines }, [one]);
   }
 }

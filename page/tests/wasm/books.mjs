@@ -1,21 +1,23 @@
 // Books for the comparison, of every size, good and broken.
 //
-// A book is { b, t, held, lines }: numbers as the core is lent them, two to a held entry and five to a line.
+// A book is { version, b, t, held, lines }: numbers as the core is lent them, two to a held entry and six to a line.
 
 import {
-  HELD_NUMBERS, LEAST_LENGTH, LINE_NUMBERS, MOST_DIFFERENCE, MOST_HELD, MOST_HELD_HEIGHT, MOST_LENGTH, MOST_LINES,
-  MOST_MARKS, MOST_TOLERANCE, aroundLimits,
+  EXTREMES, HELD_NUMBERS, LEAST_LENGTH, LINE_NUMBERS, MOST_CLASS, MOST_DIFFERENCE, MOST_HELD, MOST_HELD_HEIGHT,
+  MOST_LENGTH, MOST_LINES, MOST_MARKS, MOST_TOLERANCE, NO_CLASS, aroundLimits,
 } from './limits.mjs';
 
 /** A book, at times a broken one. */
 export function makeBook(random) {
   const marks = random.pick([1, 2, 3, 5, 8, 20, 60, MOST_MARKS]);
   const count = marks === 1 ? random.pick([0, 0, 0, 1]) : random.pick([1, 3, 7, 12, 40, 120, 300, MOST_LINES]);
+  const version = random.pick([1, 2]);
   const book = {
+    version: BigInt(version),
     b: BigInt(marks),
-    t: BigInt(random.within(1, MOST_TOLERANCE)),
+    t: BigInt(version === 1 ? random.within(1, MOST_TOLERANCE) : 0),
     held: makeHeld(random, marks),
-    lines: makeLines(random, marks, count),
+    lines: makeLines(random, version, marks, count),
   };
   breakBook(random, book);
   return { ...book, held: BigInt64Array.from(book.held), lines: BigInt64Array.from(book.lines) };
@@ -31,16 +33,17 @@ function makeHeld(random, marks) {
   return [...held].flat().map(BigInt);
 }
 
-/** Lines whose ends, lengths and differences are each chosen in one manner for the whole book. */
-function makeLines(random, marks, count) {
+/** Lines whose ends, lengths, differences and classes are each chosen in one manner for the whole book. */
+function makeLines(random, version, marks, count) {
   const join = random.pick([anyEnds, onward, nextOnward]);
   const length = random.pick([anyLength, fewLengths, () => 1000]);
   const difference = random.pick([anyDifference, levelledDifferences(random, marks)]);
+  const classOf = version === 1 ? () => NO_CLASS : random.pick([anyClass, oneClass(random)]);
   const withdrawn = random.pick([4, 12, 100]);
   const lines = [];
   for (let line = 0; line < count; line++) {
     const [from, to] = line + 1 < marks ? join(random, marks, line) : anyEnds(random, marks);
-    lines.push(from, to, difference(random, from, to), length(random), random.onceIn(withdrawn) ? 0 : 1);
+    lines.push(from, to, difference(random, from, to), length(random), random.onceIn(withdrawn) ? 0 : 1, classOf(random));
   }
   return lines.map(BigInt);
 }
@@ -82,6 +85,15 @@ function levelledDifferences(random, marks) {
   return (again, from, to) => heights[to] - heights[from] + again.within(-off, off);
 }
 
+function anyClass(random) {
+  return random.within(0, MOST_CLASS);
+}
+
+function oneClass(random) {
+  const itsClass = anyClass(random);
+  return () => itsClass;
+}
+
 /** Puts numbers at a limit or beyond it into one book of three or so. */
 function breakBook(random, book) {
   if (random.onceIn(5)) random.replaceOne(book.lines, lineLimits(book.b));
@@ -92,6 +104,7 @@ function breakBook(random, book) {
   if (random.onceIn(40)) book.held = Array((MOST_HELD + 1) * HELD_NUMBERS).fill(1n);
   if (random.onceIn(30)) book.b = random.pick([...aroundLimits(1, MOST_MARKS), 1n << 33n]);
   if (random.onceIn(30)) book.t = random.pick(aroundLimits(1, MOST_TOLERANCE));
+  if (random.onceIn(30)) book.version = random.pick([1n, 2n, 3n, 255n, ...EXTREMES]);
 }
 
 /** For each of a line's numbers, some around its limits. */
@@ -99,7 +112,7 @@ function lineLimits(b) {
   const end = aroundLimits(1, b);
   const difference = aroundLimits(-MOST_DIFFERENCE, MOST_DIFFERENCE);
   const length = aroundLimits(LEAST_LENGTH, MOST_LENGTH);
-  return [end, end, difference, length, aroundLimits(0, 1)];
+  return [end, end, difference, length, aroundLimits(0, 1), aroundLimits(0, MOST_CLASS)];
 }
 
 /** For each of a held entry's numbers, some around its limits. The mark may be one that is held already. */

@@ -1,16 +1,16 @@
 // The requests of reference/server/server.c and their answers, as bytes.
 //
-// A request is eleven numbers (the call, b, t, loop or line, difference, and the counts of six slices), then the
+// A request is twelve numbers (the call, version, b, t, loop or line, difference, and the counts of six slices), then the
 // slices: held, lines, and those that are left in the order of the call, one to four of them; the others have no
 // elements. Of level_read the third is the file, in bytes; all else is 64-bit numbers, lowest byte first, as this
-// processor and the module have them. An answer is eleven numbers (up to six of the call's answer, 1 if the call
+// processor and the module have them. An answer is twelve numbers (up to seven of the call's answer, 1 if the call
 // touched nothing but its outputs, and four zeros), then the slices as they are after the call.
 
 export const NUMBER_BYTES = 8;
 export const SLICE_NAMES = ['held', 'lines', 'third', 'fourth', 'fifth', 'sixth'];
 export const SLICES = SLICE_NAMES.length;
 // Where the counts of the slices begin in a request, and how many numbers a request or an answer begins with.
-const COUNTS = 5;
+const COUNTS = 6;
 const HEAD_NUMBERS = COUNTS + SLICES;
 export const HEAD_BYTES = HEAD_NUMBERS * NUMBER_BYTES;
 export const MOST_SLICE_BYTES = 1 << 20;
@@ -20,14 +20,14 @@ const [HELD, LINES, THIRD, FOURTH, FIFTH, SIXTH] = SLICE_NAMES.keys();
 export const READ = 0;
 
 // The place in an answer's head of the 1 that says: nothing but the outputs was touched.
-export const UNTOUCHED = 6;
+export const UNTOUCHED = 7;
 
 // By their numbers in a request: how many numbers each call answers, which slices it may write, and its arguments in
-// the order of include/level.h. There `book` is b, t, held and lines, `more` the slices after them, and a slice is its
+// the order of include/level.h. There `book` is version, b, t, held and lines, `more` the slices after them, and a slice is its
 // address and its count.
 export const CALLS = [
   {
-    name: 'level_read', numbers: 6, writes: [HELD, LINES],
+    name: 'level_read', numbers: 7, writes: [HELD, LINES],
     argumentsOf: ({ held, lines, more: [third] }) => [...third, ...held, ...lines],
   },
   {
@@ -96,10 +96,10 @@ export function slicesOf(head) {
 }
 
 /** The request that lends a book and the slices after it to a call; held, lines and those are typed arrays. */
-export function requestOf(call, { b, t, held, lines }, more, number = 0n, difference = 0n) {
+export function requestOf(call, { version, b, t, held, lines }, more, number = 0n, difference = 0n) {
   const lent = [held, lines, ...more];
   const counts = Array.from({ length: SLICES }, (_, slice) => BigInt(lent[slice]?.length ?? 0));
-  const head = BigInt64Array.of(BigInt(call), b, t, number, difference, ...counts);
+  const head = BigInt64Array.of(BigInt(call), version, b, t, number, difference, ...counts);
   return Buffer.concat([head, ...lent].map(bytesOf));
 }
 

@@ -91,9 +91,9 @@ export class Core {
   }
 
   make(call, head) {
-    const [, b, t, number, difference] = head;
+    const [, version, b, t, number, difference] = head;
     const [held, lines, ...more] = countsOf(head).map((count, slice) => [this.sliceRooms[slice].start, count]);
-    const book = [b, t, ...held, ...lines];
+    const book = [version, b, t, ...held, ...lines];
     const lent = call.argumentsOf({ book, held, lines, more, number, difference });
     try {
       this.exports[call.name](this.answerRoom.start, ...lent);

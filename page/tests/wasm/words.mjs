@@ -1,17 +1,17 @@
 // A call and its two answers in words, for people.
 
 import { CALLS, NUMBER_BYTES, READ, SLICE_NAMES, headOf, numbersOf, slicesOf } from './calls.mjs';
-import { HELD_NUMBERS, LINE_NUMBERS } from './limits.mjs';
+import { HELD_NUMBERS, LINE_NUMBERS, ROW_NUMBERS } from './limits.mjs';
 
 const MOST_PLACES = 8;
 
 /** A whole call: its numbers and all that it is lent. */
 export function callInWords(request) {
   const head = headOf(request);
-  const [call, b, t, number, difference] = head;
+  const [call, version, b, t, number, difference] = head;
   const [held, lines, ...more] = slicesOf(head).map(([start, end]) => request.subarray(start, end));
   return [
-    `${CALLS[call].name}: b ${b}, t ${t}, loop or line ${number}, difference ${difference}`,
+    `${CALLS[call].name}: version ${version}, b ${b}, t ${t}, loop or line ${number}, difference ${difference}`,
     ...numbersInWords('held', numbersOf(held), HELD_NUMBERS),
     ...numbersInWords('lines', numbersOf(lines), LINE_NUMBERS),
     ...(call === BigInt(READ) ? bytesInWords(more[0]) : moreInWords(more)),
@@ -22,7 +22,7 @@ export function callInWords(request) {
 function moreInWords(more) {
   const names = SLICE_NAMES.slice(-more.length);
   return more.flatMap((slice, place) => (
-    slice.length > 0 ? numbersInWords(names[place], numbersOf(slice), LINE_NUMBERS) : []));
+    slice.length > 0 ? numbersInWords(names[place], numbersOf(slice), ROW_NUMBERS) : []));
 }
 
 /** The call on which core and archive differ, both answers, and the first places where they do. */

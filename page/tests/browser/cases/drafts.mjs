@@ -31,6 +31,7 @@ async function draftsAre(desk, many) {
 const LINE = { from: '1', to: '2', difference: '1.5', length: '100', standing: true };
 const BACK = { ...LINE, from: '2', to: '1', difference: '-1.5' };
 const BOOK = { marks: '', tolerance: '4.0', held: [], lines: [LINE, BACK] };
+// As it was kept before there were classes.
 const DRAFT = { version: 1, name: 'yesterday', when: 'Monday, 5 pm', book: BOOK };
 
 /** Puts drafts into the storage, and opens the page anew. */
@@ -120,6 +121,9 @@ const BROKEN = [
   bookBut('a line that is no line', { lines: [null] }),
   bookBut('a cell that is no text', { lines: [{ ...LINE, length: 100 }] }),
   bookBut('a standing that is none', { lines: [{ ...LINE, standing: 'no' }] }),
+  bookBut('a version that is none', { version: '3' }),
+  bookBut('a version that is no text', { version: 2 }),
+  bookBut('a class that is no text', { version: '2', lines: [{ ...LINE, class: 4 }] }),
   bookBut('held marks without marks', { held: [{ height: '1' }] }),
   bookBut('513 lines', { lines: Array(513).fill(LINE) }),
   bookBut('257 held marks', { held: Array(257).fill({ mark: '1', height: '1' }) }),

@@ -39,7 +39,7 @@ async function namesForAssistiveTechnology(desk) {
   const parts = await desk.page.accessibleParts();
   const controls = ['textbox', 'button', 'combobox', 'link'];
   same(parts.filter(part => controls.includes(part.role) && part.name.trim() === ''), [], 'told without a name');
-  for (const name of ['Line 3, difference', 'Line 1, from', 'Held entry 1, height']) {
+  for (const name of ['Line 3, difference', 'Line 1, from', 'Held entry 1, height', 'Version']) {
     holds(parts.some(part => part.name === name), `${name} is a field's name`);
   }
   same(await desk.count('#trouble[role="alert"]'), 1, 'trouble is told at once');
@@ -72,6 +72,8 @@ async function contrast(desk) {
       await desk.press('#sketch-box tr[data-entry="0"]');
     },
     'no held mark': () => desk.press('#held .remove'),
+    'classes and a withdrawn line': () => desk.openBook(book('three_classes')),
+    'a class that is refused': () => desk.write(lineCell(2, 'class'), '5'),
   };
   for (const [what, reach] of Object.entries(states)) {
     await reach();
@@ -159,6 +161,11 @@ const TAKING = {
     await desk.click('#drop');
   },
   'Undo': desk => desk.click('#undo'),
+  'another version by Undo': async desk => {
+    await desk.chooseVersion('2');
+    await desk.focus(lineCell(1, 'class'));
+    await desk.page.press('z', { control: true });
+  },
   'New': desk => desk.click('#new'),
 };
 

@@ -53,6 +53,7 @@ function limitsIn(text, decimals) {
 }
 
 /** Where a limit can be tried: the cell, its decimals, a value beyond, and the refusal that then comes. */
+const CLASS = { cell: lineCell(3, 'class'), decimals: 0, beyond: '5', refusal: 'Refused 7 at line 3', name: 'three_classes' };
 const PLACES = {
   difference: { cell: lineCell(2, 'difference'), decimals: 6, beyond: '100.000001', refusal: 'Refused 7 at line 2' },
   length: { cell: lineCell(2, 'length'), decimals: 0, beyond: '9', refusal: 'Refused 7 at line 2' },
@@ -63,7 +64,8 @@ const PLACES = {
 const typed = (number, decimals) => (decimals === 0 ? String(number) : decimal(number, decimals));
 
 /** The limits that the message names are taken, and what is one unit beyond is refused with that message. */
-async function holdLimits(desk, { cell, decimals, beyond, refusal }) {
+async function holdLimits(desk, { cell, decimals, beyond, refusal, name = 'worked' }) {
+  await desk.openBook(book(name), `${name}.book`);
   await desk.write(cell, beyond);
   const message = await desk.trouble();
   includes(message, refusal, beyond);
@@ -123,6 +125,7 @@ async function limitsInMessages(desk) {
   await holdLimits(desk, PLACES.length);
   await holdLimits(desk, PLACES.height);
   await holdLimits(desk, PLACES.tolerance);
+  await holdLimits(desk, CLASS);
   await marksLimits(desk);
   same(await correctionLimits(desk), difference, 'of a correction');
 }
@@ -146,6 +149,7 @@ async function limitsInTheHelp(desk) {
   for (const [word, place] of Object.entries(PLACES)) {
     same(helpLimits(help, word, place.decimals), await holdLimits(desk, place), `${word} in the help`);
   }
+  same(helpLimits(help, 'class', 0), await holdLimits(desk, CLASS), 'class in the help');
   same(helpLimits(help, 'marks', 0), await marksLimits(desk), 'marks in the help');
   const counts = { lines: /lines up to (\d+)/i.exec(help)?.[1], held: /held marks up to (\d+)/i.exec(help)?.[1] };
   await holdCount(desk, Number(counts.lines), lines => ({ tolerance: 80, marks: 2, held: [], lines }), [1, 2, 0, 100]);
@@ -176,7 +180,9 @@ async function holdHeldCount(desk, most) {
 }
 
 /** Books of several shapes and tolerances; of large ones only the first loops are tried. */
-const ALLOWED_BOOKS = ['worked', 'memorandum_figure', 'two_pieces', 'parallel_lines', 'ring12', 'town25', 'grid6'];
+const ALLOWED_BOOKS = [
+  'worked', 'memorandum_figure', 'two_pieces', 'parallel_lines', 'ring12', 'town25', 'grid6', 'three_classes', 'classes25',
+];
 const MOST_LOOPS = 3;
 
 async function allowedIsTheCores(desk) {

@@ -17,6 +17,7 @@ export const cases = [
 ];
 
 const COLUMNS = ['from', 'to', 'difference', 'length'];
+const BOOKS = ['worked', 'town12', 'damaged', 'two_pieces', 'three_classes', 'classes25'];
 
 /** What can happen to a line of the table that is not withdrawn. */
 const LINE_ACTS = [
@@ -26,6 +27,7 @@ const LINE_ACTS = [
     return desk.write(lineCell(line, 'difference'), `${chance.pick(['', '-'])}${chance.below(50)}.${millionths}`);
   },
   ({ desk, chance, line }) => desk.write(lineCell(line, 'length'), String(chance.below(3000))),
+  ({ desk, chance, line }) => writeClass(desk, lineCell(line, 'class'), String(chance.below(6))),
   ({ desk, chance, line }) => desk.write(lineCell(line, chance.pick(COLUMNS)), chance.pick(RUBBISH).slice(0, 40)),
   ({ desk, chance, line }) => correct(desk, chance, line),
   ({ desk, chance, line }) => correct(desk, chance, line),
@@ -35,14 +37,25 @@ const LINE_ACTS = [
 const OTHER_ACTS = [
   ({ desk, chance }) => desk.undo(1 + chance.below(4)),
   ({ desk }) => desk.redo(),
-  ({ desk, chance }) => desk.write('#tolerance', `${chance.from(1, 30)}.${chance.below(10)}`),
+  ({ desk, chance }) => writeTolerance(desk, `${chance.from(1, 30)}.${chance.below(10)}`),
   ({ desk, chance }) => desk.write(heldCell(1, chance.pick(['mark', 'height'])), String(chance.from(1, 13))),
   ({ desk, chance }) => desk.paste(lineCell(1, 'difference'), `${chance.below(9)}.5\n${chance.below(9)}.25`),
   ({ desk, chance }) => (chance.below(4) > 0 ? desk.redo() : openAnother(desk, chance)),
 ];
 
+/** A class of a line, or none in a book of version 1. */
+async function writeClass(desk, cell, text) {
+  if (await desk.count(cell) > 0) await desk.write(cell, text);
+}
+
+/** Or the book becomes one of version 1, where the tolerance is locked. */
+async function writeTolerance(desk, text) {
+  if (await desk.value('#version') === '2') await desk.chooseVersion('1');
+  else await desk.write('#tolerance', text);
+}
+
 function openAnother(desk, chance) {
-  return desk.openBook(book(chance.pick(['worked', 'town12', 'damaged', 'two_pieces'])), 'other.book');
+  return desk.openBook(book(chance.pick(BOOKS)), 'other.book');
 }
 
 /** One act by chance. */

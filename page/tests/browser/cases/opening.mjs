@@ -11,11 +11,13 @@ import { sleep, TOP, until } from '../tools.mjs';
 const BOTH = ['chromium', 'firefox'];
 const BOOKS = [
   'worked', 'memorandum_figure', 'parallel_lines', 'past_the_last_junction', 'two_pieces', 'town12', 'town25',
-  'town40', 'town60', 'grid6', 'chain20', 'star15', 'ring12', 'free_tails', 'memorandum_network',
+  'town40', 'town60', 'grid6', 'chain20', 'star15', 'ring12', 'free_tails', 'memorandum_network', 'three_classes',
+  'classes25',
 ];
-const LARGEST_BOOKS = ['full', 'slowest', 'random256', 'parallel512', 'city256'];
+const LARGEST_BOOKS = ['full', 'slowest', 'random256', 'parallel512', 'city256', 'classes_full'];
 const FEW_BOOKS = [
-  'memorandum_figure', 'memorandum_network', 'past_the_last_junction', 'two_pieces', 'town60', 'random256',
+  'memorandum_figure', 'memorandum_network', 'past_the_last_junction', 'two_pieces', 'three_classes', 'town60',
+  'random256',
 ];
 
 export const cases = [

@@ -30,7 +30,7 @@ async function noSidewaysScroll(desk) {
     await desk.page.resize({ width, height, mobile: width < 700 });
     const fits = async what => same(await desk.evaluate(sideways, width), [], `${width} px, ${what}`);
     const large = width === 320 ? ['random256'] : [];
-    for (const name of ['worked', 'past_the_last_junction', 'memorandum_network', 'town25', ...large]) {
+    for (const name of ['worked', 'past_the_last_junction', 'memorandum_network', 'three_classes', 'town25', ...large]) {
       await desk.openBook(book(name), `${name}.book`);
       await desk.picture();
       await desk.sketchPanel();

@@ -117,7 +117,7 @@ async function keysGoThroughTheCells(desk) {
 }
 
 const CONTROLS = [
-  'name', 'new', 'open', 'save', 'print', 'sheet', 'help', 'marks', 'tolerance', 'Held entry 1, mark', 'Line 1, from',
+  'name', 'new', 'open', 'save', 'print', 'sheet', 'help', 'marks', 'version', 'tolerance', 'Held entry 1, mark', 'Line 1, from',
   'Line 7, length', 'Line 8, length', 'labels', 'smaller', 'larger', 'tidy', 'svgbox',
 ];
 
