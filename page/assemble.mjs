@@ -5,7 +5,7 @@
 // import has to be written out and no two modules may export the same name.
 import { createHash } from 'node:crypto';
 import { readFileSync } from 'node:fs';
-import { squeezed } from './squeeze.mjs';
+import { squeezed, squeezedMarkup, squeezedStyle } from './squeeze.mjs';
 
 const part = name => readFileSync(new URL(name, import.meta.url), 'utf8');
 const sha256 = (bytes, form) => createHash('sha256').update(bytes).digest(form);
@@ -53,13 +53,6 @@ function script(core, example) {
   holdNames(modules);
   return `'use strict';\n(() => {\n${[...constants, ...modules.map(called)].join('')}})();\n`;
 }
-
-/** Styles without comments and line ends, and without spaces beside signs; before a colon a space means something. */
-const squeezedStyle = text => text.replace(/\/\*[^]*?\*\//g, '').replace(/\s+/g, ' ')
-  .replace(/ ?([{};,]) ?/g, '$1').replace(/: /g, ':').replace(/;}/g, '}').trim();
-
-/** Markup without indentation. */
-const squeezedMarkup = text => text.replace(/^\s+/gm, '');
 
 /** No network, no inline handlers, no other script or style, and no text that becomes markup. */
 const policyFor = (js, css) => [

@@ -1,5 +1,5 @@
-// A script without what only its reader needs: comments, indentation, and spaces beside signs. Names, lines and all texts stay, so that
-// an error of the page can still be found.
+// Scripts, styles and markup without what only their reader needs: comments, indentation, and spaces beside signs. Of a script all names,
+// lines and texts stay, so that an error of the page can still be found.
 
 const SPACE = /[ \t]+/y;
 const COMMENT = /\/\/[^\n]*|\/\*[^]*?\*\//y;
@@ -71,3 +71,10 @@ export function squeezed(source) {
   }
   return out;
 }
+
+/** Styles, in one line. Before a colon a space means something, and texts stay. */
+export const squeezedStyle = source => source.replace(/\/\*[^]*?\*\//g, '').replace(/\s+/g, ' ')
+  .replace(/"[^"]*"| ?([{};,]) ?|(:) /g, (all, sign, colon) => sign ?? colon ?? all).replace(/;}/g, '}').trim();
+
+/** Markup without indentation. */
+export const squeezedMarkup = source => source.replace(/^\s+/gm, '');

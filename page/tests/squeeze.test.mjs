@@ -1,8 +1,8 @@
-// Scripts without spaces and comments mean the same.
+// Scripts, styles and markup without spaces and comments mean the same.
 import assert from 'node:assert/strict';
 import { readFileSync, readdirSync } from 'node:fs';
 import { test } from 'node:test';
-import { squeezed } from '../squeeze.mjs';
+import { squeezed, squeezedMarkup, squeezedStyle } from '../squeeze.mjs';
 
 test('comments, indentation and spaces beside signs go', () => {
   assert.equal(squeezed('// why\nconst a = 1; // here\n  /** what\n * it is */\nreturn a + b;\n'), 'const a=1;\nreturn a+b;\n');
@@ -28,4 +28,14 @@ test('every module is still a module, and squeezed once it stays', () => {
     const body = small.replace(/^import[^;]*;\n/gm, '').replace(/^export /gm, '');
     assert.doesNotThrow(() => new Function(`'use strict'; async () => { ${body} }`), name);
   }
+});
+
+test('styles lose comments, lines and spaces beside signs, but no space that means something', () => {
+  const style = '/* why */\n.a, .b > i {\n  margin: 0 calc(1em - 2px);\n  font: 1em "A, B: c; d", serif;\n}\n\n'
+    + '@media (width: 4em) {\n  p :is(b) { top: 0; }\n}\n';
+  assert.equal(squeezedStyle(style), '.a,.b > i{margin:0 calc(1em - 2px);font:1em "A, B: c; d",serif}@media (width:4em){p :is(b){top:0}}');
+});
+
+test('markup loses its indentation', () => {
+  assert.equal(squeezedMarkup('<p>\n  a b\n    c</p>\n'), '<p>\na b\nc</p>\n');
 });
