@@ -23,7 +23,7 @@ const fileWords = (number, place) => ({ 6: `Held entry ${place} is wrong.`, 7: `
 /** A line that neither stands nor is withdrawn is shown as withdrawn, and there is no cell for that: so it is said. */
 function tellDoubtful({ lines }) {
   const doubtful = groups(lines, LINE).flatMap(([, , , , standing], i) => (standing === 0n || standing === 1n ? [] : [i + 1]));
-  if (doubtful.length > 0) tell(`In the file ${named('line', doubtful)} neither stood nor was withdrawn. Shown as withdrawn.`);
+  if (doubtful.length > 0) tell(`Standing mark neither 0 nor 1, so shown as withdrawn: ${named('line', doubtful)}.`);
 }
 
 /** The entries of a refused file can be shown, so that their cells can be mended. */

@@ -129,7 +129,7 @@ function editOfATown(desk) {
 }
 
 function editOfAFullBook(desk) {
-  return holdEdits(desk, ['full', 'random256'], 100);
+  return holdEdits(desk, ['full', 'random256', 'classes_full'], 100);
 }
 
 async function correctionOfAFullBook(desk) {

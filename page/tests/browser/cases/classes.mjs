@@ -268,7 +268,7 @@ async function damagedFiles(desk) {
   return `${files.length} files, ${refused} refused`;
 }
 
-/** Both lines are wrong: line 8, which is withdrawn, by its class, and line 2 by its standing, which no cell shows. */
+/** First line 8, which is withdrawn, is wrong by its class, then line 2 by its standing, which no cell shows. */
 async function withdrawnIsMended(desk) {
   const wrong = tableOf(book('three_classes'));
   wrong.lines[7][4] = 7;
@@ -285,7 +285,7 @@ async function withdrawnIsMended(desk) {
   wrong.lines[1][5] = 2;
   includes(await desk.openBook(bytesOf(wrong)), 'Refused 7 at 2. Line 2 is wrong.', 'a standing that is none');
   await desk.press('#show-it');
-  includes(await desk.notice(), 'In the file line 2 neither stood nor was withdrawn. Shown as withdrawn.', 'it is said');
+  includes(await desk.notice(), 'Standing mark neither 0 nor 1, so shown as withdrawn: line 2.', 'it is said');
   includes(await desk.checkedBy(2), 'withdrawn', 'and so it is shown');
 }
 
