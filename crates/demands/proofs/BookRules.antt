@@ -35,11 +35,11 @@ past-rules (q ∷ rest) c k e = go (q .applies) refl e (past-rules rest c k)
 
 -- ---- the rules of a book
 
--- what the call adds to them
-pub own-rules : {outside : Bool} {book : Lent} {more : List Rule} → None (besideRules outside book more) → None more
+-- what the call adds to the four
+pub own-rules : {version counts held lines : Rule} {more : List Rule} → None (version ∷ counts ∷ held ∷ lines ∷ more) → None more
 own-rules h = rest-of (rest-of (rest-of (rest-of h)))
 
-module _ {outside : Bool} {book : Lent} {more : List Rule} where
+module _ (outside : Bool) (book : Lent) {more : List Rule} where
   -- where none applies, what is lent beside the book is inside, and none of the book alone applies
   pub none-beside : None (besideRules outside book more) → (outside ≡ false) × None (bookRules book more)
   none-beside h =

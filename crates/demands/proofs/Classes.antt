@@ -1,5 +1,6 @@
 -- Request 04: lines of different classes in one book. Assumes nothing.
 use Prim.Native.Nat.{ℕ, _+_, _*_, _≤_, _<_}
+use native.Mathlib.Nat.{add-zero}
 use native.Mathlib.Omega.{arith}
 use mathlib.Core.Path.{_≡_, refl, sym, _∙_, ap, ap₂}
 use mathlib.Core.Logic.{_⊎_, _↔_, inl, inr}
@@ -71,11 +72,15 @@ pub line-is-read-from-its-bytes : (file : List ℕ) (k : Book) (i : ℕ) → i <
     entryAt (linesOf file k) i ≡ numbers (lineKind (k .version)) (take bytes (drop (13 + k .held * 10 + i * bytes) file))
 line-is-read-from-its-bytes = line-read
 
+one-byte : (e : List ℕ) (a : ℕ) → be 1 e a ≡ getD e a 0
+unfolding be
+one-byte e a = rw add-zero (omega arith)
+
 -- of version 2 the class is the 13th of its bytes and the standing mark the 14th; in memory standing stays fifth, and class is sixth
 pub class-then-standing : (e : List ℕ) → numbers ClassedLine e
     ≡ pos (be 2 e 0) ∷ pos (be 2 e 2) ∷ toZ w32 (be 4 e 4) ∷ pos (be 4 e 8) ∷ pos (getD e 13 0) ∷ pos (getD e 12 0) ∷ []
-unfolding lineNumbers be
-class-then-standing e = refl
+unfolding lineNumbers
+class-then-standing e = rw (one-byte e 13, one-byte e 12)
 
 -- ---- what each version asks
 

@@ -1,6 +1,7 @@
 -- When a call is done, in plain words. Assumes nothing.
 use mathlib.Core.Path.{_≡_, subst₂}
 use mathlib.Core.Logic.{_⊎_, _↔_, inl, inr}
+use mathlib.Core.Bool.{false}
 use mathlib.Core.List.{List, []}
 use Prim.Native.Nat.{ℕ, _*_, _≤_}
 use native.Mathlib.Decide.{ℕ-discrete}
@@ -147,14 +148,14 @@ module _ (book : Lent) where
       let w = rerun-keeps-to-table book report number difference .table .done-exactly-if in (
         λ z.
             let h = w .0 z in
-            let p = none-beside h in (
+            let p = none-beside (differenceOut difference) book h in (
               size-within mostDifference difference (p .0),
               correction-only-if report number (passes-if book (p .1)) (own-rules h),
             ),
         λ p.
             let a = p .1 in
             let h = passes-only-if book (a .counts) (a .passes) (correction-if report number a) in
-            w .1 (beside-none (size-inside mostDifference difference (p .0)) h),
+            w .1 (beside-none (differenceOut difference) book (size-inside mostDifference difference (p .0)) h),
       )
 
 -- ---- the file

@@ -33,7 +33,7 @@ use Rattle.sweeps.specs.Kept.{Kept}
 use Rattle.sweeps.proofs.Best.{fairs-sound, sweep-not-worse}
 use Rattle.start.specs.Start.{heldHeight, isHeld, startHeights}
 use Rattle.rates.specs.Rates as rates
-use Rattle.rates.specs.Rates.{correctionAt, correctionOf, quotient, lineRate, goodRate, rateAnswer, firstHigh}
+use Rattle.rates.specs.Rates.{correctionAt, correctionOf, quotient, lineRate, goodRate, heightsOut, rateAnswer, firstHigh}
 use Rattle.rates.proofs.Exact.{there-and-back}
 use Rattle.rates.proofs.Rating.{marks-of, working-lent}
 use Rattle.rates.specs.declared.Rate.the-variants.{PerKm, Withdrawn}
@@ -144,7 +144,7 @@ module _ (book : Lent) where
     passed : testOf book ≡ Good (countsOf book)
     unfolding rateRules
     passed =
-        passes-if book {more = heightRules book heights line} (none-beside none-applies .1)
+        passes-if book {more = heightRules book heights line} (none-beside (heightsOut book heights) book none-applies .1)
 
     there : Between 1 (lineCount (book .lines)) line
     unfolding rateRules
@@ -153,7 +153,7 @@ module _ (book : Lent) where
     inside : Working heights (natAbs (book .b))
     unfolding rateRules
     inside =
-        let many = none-beside none-applies .0 in
+        let many = none-beside (heightsOut book heights) book none-applies .0 in
         working-lent heights (natAbs (book .b)) (marks-of book (countsOf book) passed heights many)
         (no-mark (firstHigh heights) (first-of (rest-of (own-rules none-applies))))
 

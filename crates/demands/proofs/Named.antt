@@ -56,7 +56,7 @@ faulty-book-same-at-every-call book r e = record {
   withdrawal = λ report line. rw e;
   re-run = λ report line difference small. rw (beside-inside book _ (size-inside mostDifference difference small), e);
   adjustment = λ out. by-refusal book out _ e;
-  rate = λ heights line as-many. rw (beside-inside book _ (rw (as-many, eqZ-same (book .b))), e);
+  rate = λ heights line as-many. rw (beside-inside book (heightsOut book heights) (rw (as-many, eqZ-same (book .b))), e);
 }
 
 -- ---- an unknown version
@@ -117,7 +117,7 @@ module _ (book : Lent) (no-three : versionOut (book .version) ≡ false) (no-fou
     where
       go : (f : ℕ) → ltb 0 (firstFault f 6) ≡ true
       go zero = refl
-      go (suc f) = rw (lt-ltb 0 (suc f) (omega arith))
+      go (suc f) = rw (lt-ltb 0 (suc f) (omega arith)) (lt-ltb 0 (suc f) (omega arith))
 
 -- ---- a report that is not this book's
 

@@ -35,6 +35,7 @@ use Rattle.loops.proofs.Sounding.{lines-sound}
 use Rattle.demands.specs.Calls.{listDone}
 use Rattle.demands.specs.Tables.{loopListing, listingRules}
 use Rattle.demands.specs.TheLoops.{inRow, countsBefore, Within, Over, RowOf, LoopIs, ListedIn}
+use Rattle.demands.proofs.BookRules.{first-of, own-rules}
 use Rattle.demands.proofs.Refusals.{survey-keeps-to-table, listing-keeps-to-table, listings-keeps-to-table}
 use Rattle.demands.proofs.Refusals.{not-checked-keeps-to-table}
 use Rattle.demands.proofs.TheLoops as the
@@ -131,7 +132,7 @@ module _ (book : Lent) (k : Book) (passes : testOf book ≡ Good k) where
       let w = listing-keeps-to-table book (pos (suc i)) out in
       let there =
       between 1 (length (loopsOf (natAbs (book .b)) (book .lines))) (pos (suc i))
-      (w .table .done-exactly-if .0 done _ (List·Memᴰ·tail (List·Memᴰ·tail (List·Memᴰ·tail (List·Memᴰ·head refl))))) in
+      (first-of (own-rules (w .table .done-exactly-if .0 done))) in
       let at : suc i - 1 ≡ i = omega arith in (
         rw (← marks-are) (omega (arith, there .high)),
         rw (w .finished done, ← marks-are, at) (in-first-places (map listed (loopAt (loopsOf (natAbs (book .b)) (book .lines)) i)) out),

@@ -112,7 +112,7 @@ one-line-is-not-checked = refl
 
 -- two lines between a held mark and a free one say 0 and 7: the mark starts at 0, one sweep moves it to 3, half of 7 toward zero, and the
 -- second moves nothing
-two-lines-adjusted : adjustOf (lent (pos 2) (pos 1) (pos 1 ∷ pos 0 ∷ []) twoLines) (replicate 3 (pos 9))
+two-lines-adjusted : adjustOf (lent (pos 1) (pos 2) (pos 1) (pos 1 ∷ pos 0 ∷ []) twoLines) (replicate 3 (pos 9))
     ≡ adjusted (settledAt 2) (pos 0 ∷ pos 3 ∷ pos 9 ∷ [])
 unfolding adjustOf outZ outN eqZ firstFrom firstBad anyBelow workHeightOut tree standing rootedBy heldHeight isHeld sightsOf
 two-lines-adjusted = refl
@@ -122,7 +122,7 @@ unfolding startHeights tree standing rootedBy heldHeight
 two-lines-start = refl
 
 -- one mark, held
-one-mark-adjusted : adjustOf (lent (pos 1) (pos 1) (pos 1 ∷ pos 5 ∷ []) noLines) (replicate 1 (pos 9)) ≡ adjusted (settledAt 1) (pos 5 ∷ [])
+one-mark-adjusted : adjustOf (lent (pos 1) (pos 1) (pos 1) (pos 1 ∷ pos 5 ∷ []) noLines) (replicate 1 (pos 9)) ≡ adjusted (settledAt 1) (pos 5 ∷ [])
 unfolding adjustOf outZ outN eqZ firstFrom firstBad anyBelow workHeightOut tree standing rootedBy heldHeight isHeld sightsOf
 one-mark-adjusted = refl
 
@@ -131,7 +131,7 @@ pub adjustment-is-not-its-start : ((book : Lent) (out : List ℤ) → adjustOf b
     → marksHeights book (adjustOf book out) ≡ startHeights (natAbs (book .b)) (book .held) (book .lines)) → ⊥
 adjustment-is-not-its-start h =
     let e : pos 0 ∷ pos 3 ∷ [] ≡ pos 0 ∷ pos 0 ∷ [] =
-    rw (two-lines-adjusted, two-lines-start) at (h (lent (pos 2) (pos 1) (pos 1 ∷ pos 0 ∷ []) twoLines) (replicate 3 (pos 9))
+    rw (two-lines-adjusted, two-lines-start) at (h (lent (pos 1) (pos 2) (pos 1) (pos 1 ∷ pos 0 ∷ []) twoLines) (replicate 3 (pos 9))
     (rw two-lines-adjusted)) in
     let z : _≡_ {A = ℕ} 3 0 = ap (λ (l : List ℤ). natAbs (getD l 1 (pos 0))) e in
     omega arith
@@ -141,7 +141,7 @@ pub no-one-number-of-sweeps : (n : ℕ)
     → ((book : Lent) (out : List ℤ) → adjustOf book out .answer .refusal .number ≡ 0 → adjustOf book out .answer .sweeps ≡ n) → ⊥
 no-one-number-of-sweeps n h =
     let one : 1 ≡ n =
-    rw one-mark-adjusted at (h (lent (pos 1) (pos 1) (pos 1 ∷ pos 5 ∷ []) noLines) (replicate 1 (pos 9)) (rw one-mark-adjusted)) in
+    rw one-mark-adjusted at (h (lent (pos 1) (pos 1) (pos 1) (pos 1 ∷ pos 5 ∷ []) noLines) (replicate 1 (pos 9)) (rw one-mark-adjusted)) in
     let two : 2 ≡ n =
-    rw two-lines-adjusted at (h (lent (pos 2) (pos 1) (pos 1 ∷ pos 0 ∷ []) twoLines) (replicate 3 (pos 9)) (rw two-lines-adjusted)) in
+    rw two-lines-adjusted at (h (lent (pos 1) (pos 2) (pos 1) (pos 1 ∷ pos 0 ∷ []) twoLines) (replicate 3 (pos 9)) (rw two-lines-adjusted)) in
     omega arith

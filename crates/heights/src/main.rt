@@ -3,6 +3,7 @@
 use book::Book;
 use book::held::Held;
 use book::line::Line;
+use rates::Rate;
 use rates::RateRow;
 
 fn put(text: &[u8]) {
@@ -85,6 +86,12 @@ fn put_row(row: RateRow) {
     put(b"\n");
 }
 
+// A file of version 2 can say that a line is withdrawn: it has no rate.
+fn put_withdrawn(line: usize) {
+    put_right(line as u64, 1_000);
+    put(b"  withdrawn\n");
+}
+
 fn put_refusal(number: usize, place: usize) {
     put(b"REFUSED ");
     io::print_decimal(cases::STDOUT, number as u64);
@@ -135,7 +142,10 @@ fn put_line(
     let number = signed::signed_count(line % 65536);
     let a = adjust::rate(version, b, t, held, lines, heights, number);
     let rate = a.rate;
-    put_row(rates::row_of(a.line, a.correction, rate));
+    match rate {
+        Rate::PerKm(_) => put_row(rates::row_of(a.line, a.correction, rate)),
+        Rate::Withdrawn => put_withdrawn(a.line),
+    }
 }
 
 fn put_rates(version: i64, b: i64, t: i64, held: &[i64], lines: &[i64], heights: &[i64], n: usize) {
