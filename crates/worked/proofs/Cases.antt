@@ -78,7 +78,7 @@ abbrev book : Lent
 book = lent (pos 1) (pos 5) (pos 120) held lines
 
 -- the morning's report
-report : List ℤ
+unfoldable pub report : List ℤ
 report = row 6 3 4450 (minus 40000) 1 ++ row 4 3 7600 (minus 5000) 0 ++ row 3 4 6750 (pos 65000) 1
 
 -- the book above with another line 6, and with another line 3

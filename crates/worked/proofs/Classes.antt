@@ -10,15 +10,16 @@ use Rattle.laws.specs.Scan.{firstFrom, firstBad, anyBelow}
 use Rattle.book.specs.Lent.{lent}
 use Rattle.book.specs.Test.{noRefusal}
 use Rattle.survey.specs.Survey.{Surveyed, surveyed, surveyOf}
-use Rattle.worked.specs.Network.{classed, linesOf, lines, held}
+use Rattle.worked.specs.Network.{classed, linesOf, held}
+use Rattle.worked.proofs.Cases.{report}
 
 abbrev places : ℕ → List ℤ
 places n = replicate n (pos 0)
 
--- with every line of class 4, whose tolerance is 120, it has the report that it has at t = 120
+-- with every line of class 4, whose tolerance is 120, it has the morning's report, which it has at t = 120
 pub class-four-is-120 : surveyOf (lent (pos 2) (pos 5) (pos 0) held (linesOf (pos 4))) (places 15)
-    ≡ surveyOf (lent (pos 1) (pos 5) (pos 120) held lines) (places 15)
-unfolding linesOf lines held surveyOf outZ outN eqZ firstFrom firstBad anyBelow
+    ≡ surveyed (record { refusal = noRefusal; rows = 3; pieces = 1 }) report
+unfolding report linesOf held surveyOf outZ outN eqZ firstFrom firstBad anyBelow
 class-four-is-120 = refl
 
 -- two lines of 1,000 m, of classes 0 and 4, that close by m
