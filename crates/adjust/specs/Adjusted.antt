@@ -1,5 +1,5 @@
 -- Document 01, "Adjustment", of a book that has passed its tests: start, sweeps, and the refusals 11, 12 and 13.
--- `held` and `lines` are the lent slices: two numbers to a held entry, five to a line.
+-- `held` and `lines` are the lent slices: two numbers to a held entry, six to a line.
 -- Assumes nothing.
 use Prim.Native.Nat.{ℕ, zero, suc}
 use mathlib.Core.List.{List}

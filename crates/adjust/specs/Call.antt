@@ -1,4 +1,4 @@
--- What the adjustment answers, and what the lent heights then hold: refusals 4, 6, 7, 10, 11, then 12 or 13 by whichever comes first.
+-- What the adjustment answers, and what the lent heights then hold: refusals 3, 4, 6, 7, 10, 11, then 12 or 13 by whichever comes first.
 -- Assumes nothing.
 use mathlib.Core.Bool.{cond}
 use mathlib.Core.List.{List, _++_}

@@ -38,8 +38,8 @@ pub(crate) fn settled_at(sweeps: usize) -> Adjusted
     Adjusted { refusal, sweeps }
 }
 
-// The adjusted heights of the marks. Refusals 4, 6, 7, 10, 11, then 12 or 13 by whichever comes first; a refusal leaves the heights as
-// they were.
+// The adjusted heights of the marks. Refusals 3, 4, 6, 7, 10, 11, then 12 or 13 by whichever comes first; a refusal leaves the heights
+// as they were.
 pub fn adjust(
     version: i64,
     b: i64,
@@ -57,7 +57,7 @@ pub fn adjust(
     }
 }
 
-// A line's correction rate by the lent heights. Refusals 4, 6, 7, 8 and 13.
+// A line's correction rate by the lent heights. Refusals 3, 4, 6, 7, 8 and 13.
 pub fn rate(
     version: i64,
     b: i64,

@@ -156,13 +156,6 @@ fn tell_either(b: i64, held: &[i64], lines: &[i64], heights: &[i64]) {
     rate_named(b"version 2, t 1, rate", 2, b, 1, held, lines, heights, 1);
 }
 
-fn spoil_class(lines: &mut [i64]) {
-    if Line::WORDS <= lines.len() {
-        let at = lines.len() - Line::WORDS;
-        lines[at + Line::CLASS] = NO_CLASS;
-    }
-}
-
 // The last line gets a class that is none.
 fn without_class(
     version: i64,
@@ -172,7 +165,7 @@ fn without_class(
     lines: &mut [i64],
     heights: &mut [i64],
 ) {
-    spoil_class(lines);
+    cases::spoil_last(lines, Line::WORDS, Line::CLASS, NO_CLASS);
     adjust(b"class 5, adjusted", version, b, t, held, lines, heights);
     rate_named(b"class 5, rate", version, b, t, held, lines, heights, 1);
 }

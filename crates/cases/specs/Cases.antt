@@ -1,10 +1,11 @@
 -- What the programs that run cases put into a buffer before a call, and print of it after.
 -- Assumes nothing.
-use Prim.Native.Nat.{ℕ, _+_, _*_, _%_}
+use Prim.Native.Nat.{ℕ, _+_, _*_, _-_, _%_}
 use mathlib.Core.Bool.{cond}
 use mathlib.Core.List.{List, [], _∷_, _++_}
 use lib.IntN.{ℤ, pos, negsuc, natAbs}
-use lib.ListN.{take}
+use lib.Dec.{ltb}
+use lib.ListN.{length, take, set}
 use lib.Signed.{ltZ}
 use Rattle.text.specs.Bytes.{bytes}
 use Rattle.text.specs.Number.{decimal}
@@ -13,6 +14,10 @@ use Rattle.text.specs.Report.{listedText}
 -- what stands in every place of a buffer before the call
 abbrev pub untouched : ℤ
 untouched = negsuc 7776
+
+-- number k of the last entry, of w numbers, is x; a buffer without an entry stays
+unfoldable pub spoiltLast : List ℤ → ℕ → ℕ → ℤ → List ℤ
+spoiltLast s w k x = cond (ltb (length s) w) s (set s (length s - w + k) x)
 
 -- a number below 0 is told from one of the same size above it
 abbrev pub sideOf : ℤ → ℕ

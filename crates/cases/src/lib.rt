@@ -2,12 +2,12 @@
 // after it. A contract cannot say what is printed: the text is put into bytes by a function that states it, and what prints it says how
 // many bytes those are.
 ghost use mathlib.Core.Path.{_≡_};
-ghost use Prim.Native.Nat.{_≤_, _+_, min};
+ghost use Prim.Native.Nat.{_≤_, _<_, _+_, min};
 ghost use lib.ListN.{length, replicate};
 ghost use Rattle.text.specs.Put.{Put};
 ghost use Rattle.text.specs.Report.{listedText};
 ghost use mathlib.Core.List.{[], _∷_};
-ghost use Rattle.cases.specs.Cases.{untouched, sideOf, mixedWith, digestOf, spaced, numbersText, shownBytes};
+ghost use Rattle.cases.specs.Cases.{untouched, spoiltLast, sideOf, mixedWith, digestOf, spaced, numbersText, shownBytes};
 
 pub mod case;
 
@@ -40,6 +40,17 @@ pub fn clear(s: &mut [i64])
     while i < s.len() {
         s[i] = UNTOUCHED;
         i += 1;
+    }
+}
+
+// Number k of the last entry, of so many numbers, becomes x; without an entry nothing does.
+pub fn spoil_last(entries: &mut [i64], words: usize, k: usize, x: i64)
+    requires { ⌜ k < words ⌝ }
+    ensures { λ _. ⌜ now (entries .exit) ≡ spoiltLast (now (entries .entry)) words k x ⌝ }
+{
+    if words <= entries.len() {
+        let at = entries.len() - words;
+        entries[at + k] = x;
     }
 }
 

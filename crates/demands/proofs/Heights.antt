@@ -79,7 +79,7 @@ line-answered heights lines line i = go (eqZ (standingAt lines i) (pos 0))
     go false = refl
 
 module _ (book : Lent) where
-  -- the adjustment keeps to its table: 4, 6, 7, 10, 11, then 12 or 13
+  -- the adjustment keeps to its table: 3, 4, 6, 7, 10, 11, then 12 or 13
   pub adjustment-keeps-to-table : (out : List ℤ) → AdjustmentKeepsToTable book out (adjustOf book out)
   unfolding adjustOf adjustRules sweepsOf unheldMark byRules
   adjustment-keeps-to-table out =

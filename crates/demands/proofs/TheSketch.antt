@@ -49,7 +49,7 @@ use Rattle.demands.proofs.CorrectedBook.{rerun-is-redone}
 -- ---- the call
 
 module _ (book : Lent) (out : Lists) where
-  -- it keeps to its table: 4, 6, 7, 10
+  -- it keeps to its table: 3, 4, 6, 7, 10
   pub sketch-keeps-to-table : SketchKeepsToTable book out (sketchCall book out)
   unfolding sketchCall sketchGood drawnInto sketchRules byRules
   sketch-keeps-to-table =

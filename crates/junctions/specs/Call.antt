@@ -1,4 +1,4 @@
--- What the sketch answers, and what the four lent outputs then hold: refusals 4, 6, 7 and 10.
+-- What the sketch answers, and what the four lent outputs then hold: refusals 3, 4, 6, 7 and 10.
 -- Assumes nothing.
 use mathlib.Core.Bool.{Bool, _||_, cond}
 use mathlib.Core.List.{List, _++_}

@@ -2,7 +2,6 @@
 // the book number by number, tells the calls of versions that are not the book's, and prints every answer and what the output then holds.
 // A case on standard input (cases::case) has two numbers: how many places of output are lent, and its file's length.
 // tests/list_cases.py makes the cases and, on its own, what is printed of them.
-ghost use Prim.Native.Nat.{_≤_};
 use book::Book;
 use book::held::Held;
 use book::line::Line;
@@ -120,27 +119,9 @@ fn tell_either(b: i64, held: &[i64], lines: &[i64], out: &mut [i64]) {
     list_spoilt(b"version 2, t 0\n", 2, b, 0, held, lines, out);
 }
 
-// The last line gets a class that is none.
-fn spoil_class(lines: &mut [i64]) {
-    if Line::WORDS <= lines.len() {
-        let at = lines.len() - Line::WORDS;
-        lines[at + Line::CLASS] = NO_CLASS;
-    }
-}
-
-// The last entry, of so many numbers, begins with 0: a line then runs from mark 0, and a held entry is of mark 0.
-fn spoil_last(entries: &mut [i64], words: usize)
-    requires { ⌜ 1 ≤ words ⌝ }
-{
-    if words <= entries.len() {
-        let at = entries.len() - words;
-        entries[at] = 0;
-    }
-}
-
 // What is spoilt stays so, and of several refusals the lowest number is given: 7, then 6.
 fn spoil_line(version: i64, b: i64, t: i64, held: &[i64], lines: &mut [i64], out: &mut [i64]) {
-    spoil_class(lines);
+    cases::spoil_last(lines, Line::WORDS, Line::CLASS, NO_CLASS);
     list_spoilt(
         b"the last line of class 5\n",
         version,
@@ -150,7 +131,7 @@ fn spoil_line(version: i64, b: i64, t: i64, held: &[i64], lines: &mut [i64], out
         lines,
         out,
     );
-    spoil_last(lines, Line::WORDS);
+    cases::spoil_last(lines, Line::WORDS, Line::FROM, 0);
     list_spoilt(
         b"the last line from mark 0\n",
         version,
@@ -163,7 +144,7 @@ fn spoil_line(version: i64, b: i64, t: i64, held: &[i64], lines: &mut [i64], out
 }
 
 fn spoil_held(version: i64, b: i64, t: i64, held: &mut [i64], lines: &[i64], out: &mut [i64]) {
-    spoil_last(held, Held::WORDS);
+    cases::spoil_last(held, Held::WORDS, Held::MARK, 0);
     list_spoilt(
         b"the last held entry of mark 0\n",
         version,

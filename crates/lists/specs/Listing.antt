@@ -1,4 +1,4 @@
--- What the listing of one loop, and of all loops, answers, and what the lent output then holds: refusals 4, 6, 7, 8 and 10.
+-- What the listing of one loop, and of all loops, answers, and what the lent output then holds: refusals 3, 4, 6, 7, 8 and 10.
 -- Assumes nothing.
 use mathlib.Core.Bool.{cond}
 use mathlib.Core.List.{List, _++_, map}

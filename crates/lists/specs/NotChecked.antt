@@ -1,4 +1,4 @@
--- What the not-checked list answers, and what the lent output then holds: refusals 4, 6, 7 and 10.
+-- What the not-checked list answers, and what the lent output then holds: refusals 3, 4, 6, 7 and 10.
 -- Assumes nothing.
 use mathlib.Core.List.{List, map}
 use Prim.Native.Nat.{ℕ}

@@ -206,14 +206,6 @@ fn tell_either(b: i64, held: &[i64], lines: &[i64]) {
     show(b"version 2, t 1:", 2, b, 1, held, lines, room);
 }
 
-// The last line gets a class that is none.
-fn spoil_class(lines: &mut [i64]) {
-    if Line::WORDS <= lines.len() {
-        let at = lines.len() - Line::WORDS;
-        lines[at + Line::CLASS] = NO_CLASS;
-    }
-}
-
 // That, and told as of no version, which comes before it.
 fn show_spoilt(version: i64, b: i64, t: i64, held: &[i64], lines: &[i64]) {
     let room = one_place_each();
@@ -230,7 +222,7 @@ fn show_thinned(version: i64, b: i64, t: i64, held: &[i64], lines: &mut [i64], e
     withdraw(lines, every);
     show_all(version, b, t, held, lines);
     tell_either(b, held, lines);
-    spoil_class(lines);
+    cases::spoil_last(lines, Line::WORDS, Line::CLASS, NO_CLASS);
     show_spoilt(version, b, t, held, lines);
 }
 

@@ -129,14 +129,6 @@ fn tell_either(b: i64, held: &[i64], lines: &[i64], report: &mut [i64]) {
     survey(b"  version 2, t 1", 2, b, 1, held, lines, report);
 }
 
-// The last line gets a class that is none.
-fn spoil_class(lines: &mut [i64]) {
-    if Line::WORDS <= lines.len() {
-        let at = lines.len() - Line::WORDS;
-        lines[at + Line::CLASS] = NO_CLASS;
-    }
-}
-
 // Told as of no version: 3 comes before a line of no class.
 fn tell_none(b: i64, t: i64, held: &[i64], lines: &[i64], report: &mut [i64]) {
     survey(b"  version 0", 0, b, t, held, lines, report);
@@ -173,7 +165,7 @@ fn tell_otherwise(
     report: &mut [i64],
 ) {
     tell_either(b, held, lines, report);
-    spoil_class(lines);
+    cases::spoil_last(lines, Line::WORDS, Line::CLASS, NO_CLASS);
     survey(b"  class 5", version, b, t, held, lines, report);
     tell_none(b, t, held, lines, report);
     tell_none_again(b, t, held, lines, report);

@@ -1,12 +1,14 @@
-use mathlib.Core.Path.{_≡_, refl, sym, _∙_}
+use mathlib.Core.Path.{_≡_, sym, _∙_, subst}
+use Prim.Native.Nat.{ℕ, _≤_}
 use native.Mathlib.Omega.{arith}
 use lib.IntN.{natAbs}
+use lib.ListN.{getD}
 use Rattle.laws.specs.Range.{Between}
 use Rattle.laws.specs.Tests.{eqZ}
 use Rattle.laws.proofs.Inside.{eqZ-true}
 use Rattle.laws.proofs.Size.{not-negative}
-use Rattle.book.specs.Limits.{leastClass, mostClass}
-use Rattle.book.specs.Version.{noClass}
+use Rattle.book.specs.Limits.{leastClass, mostClass, mostTolerance}
+use Rattle.book.specs.Version.{noClass, tolerances, toleranceOf}
 use Rattle.book.proofs.Versions.{no-class-tolerance, in-table, class-tolerance, tolerance-at-most}
 use borrow.Author.Needs.{needs}
 use Rattle.book.proofs.class.tolerance.Statement.{statement}
@@ -31,8 +33,9 @@ returns-2 : tie.Need-returns-2
 returns-2 c =
     let entry = c .before .before .before in
     let a = entry .args in
-    rw (place c, ← (class-tolerance (a .t) (a .class) (looked-up (c .before))))
-    (refl, tolerance-at-most (a .t) (a .class) (entry .pre .1) (entry .pre .0))
+    let found : getD tolerances (c .index .result) 0 ≡ toleranceOf (a .t) (a .class)
+    = rw (place c) (sym (class-tolerance (a .t) (a .class) (looked-up (c .before)))) in
+    (found, subst (λ (n : ℕ). n ≤ mostTolerance) (sym found) (tolerance-at-most (a .t) (a .class) (entry .pre .1) (entry .pre .0)))
 
 pub tolerance-spec : {M : Type 1} → statement M
 tolerance-spec =
