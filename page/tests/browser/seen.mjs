@@ -42,8 +42,9 @@ export function focus(selector) {
   document.querySelector(selector).focus();
 }
 
-/** What has the focus, by its id or else by its name. */
-export function focused() {
+/** What has the focus, by its id or else by its name, once the page has done what it left for its next turn, as giving it back. */
+export async function focused() {
+  await new Promise(done => setTimeout(done));
   const element = document.activeElement;
   return element.id || element.getAttribute('aria-label') || element.tagName.toLowerCase();
 }
