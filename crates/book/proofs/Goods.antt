@@ -28,7 +28,7 @@ use Rattle.book.specs.declared.Book.{Book}
 use Rattle.book.specs.declared.Refusal.{Refusal}
 use Rattle.book.specs.declared.Tested.{Tested}
 use Rattle.book.specs.declared.Tested.the-variants.{Good, Refused}
-use Rattle.book.proofs.Versions.{natural-tolerance, versioned, known-version, small-tolerance, classes}
+use Rattle.book.proofs.Versions.{tolerance-inside, versioned, known-version, small-tolerance, classes}
 
 none-first : (n : ℕ) → ltb 0 n ≡ false → n ≡ 0
 none-first n e = let z = ltb-false 0 n e in omega arith
@@ -158,7 +158,7 @@ module _ (book : Lent) where
           marks = marks .is;
           a-mark = marks .low;
           few-marks = marks .high;
-          tolerance = natural-tolerance (book .version) (book .t) tolerance;
+          tolerance = tolerance-inside (book .version) (book .t) tolerance .0;
           by-version = versioned (book .lines) n (book .version) (book .t) (p .version) tolerance
               (λ i l. good-class (book .version) (book .b) (book .lines) i (no-bad-line i l));
           held-good = record {

@@ -26,23 +26,15 @@ use Rattle.book.specs.Good.{Versioned, single, classed}
 same : (x y : ℤ) → not (eqZ x y) ≡ false → x ≡ y
 same x y e = eqZ-true x y (not-false (eqZ x y) e)
 
--- t is a natural number
-pub natural-tolerance : (version t : ℤ) → toleranceOut version t ≡ false → t ≡ pos (natAbs t)
+-- t is a natural number, within the limit that it has in version 1
+pub tolerance-inside : (version t : ℤ) → toleranceOut version t ≡ false → (t ≡ pos (natAbs t)) × (natAbs t ≤ mostTolerance)
 unfolding toleranceOut
-natural-tolerance version t e = go (eqZ version (pos 2)) e
+tolerance-inside version t e = go (eqZ version (pos 2)) e
   where
-    go : (x : Bool) → cond x (not (eqZ t (pos 0))) (outZ (pos leastTolerance) (pos mostTolerance) t) ≡ false → t ≡ pos (natAbs t)
-    go true e = let z = same t (pos 0) e in z ∙ sym (ap (λ (x : ℤ). pos (natAbs x)) z)
-    go false e = between leastTolerance mostTolerance t e .is
-
--- and within the limit that it has in version 1
-pub tolerance-high : (version t : ℤ) → toleranceOut version t ≡ false → natAbs t ≤ mostTolerance
-unfolding toleranceOut
-tolerance-high version t e = go (eqZ version (pos 2)) e
-  where
-    go : (x : Bool) → cond x (not (eqZ t (pos 0))) (outZ (pos leastTolerance) (pos mostTolerance) t) ≡ false → natAbs t ≤ mostTolerance
-    go true e = omega (arith, ap natAbs (same t (pos 0) e))
-    go false e = between leastTolerance mostTolerance t e .high
+    go : (x : Bool) → cond x (not (eqZ t (pos 0))) (outZ (pos leastTolerance) (pos mostTolerance) t) ≡ false
+        → (t ≡ pos (natAbs t)) × (natAbs t ≤ mostTolerance)
+    go true e = let z = same t (pos 0) e in (z ∙ sym (ap (λ (x : ℤ). pos (natAbs x)) z), omega (arith, ap natAbs z))
+    go false e = let w = between leastTolerance mostTolerance t e in (w .is, w .high)
 
 module _ (lines : List ℤ) (n : ℕ) where
   pub versioned : (version t : ℤ) → versionOut version ≡ false → toleranceOut version t ≡ false

@@ -2,7 +2,7 @@
 use Prim.Native.Nat.{ℕ, _+_, _*_, _≤_, _<_}
 use native.Mathlib.Nat.{add-zero}
 use native.Mathlib.Omega.{arith}
-use mathlib.Core.Path.{_≡_, refl, sym, _∙_, ap, ap₂}
+use mathlib.Core.Path.{_≡_, refl, sym, _∙_, ap, ap₂, subst}
 use mathlib.Core.Logic.{_⊎_, _↔_, inl, inr}
 use mathlib.Core.List.{List, [], _∷_, _++_, map, map-map, append-assoc, List·Memᴰ, List·Memᴰ·head, List·Memᴰ·tail}
 use lib.IntN.{ℤ, pos, natAbs, _+ℤ_}
@@ -12,7 +12,8 @@ use mir.Val.{toZ}
 use Rattle.laws.specs.Tests.{eqZ}
 use Rattle.laws.specs.Range.{Between}
 use Rattle.book.specs.Lent.{Lent}
-use Rattle.book.specs.Limits.{leastTolerance, mostTolerance, leastClass, mostClass}
+use Rattle.book.specs.Limits.{leastTolerance, mostTolerance, leastClass, mostClass, mostHeld, mostLines}
+use Rattle.book.specs.Held.{heldWords}
 use Rattle.book.specs.Version.{noClass, tolerances, toleranceOf}
 use Rattle.book.specs.Line.{lineWords, differenceField, standingField, classField, place, classAt, entryAt}
 use Rattle.book.specs.Good.{Versioned, single, classed}
@@ -23,7 +24,7 @@ use Rattle.book.proofs.Goods.{tested-good}
 use Rattle.book.proofs.Versions.{InsideLimits, class-tolerance, tolerances-inside, one-has-none, two-has-one}
 use Rattle.file.specs.Wire.{be}
 use Rattle.file.specs.Entry.{entryBytes, lineNumbers, numbers, lineKind}
-use Rattle.file.specs.Read.{fileLength, linesOf}
+use Rattle.file.specs.Read.{fileLength, linesOf, readOf}
 use Rattle.file.specs.declared.entry.Kind.the-variants.{ClassedLine}
 use Rattle.file.proofs.Entries.{line-read}
 use Rattle.network.specs.Standing.{Line, standing}
@@ -42,7 +43,8 @@ use Rattle.survey.specs.Survey.{surveyOf}
 use Rattle.text.specs.Bytes.{bytes}
 use Rattle.text.specs.Number.{decimal}
 use Rattle.text.specs.Report.{headText}
-use Rattle.page.specs.Page.{loopsPage, bookPage}
+use Rattle.page.specs.Page.{loopsPage, bookPage, pageOf}
+use Rattle.page.proofs.Filed.{book-filed}
 use Rattle.demands.specs.TheLoops.{inRow, Within}
 use Rattle.demands.specs.Corrections.{Step, rerun, withdraw, correct, Accepted, no-more, accepted, OnlyChange}
 use Rattle.demands.proofs.Corrections.{rerun-sets-one-number, withdrawal-sets-one-number}
@@ -60,7 +62,9 @@ pub tolerance-without-class : (t : ℕ) → toleranceOf t noClass ≡ t
 unfolding toleranceOf
 tolerance-without-class t = refl
 
--- ---- "Book version 2 has two more bytes in each line, a class and the standing mark, so a line takes 14 bytes and the file 13 + 10h + 14n"
+-- ---- "Book version 2 has two more bytes in each line, a class and the standing mark"
+
+-- "so a line takes 14 bytes and the file 13 + 10h + 14n"
 
 pub length-of-either-version : (h n : ℕ) → (fileLength 1 h n ≡ 13 + h * 10 + n * 12) × (fileLength 2 h n ≡ 13 + h * 10 + n * 14)
 unfolding eqZ
@@ -141,7 +145,7 @@ module _ (book : Lent) (k : Book) (passes : testOf book ≡ Good k) where
   pub no-class-in-one : k .version ≡ 1 → (lp : Loop) → List·Memᴰ lp (loopsOf (k .marks) (book .lines)) → Unclassed lp
   no-class-in-one e lp m p on = let w = its-line lp m p on in w .its-class ∙ version-one-asks e .2 (w .i) (w .there)
 
--- ---- "A version 2 loop is within exactly if m*m is at most 10 times the sum over its lines of tolerance squared times length as in Req 03"
+-- ---- "within exactly if m*m is at most 10 times the sum over its lines of tolerance squared times length as in Req 03"
 
 -- what the lines of a loop allow, each by its own tolerance: one list for both versions
 abbrev pub byTolerance : (Line → ℕ) → Loop → List ℕ
@@ -243,9 +247,20 @@ unfolding bytes
 first-line version =
     record { rest = bytes "MARKS "; is = sym (append-assoc (bytes "LEVEL BOOK " ++ decimal version) (bytes "\n") (bytes "MARKS ")) }
 
--- of every book that is printed
-pub first-line-names-the-version : (k : Book) (lines : List ℤ) → Begins (firstLine (k .version)) (bookPage k lines)
+-- of a book that is printed
+first-of-book : (k : Book) (lines : List ℤ) → Begins (firstLine (k .version)) (bookPage k lines)
 unfolding bookPage loopsPage headText
-first-line-names-the-version k lines =
+first-of-book k lines =
     and-more _ (and-more _ (and-more _ (and-more _ (and-more _ (and-more _ (and-more _ (and-more _ (and-more _ (and-more _
     (first-line (k .version)))))))))))
+
+-- so that the report of every file that is read, into buffers with room for any book, begins with the version that was read
+pub first-line-names-the-version : (file : List ℕ) (held lines : List ℤ) → mostHeld * heldWords ≤ length held
+    → mostLines * lineWords ≤ length lines
+    → let o = readOf file held lines in o .answer .refusal .number ≡ 0
+    → Begins (firstLine (o .answer .version)) (pageOf file)
+unfolding pageOf
+first-line-names-the-version file held lines held-room lines-room zero =
+    let o = readOf file held lines in
+    let filed = book-filed file held lines held-room lines-room o refl zero in
+    subst (Begins (firstLine (o .answer .version))) (filed .its-text bookPage) (first-of-book _ _)

@@ -142,4 +142,9 @@ module _ (book : Lent) (report : List ℤ) (k : Book) (passes : testOf book ≡ 
       → rerunOf book report number difference ≡ corrected (survey.refusedWith (refusal 9 0)) (book .lines) report
   unfolding rerunOf correctOf correctGood differenceOut
   other-report-is-refused-in-rerun difference small =
-      rw (beside-inside book _ (size-inside mostDifference difference small), passes, line-exactly-if-stands (book .lines) number .1 (i, stands), differs)
+      rw (
+        beside-inside book _ (size-inside mostDifference difference small),
+        passes,
+        line-exactly-if-stands (book .lines) number .1 (i, stands),
+        differs,
+      )

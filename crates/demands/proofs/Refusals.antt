@@ -93,7 +93,8 @@ module _ (book : Lent) where
   unfolding rerunOf correctOf rerunRules byRules counted
   rerun-keeps-to-table report number difference =
       keeps-to-table (λ r. refl) refl refl
-      (by-the-test-beside (differenceOut difference) book (λ k. correctGood k (book .lines) report number (rerunLines (book .lines) number difference))
+      (by-the-test-beside (differenceOut difference) book
+      (λ k. correctGood k (book .lines) report number (rerunLines (book .lines) number difference))
       (correctionRules book report number)
       (λ r. corrected (survey.refusedWith r) (book .lines) report)
       (correctionDone book report (rerunLines (book .lines) number difference)) refl)
@@ -256,7 +257,8 @@ module _ (file : List ℕ) (held lines : List ℤ) where
 
   -- a refused file: version, b, t, h and n are 0, and both buffers are as they were
   pub refused-reader-changes-nothing : let o = readOf file held lines in (o .answer .refusal .number ≡ 0 → ⊥)
-      → (o .answer .version ≡ 0) × (o .answer .b ≡ 0) × (o .answer .t ≡ 0) × (o .answer .h ≡ 0) × (o .answer .n ≡ 0) × (o .held ≡ held) × (o .lines ≡ lines)
+      → (o .answer .version ≡ 0) × (o .answer .b ≡ 0) × (o .answer .t ≡ 0) × (o .answer .h ≡ 0) × (o .answer .n ≡ 0)
+      × (o .held ≡ held) × (o .lines ≡ lines)
   refused-reader-changes-nothing h = let e = reader-keeps-to-table .refused h in (
     ap (λ (o : Outcome). o .answer .version) e,
     ap (λ (o : Outcome). o .answer .b) e,

@@ -73,7 +73,8 @@ module _ (book : Lent) (k : Book) (passes : testOf book ≡ Good k) (out : List 
       ↔ (natAbs (misclosure loop) * natAbs (misclosure loop) ≤ 10 * k .tolerance * k .tolerance * judgedLength loop)
   verdict-by-judged-length one =
       let w = each-row-is-of-its-loop book k passes out done i there .0 .within in
-      let j = within-by-judged-length (k .tolerance) loop (no-class-in-one book k passes one loop (in-book book k passes out done i there)) in
+      let no-class = no-class-in-one book k passes one loop (in-book book k passes out done i there) in
+      let j = within-by-judged-length (k .tolerance) loop no-class in
       (λ e. j .0 (w .0 e), λ h. w .1 (j .1 h))
 
   -- "The row's length .. keep the length as entered."

@@ -52,7 +52,8 @@ line from to difference = from ∷ to ∷ difference ∷ pos 10 ∷ pos 1 ∷ no
 abbrev twoLines : List ℤ
 twoLines = line (pos 1) (pos 2) (pos 0) ++ line (pos 1) (pos 2) (pos 7)
 
-no-line-surveyed : surveyOf (lent (pos 1) (pos 1) (pos 1) [] noLines) [] ≡ surveyed (record { refusal = noRefusal; rows = 0; pieces = 1 }) []
+no-line-surveyed : surveyOf (lent (pos 1) (pos 1) (pos 1) [] noLines) []
+    ≡ surveyed (record { refusal = noRefusal; rows = 0; pieces = 1 }) []
 unfolding surveyOf outZ outN eqZ firstFrom firstBad anyBelow
 no-line-surveyed = refl
 
@@ -66,7 +67,8 @@ pub no-one-report-fits : (n : ℕ)
     → ((book : Lent) (out : List ℤ) → surveyOf book out .answer .refusal .number ≡ 0 → surveyOf book out .answer .rows ≡ n) → ⊥
 no-one-report-fits n h =
     let none : 0 ≡ n = rw no-line-surveyed at (h (lent (pos 1) (pos 1) (pos 1) [] noLines) [] (rw no-line-surveyed)) in
-    let one : 1 ≡ n = rw two-lines-surveyed at (h (lent (pos 1) (pos 2) (pos 1) [] twoLines) (replicate 5 (pos 0)) (rw two-lines-surveyed)) in
+    let one : 1 ≡ n
+    = rw two-lines-surveyed at (h (lent (pos 1) (pos 2) (pos 1) [] twoLines) (replicate 5 (pos 0)) (rw two-lines-surveyed)) in
     omega arith
 
 -- "a re-run that does nothing": an accepted re-run to another difference changes the book
@@ -78,7 +80,8 @@ rerun-does-something book report number difference z other same =
     ∙ ap (λ (x : List ℤ). getD x (placeOf number differenceField) (pos 0)) same)
 
 -- and moves the report: of two lines between two marks line 2 is re-run from 7 to 8
-pub rerun-moves-the-report : rerunOf (lent (pos 1) (pos 2) (pos 1) [] twoLines) (pos 2 ∷ pos 2 ∷ pos 20 ∷ pos 7 ∷ pos 0 ∷ []) (pos 2) (pos 8)
+pub rerun-moves-the-report :
+    rerunOf (lent (pos 1) (pos 2) (pos 1) [] twoLines) (pos 2 ∷ pos 2 ∷ pos 20 ∷ pos 7 ∷ pos 0 ∷ []) (pos 2) (pos 8)
     ≡ corrected (record { refusal = noRefusal; rows = 1; pieces = 1 }) (line (pos 1) (pos 2) (pos 0) ++ line (pos 1) (pos 2) (pos 8))
     (pos 2 ∷ pos 2 ∷ pos 20 ∷ pos 8 ∷ pos 0 ∷ [])
 unfolding rerunOf outZ outN eqZ firstFrom firstBad anyBelow
@@ -122,7 +125,8 @@ unfolding startHeights tree standing rootedBy heldHeight
 two-lines-start = refl
 
 -- one mark, held
-one-mark-adjusted : adjustOf (lent (pos 1) (pos 1) (pos 1) (pos 1 ∷ pos 5 ∷ []) noLines) (replicate 1 (pos 9)) ≡ adjusted (settledAt 1) (pos 5 ∷ [])
+one-mark-adjusted : adjustOf (lent (pos 1) (pos 1) (pos 1) (pos 1 ∷ pos 5 ∷ []) noLines) (replicate 1 (pos 9))
+    ≡ adjusted (settledAt 1) (pos 5 ∷ [])
 unfolding adjustOf outZ outN eqZ firstFrom firstBad anyBelow workHeightOut tree standing rootedBy heldHeight isHeld sightsOf
 one-mark-adjusted = refl
 
@@ -143,5 +147,6 @@ no-one-number-of-sweeps n h =
     let one : 1 ≡ n =
     rw one-mark-adjusted at (h (lent (pos 1) (pos 1) (pos 1) (pos 1 ∷ pos 5 ∷ []) noLines) (replicate 1 (pos 9)) (rw one-mark-adjusted)) in
     let two : 2 ≡ n =
-    rw two-lines-adjusted at (h (lent (pos 1) (pos 2) (pos 1) (pos 1 ∷ pos 0 ∷ []) twoLines) (replicate 3 (pos 9)) (rw two-lines-adjusted)) in
+    rw two-lines-adjusted at (h (lent (pos 1) (pos 2) (pos 1) (pos 1 ∷ pos 0 ∷ []) twoLines) (replicate 3 (pos 9))
+    (rw two-lines-adjusted)) in
     omega arith

@@ -88,7 +88,8 @@ module _ (kind : Kind) (file : List ℕ) (a : ℕ) where
           → take (entryWords kind) (drop (i * entryWords kind) (entries kind file a n ++ its-numbers n)) ≡ its-numbers i
       go (yes e) earlier =
           rw (e, drop-at (entries kind file a n) (its-numbers n) (n * entryWords kind) (entries-length kind file a n))
-          (take-all (entryWords kind) (its-numbers n) (omega (arith, numbers-count kind (take (entryBytes kind) (drop (a + n * entryBytes kind) file)))))
+          (take-all (entryWords kind) (its-numbers n)
+          (omega (arith, numbers-count kind (take (entryBytes kind) (drop (a + n * entryBytes kind) file)))))
       go (no d) earlier =
           let whole = room-for i n (entryWords kind) (omega arith) in
           let long = entries-length kind file a n in

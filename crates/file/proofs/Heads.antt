@@ -20,7 +20,7 @@ use Rattle.book.specs.declared.Book.{Book}
 use Rattle.book.specs.declared.Refusal.{Refusal}
 use Rattle.book.specs.declared.Tested.{Tested}
 use Rattle.book.specs.declared.Tested.the-variants as tested
-use Rattle.book.proofs.Versions.{tolerance-high}
+use Rattle.book.proofs.Versions.{tolerance-inside}
 use Rattle.file.specs.Read.{statedLength, statedVersion, statedT, statedB, statedH, statedN, fileLength, headOf, Stated}
 use Rattle.file.specs.Entry.{entryBytes, lineKind}
 use Rattle.file.specs.declared.entry.Kind.the-variants.{Line, ClassedLine}
@@ -55,7 +55,7 @@ head-states file k e =
       size = eqb-true (length file) (fileLength v h n) (not-false (eqb (length file) (fileLength v h n)) (p₅ .0));
       known-version = between leastVersion mostVersion (pos v) (p₃ .0) .high;
       few-marks = between leastMarks mostMarks (pos b) (or-left out₁ out₂ o₂) .high;
-      small-tolerance = tolerance-high (pos v) (pos t) (or-right out₁ out₂ o₂);
+      small-tolerance = tolerance-inside (pos v) (pos t) (or-right out₁ out₂ o₂) .1;
       few-held = inN-high leastHeld mostHeld h (or-right (out₁ || out₂) out₃ o₃);
       few-lines = inN-high leastLines mostLines n (or-right (out₁ || out₂ || out₃) out₄ (p₄ .0));
     })
@@ -79,7 +79,8 @@ longest-file len k s =
     omega (arith, s .size, s .few-held, most)
 
 -- a head whose version or counts are refused
-pub book-refused : (version b t : ℤ) (h n : ℕ) (m : Tested) → m ≡ bookOf version b t h n → (r : Refusal) → m ≡ tested.Refused r → (rest : Head)
+pub book-refused : (version b t : ℤ) (h n : ℕ) (m : Tested) → m ≡ bookOf version b t h n → (r : Refusal) → m ≡ tested.Refused r
+    → (rest : Head)
     → Refused (r .number) ≡ cond (versionOut version) (Refused 3) (cond (bookOut version b t h n) (Refused 4) rest)
 unfolding bookOf
 book-refused version b t h n m e r g rest = go (versionOut version) (bookOut version b t h n) e

@@ -208,7 +208,8 @@ module _ (m : ℕ) {s : Sketch} {rows runs : List ℕ} {c : Counts} (t : Tabled 
 
   merge-around : Holds (two .before ++ (two .one ∷ (two .between ++ (two .other ∷ rest)))) rows runs
   merge-around =
-      subst (λ (l : List Link). Holds l rows runs) (ap (λ (l : List Link). (l ++ s .spurs) ++ s .loops) (two .links-are) ∙ simp append-assoc)
+      subst (λ (l : List Link). Holds l rows runs)
+      (ap (λ (l : List Link). (l ++ s .spurs) ++ s .loops) (two .links-are) ∙ simp append-assoc)
       (t .held)
 
   count : c .links ≡ length (two .before) + suc (length (two .between) + suc (length (two .after)))

@@ -69,7 +69,8 @@ pub fn listings(
     lines: &[i64],
     out: &mut [i64],
 ) -> Listed
-    ensures { λ r. ⌜ listing r (now (out .exit)) ≡ listingsOf (lent version b t (now (held .entry)) (now (lines .entry))) (now (out .entry)) ⌝ }
+    ensures { λ r. ⌜ listing r (now (out .exit))
+        ≡ listingsOf (lent version b t (now (held .entry)) (now (lines .entry))) (now (out .entry)) ⌝ }
 {
     match book::test(version, b, t, held, lines) {
         Tested::Refused(r) => refused(r),
@@ -86,7 +87,8 @@ pub fn not_checked(
     lines: &[i64],
     out: &mut [i64],
 ) -> Listed
-    ensures { λ r. ⌜ listing r (now (out .exit)) ≡ notCheckedOf (lent version b t (now (held .entry)) (now (lines .entry))) (now (out .entry)) ⌝ }
+    ensures { λ r. ⌜ listing r (now (out .exit))
+        ≡ notCheckedOf (lent version b t (now (held .entry)) (now (lines .entry))) (now (out .entry)) ⌝ }
 {
     match book::test(version, b, t, held, lines) {
         Tested::Refused(r) => refused(r),

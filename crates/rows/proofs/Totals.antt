@@ -72,7 +72,8 @@ pub length-size : (ls : List ℤ) (code : ℕ) → Measured ls → Runs ls code 
 unfolding lengthBy
 length-size ls code m r = m .lengths (lineOf code) (line-there r) .high
 
-pub tolerance-size : (t : ℕ) (ls : List ℤ) (code : ℕ) → t ≤ mostTolerance → Measured ls → Runs ls code → toleranceBy t ls code ≤ mostTolerance
+pub tolerance-size : (t : ℕ) (ls : List ℤ) (code : ℕ) → t ≤ mostTolerance → Measured ls → Runs ls code
+    → toleranceBy t ls code ≤ mostTolerance
 unfolding toleranceBy
 tolerance-size t ls code ht m r = tolerance-at-most t (classAt ls (lineOf code)) ht (m .classes (lineOf code) (line-there r))
 

@@ -111,7 +111,11 @@ module _ (k : Book) (lines : List ℤ) (good : GoodLines k lines) (number : ℤ)
     few-marks = good .few-marks;
     small-tolerance = good .small-tolerance;
     classes = λ j l. rw (field-kept lines i f v classField (omega arith) (lit< tt) (λ e. omega arith) j) (good .classes j l);
-    good = record { few = good .good .few; whole = length-set lines (place i f) v ∙ good .good .whole; each = λ j l. h j (good .good .each j l) };
+    good = record {
+      few = good .good .few;
+      whole = length-set lines (place i f) v ∙ good .good .whole;
+      each = λ j l. h j (good .good .each j l);
+    };
   }
 
   -- with a difference inside its limit, or withdrawn, the line leaves the book good

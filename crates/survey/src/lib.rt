@@ -50,7 +50,8 @@ pub(crate) fn count_of(found: Found) -> Answer
 
 // The loops of the book as rows. A refusal leaves the rows as they were.
 pub fn survey(version: i64, b: i64, t: i64, held: &[i64], lines: &[i64], rows: &mut [i64]) -> Answer
-    ensures { λ r. ⌜ surveyed r (now (rows .exit)) ≡ surveyOf (lent version b t (now (held .entry)) (now (lines .entry))) (now (rows .entry)) ⌝ }
+    ensures { λ r. ⌜ surveyed r (now (rows .exit))
+        ≡ surveyOf (lent version b t (now (held .entry)) (now (lines .entry))) (now (rows .entry)) ⌝ }
 {
     match book::test(version, b, t, held, lines) {
         Tested::Refused(r) => refused(r),

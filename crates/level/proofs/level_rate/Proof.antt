@@ -9,14 +9,16 @@ use Rattle.level.proofs.level_rate.Tie as tie
 
 -- what the call below answered, at the numbers that were lent
 called : (c : tie.After-rate)
-    → (let a = c .before .args in c .rate .result ≡ rateAnswer (lent (a .version) (a .b) (a .t) (a .held .now) (a .lines .now)) (a .heights .now)
+    → (let a = c .before .args in
+    c .rate .result ≡ rateAnswer (lent (a .version) (a .b) (a .t) (a .held .now) (a .lines .now)) (a .heights .now)
     (a .line))
 called c = c .rate .ensures ∙ search needs
 
 rate-answer-requires : tie.Need-rate-answer-requires
 rate-answer-requires c κs =
     let a = c .before .args in
-    subst SmallRate (sym (called c)) (rate-small (lent (a .version) (a .b) (a .t) (a .held .now) (a .lines .now)) (a .heights .now) (a .line))
+    subst SmallRate (sym (called c))
+    (rate-small (lent (a .version) (a .b) (a .t) (a .held .now) (a .lines .now)) (a .heights .now) (a .line))
 
 returns : tie.Need-returns
 returns c = c .rate-answer .ensures ∙ ap signedRate (called (c .before))

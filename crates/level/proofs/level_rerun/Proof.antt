@@ -17,7 +17,8 @@ survey-answer-requires : tie.Need-survey-answer-requires
 survey-answer-requires c κs =
     let r = c .before .before in
     let a = r .before .before .before .args in
-    subst SmallAnswer (sym (called r)) (rerun-small (lent (a .version) (a .b) (a .t) (a .held .now) (a .lines .now)) (a .report .now) (a .line)
+    subst SmallAnswer (sym (called r))
+    (rerun-small (lent (a .version) (a .b) (a .t) (a .held .now) (a .lines .now)) (a .report .now) (a .line)
     (a .difference))
 
 returns : tie.Need-returns

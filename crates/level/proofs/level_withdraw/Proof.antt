@@ -17,7 +17,8 @@ survey-answer-requires : tie.Need-survey-answer-requires
 survey-answer-requires c κs =
     let r = c .before .before in
     let a = r .before .before .before .args in
-    subst SmallAnswer (sym (called r)) (withdraw-small (lent (a .version) (a .b) (a .t) (a .held .now) (a .lines .now)) (a .report .now) (a .line))
+    subst SmallAnswer (sym (called r))
+    (withdraw-small (lent (a .version) (a .b) (a .t) (a .held .now) (a .lines .now)) (a .report .now) (a .line))
 
 returns : tie.Need-returns
 returns c = rw (c .survey-answer .ensures) (ap ofCorrection (c .before .before .before .withdraw .ensures) ∙ search needs)

@@ -8,7 +8,8 @@ use Rattle.survey.proofs.survey.Statement.{statement}
 use Rattle.survey.proofs.survey.Tie as tie
 
 -- what the test answered, at the numbers that were lent
-tested : (c : tie.After-test) → (let a = c .before .args in c .test .result ≡ testOf (lent (a .version) (a .b) (a .t) (a .held .now) (a .lines .now)))
+tested : (c : tie.After-test) → (let a = c .before .args in
+    c .test .result ≡ testOf (lent (a .version) (a .b) (a .t) (a .held .now) (a .lines .now)))
 tested c = c .test .ensures ∙ search needs
 
 survey-good-requires : tie.Need-survey-good-requires
