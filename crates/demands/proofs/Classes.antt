@@ -44,7 +44,8 @@ use Rattle.text.specs.Bytes.{bytes}
 use Rattle.text.specs.Number.{decimal}
 use Rattle.text.specs.Report.{headText}
 use Rattle.page.specs.Page.{loopsPage, bookPage, pageOf}
-use Rattle.page.proofs.Filed.{book-filed}
+use Rattle.page.specs.Filed.{bookLines}
+use Rattle.page.proofs.Filed.{bookRead, book-filed}
 use Rattle.demands.specs.TheLoops.{inRow, Within}
 use Rattle.demands.specs.Corrections.{Step, rerun, withdraw, correct, Accepted, no-more, accepted, OnlyChange}
 use Rattle.demands.proofs.Corrections.{rerun-sets-one-number, withdrawal-sets-one-number}
@@ -263,4 +264,5 @@ unfolding pageOf
 first-line-names-the-version file held lines held-room lines-room zero =
     let o = readOf file held lines in
     let filed = book-filed file held lines held-room lines-room o refl zero in
-    subst (Begins (firstLine (o .answer .version))) (filed .its-text bookPage) (first-of-book _ _)
+    let k = bookRead (o .answer) in
+    subst (Begins (firstLine (k .version))) (filed .its-text bookPage) (first-of-book k (bookLines k (o .lines)))
