@@ -31,8 +31,28 @@ past : (t : Bool) (number : ℕ) (rest : Head) (k : Book) → cond t (Refused nu
 past true number rest k e = let z : _≡_ {A = ℕ} 0 1 = cc in absurd (omega arith)
 past false number rest k e = (refl, e)
 
+-- version and counts that pass the test state a file of their length
+pub counts-state : (v b t h n : ℕ) → versionOut (pos v) ≡ false → bookOut (pos v) (pos b) (pos t) h n ≡ false
+    → Stated (fileLength v h n) (counts (pos v) (pos b) (pos t) h n)
+unfolding bookOut versionOut
+counts-state v b t h n known inside =
+    let out₁ = outZ (pos leastMarks) (pos mostMarks) (pos b) in
+    let out₂ = toleranceOut (pos v) (pos t) in
+    let out₃ = outN leastHeld mostHeld h in
+    let out₄ = outN leastLines mostLines n in
+    let o₃ = or-left (out₁ || out₂ || out₃) out₄ inside in
+    let o₂ = or-left (out₁ || out₂) out₃ o₃ in
+    record {
+      size = refl;
+      known-version = between leastVersion mostVersion (pos v) known .high;
+      few-marks = between leastMarks mostMarks (pos b) (or-left out₁ out₂ o₂) .high;
+      small-tolerance = tolerance-inside (pos v) (pos t) (or-right out₁ out₂ o₂) .1;
+      few-held = inN-high leastHeld mostHeld h (or-right (out₁ || out₂) out₃ o₃);
+      few-lines = inN-high leastLines mostLines n (or-right (out₁ || out₂ || out₃) out₄ inside);
+    }
+
 pub head-states : (file : List ℕ) (k : Book) → headOf file ≡ States k → Stated (length file) k
-unfolding headOf bookOut versionOut
+unfolding headOf
 head-states file k e =
     let v = statedVersion file in
     let b = statedB file in
@@ -45,20 +65,8 @@ head-states file k e =
     let p₄ = past (bookOut (pos v) (pos b) (pos t) h n) 4 _ k (p₃ .1) in
     let p₅ = past (not (eqb (length file) (fileLength v h n))) 5 _ k (p₄ .1) in
     let q : k ≡ counts (pos v) (pos b) (pos t) h n = cc in
-    let out₁ = outZ (pos leastMarks) (pos mostMarks) (pos b) in
-    let out₂ = toleranceOut (pos v) (pos t) in
-    let out₃ = outN leastHeld mostHeld h in
-    let out₄ = outN leastLines mostLines n in
-    let o₃ = or-left (out₁ || out₂ || out₃) out₄ (p₄ .0) in
-    let o₂ = or-left (out₁ || out₂) out₃ o₃ in
-    subst (λ (k : Book). Stated (length file) k) (sym q) (record {
-      size = eqb-true (length file) (fileLength v h n) (not-false (eqb (length file) (fileLength v h n)) (p₅ .0));
-      known-version = between leastVersion mostVersion (pos v) (p₃ .0) .high;
-      few-marks = between leastMarks mostMarks (pos b) (or-left out₁ out₂ o₂) .high;
-      small-tolerance = tolerance-inside (pos v) (pos t) (or-right out₁ out₂ o₂) .1;
-      few-held = inN-high leastHeld mostHeld h (or-right (out₁ || out₂) out₃ o₃);
-      few-lines = inN-high leastLines mostLines n (or-right (out₁ || out₂ || out₃) out₄ (p₄ .0));
-    })
+    let size = eqb-true (length file) (fileLength v h n) (not-false (eqb (length file) (fileLength v h n)) (p₅ .0)) in
+    rw (q, size) (counts-state v b t h n (p₃ .0) (p₄ .0))
 
 -- "A file has 13 + 10h + 12n bytes, at most 8,717"; of version 2 13 + 10h + 14n, at most 9,741
 pub longest-is : (fileLength 1 mostHeld mostLines ≡ 8717) × (fileLength 2 mostHeld mostLines ≡ 9741)

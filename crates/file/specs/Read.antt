@@ -49,6 +49,9 @@ statedCounts file = counts (pos (statedVersion file)) (pos (statedB file)) (pos 
 abbrev pub fileLength : ℕ → ℕ → ℕ → ℕ
 fileLength version h n = 13 + h * 10 + n * entryBytes (lineKind version)
 
+abbrev pub lengthOf : Book → ℕ
+lengthOf k = fileLength (k .version) (k .held) (k .lines)
+
 -- refusals 1 to 5, whose place is 0, or the version and the counts that the file states
 unfoldable pub headOf : List ℕ → Head
 unfolding be versionOut bookOut
@@ -120,7 +123,7 @@ readOf file held lines = afterHead file held lines (headOf file)
 
 -- a head that is not refused states a file of this length, with version and counts within their limits
 pub record Stated (len : ℕ) (k : Book) : Type 0 where
-  pub size : len ≡ fileLength (k .version) (k .held) (k .lines)
+  pub size : len ≡ lengthOf k
   pub known-version : k .version ≤ mostVersion
   pub few-marks : k .marks ≤ mostMarks
   pub small-tolerance : k .tolerance ≤ mostTolerance

@@ -20,14 +20,14 @@ pub enum Kind {
 }
 
 impl Kind {
-    pub(crate) const HELD_BYTES: usize = 10;
+    pub const HELD_BYTES: usize = 10;
 
     const LINE_BYTES: usize = 12;
 
     const CLASSED_LINE_BYTES: usize = 14;
 
     // What the lines of a file of this version are.
-    pub(crate) fn of_lines(version: usize) -> Kind
+    pub fn of_lines(version: usize) -> Kind
         requires { ⌜ version < 2 ^ 63 ⌝ }
         ensures { λ r. ⌜ r ≡ lineKind version ⌝ }
     {
@@ -38,7 +38,7 @@ impl Kind {
     }
 
     // Bytes of an entry in the file.
-    pub(crate) fn bytes(self) -> usize
+    pub fn bytes(self) -> usize
         ensures { λ r. ⌜ r ≡ entryBytes self ⌝ }
     {
         match self {
@@ -49,7 +49,7 @@ impl Kind {
     }
 
     // Numbers of an entry in memory.
-    fn words(self) -> usize
+    pub fn words(self) -> usize
         ensures { λ r. ⌜ r ≡ entryWords self ⌝ }
     {
         match self {

@@ -1,11 +1,13 @@
 // The reader of book files: bytes into held entries and lines, or the first refusal of document 01's table.
 // It takes any part of a longer input as its file.
 ghost use mathlib.Core.Path.{_≡_};
+ghost use Prim.Native.Nat.{_≤_};
 ghost use lib.ListN.{length};
+ghost use Rattle.book.specs.Limits.{mostVersion, mostHeld, mostLines};
 ghost use Rattle.book.specs.Test.{refusal, testOf};
-ghost use Rattle.file.specs.Read.{Stated, headOf, answered, refusedWith, bookIn, bodyOf, roomOf, readOf};
+ghost use Rattle.file.specs.Read.{Stated, lengthOf, headOf, answered, refusedWith, bookIn, bodyOf, roomOf, readOf};
 
-mod entry;
+pub mod entry;
 mod wire;
 
 use book::Book;
@@ -32,19 +34,19 @@ pub enum Head {
 }
 
 // Bytes before the entries, and the place of each number there.
-const HEAD_BYTES: usize = 13;
+pub const HEAD_BYTES: usize = 13;
 
-const LENGTH_AT: usize = 0;
+pub const LENGTH_AT: usize = 0;
 
-const VERSION_AT: usize = 4;
+pub const VERSION_AT: usize = 4;
 
-const T_AT: usize = 5;
+pub const T_AT: usize = 5;
 
-const B_AT: usize = 7;
+pub const B_AT: usize = 7;
 
-const H_AT: usize = 9;
+pub const H_AT: usize = 9;
 
-const N_AT: usize = 11;
+pub const N_AT: usize = 11;
 
 fn refuse(number: usize, place: usize) -> ReadAnswer
     ensures { λ r. ⌜ r ≡ refusedWith (refusal number place) ⌝ }
@@ -63,6 +65,15 @@ fn refused(refusal: Refusal) -> ReadAnswer
         h: 0,
         n: 0,
     }
+}
+
+// How many bytes the file of such a book has.
+pub fn length_of(book: Book) -> usize
+    requires { ⌜ (book .version ≤ mostVersion) × (book .held ≤ mostHeld) × (book .lines ≤ mostLines) ⌝ }
+    ensures { λ r. ⌜ r ≡ lengthOf book ⌝ }
+{
+    let line_bytes = Kind::of_lines(book.version).bytes();
+    HEAD_BYTES + book.held * Kind::HELD_BYTES + book.lines * line_bytes
 }
 
 // Refusals 1 to 5, or the version and the counts that the file states.
@@ -84,8 +95,7 @@ fn head_of(file: &[u8]) -> Head
     match Book::new(version, b, t, h, n) {
         Tested::Refused(r) => Head::Refused(r.number),
         Tested::Good(book) => {
-            let line_bytes = Kind::of_lines(book.version).bytes();
-            if len != HEAD_BYTES + h * Kind::HELD_BYTES + n * line_bytes {
+            if len != length_of(book) {
                 return Head::Refused(5);
             }
             Head::States(book)

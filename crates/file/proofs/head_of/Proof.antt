@@ -1,7 +1,5 @@
 use mathlib.Core.Path.{_≡_, _∙_, ap}
 use mathlib.Core.Bool.{false}
-use Prim.Native.Nat.{_*_, _≤_}
-use native.Mathlib.Nat.{mul-le-mul}
 use native.Mathlib.Omega.{arith}
 use lib.IntN.{pos}
 use borrow.Author.Tests.{eq-eqb, ne-eqb, lt-ltb, le-ltb}
@@ -12,9 +10,8 @@ use Rattle.book.specs.Version.{versionOut}
 use Rattle.book.specs.Test.{bookOut, bookOf}
 use Rattle.book.specs.declared.Book.{Book}
 use Rattle.book.proofs.Made.{book-made}
-use Rattle.file.specs.Entry.{entryBytes, lineKind}
-use Rattle.file.specs.Read.{statedVersion, statedT, statedB, statedH, statedN, statedCounts, headOf}
-use Rattle.file.proofs.Heads.{line-bytes, book-refused}
+use Rattle.file.specs.Read.{statedVersion, statedT, statedB, statedH, statedN, statedCounts, fileLength, lengthOf, headOf}
+use Rattle.file.proofs.Heads.{counts-state, book-refused}
 use borrow.Author.Needs.{needs}
 use Rattle.file.proofs.head_of.Statement.{statement}
 use Rattle.file.proofs.head_of.Tie as tie
@@ -50,28 +47,18 @@ good : (c : tie.After-book) → (let entry : tie.Start = search in let f = entry
     × (c .book .given .0 .0 ≡ statedCounts f))
 good c = book-made _ _ _ _ _ _ (made (c .before .before)) _ (c .book .given .1)
 
--- the bytes of a line, by the stated version
-bytes-of : (c : tie.After-bytes) → (let entry : tie.Start = search in
-    c .bytes .result ≡ entryBytes (lineKind (statedVersion (entry .args .file .now))))
-bytes-of c =
+-- the length of the file that it has, by what is stated
+length-is : (c : tie.After-length-of) → (let entry : tie.Start = search in let f = entry .args .file .now in
+    c .length-of .result ≡ fileLength (statedVersion f) (statedH f) (statedN f))
+length-is c =
     let known : tie.After-book = search in
-    c .bytes .ensures ∙ ap entryBytes (c .before .of-lines .ensures ∙ ap (λ (k : Book). lineKind (k .version)) (good known .2))
-
--- which are few, so that the length fits
-lines-fit : (c : tie.After-bytes) → (let n : tie.After-be24 = search in n .be24 .result * c .bytes .result ≤ 65536 * 14)
-lines-fit c =
-    let entry : tie.Start = search in
-    let n : tie.After-be24 = search in
-    let many : n .be24 .result ≤ 65536 = omega (arith, n .be24 .ensures .1) in
-    let long : c .bytes .result ≤ 14 = rw (bytes-of c) (line-bytes (statedVersion (entry .args .file .now))) in
-    mul-le-mul many long
+    c .length-of .ensures ∙ ap lengthOf (good known .2)
 
 returns-3 : tie.Need-returns-3
 unfolding headOf
 returns-3 c =
     let known : tie.After-book = search in
     let g = good known in
-    let n : tie.After-be24 = search in
     let c₂ : tie.Else2 = search in
     rw (
       le-ltb _ _ (c₂ .before .before .if1 .left),
@@ -79,9 +66,7 @@ returns-3 c =
       eq-eqb _ _ (c₂ .if2 .left),
       g .0,
       g .1,
-      ← (bytes-of (c .before)),
-      ← (n .before .be23 .ensures .0),
-      ← (n .be24 .ensures .0),
+      ← (length-is (c .before)),
       ne-eqb _ _ (c .if3 .taken),
     )
 
@@ -98,7 +83,6 @@ unfolding headOf
 returns-5 c =
     let known : tie.After-book = search in
     let g = good known in
-    let n : tie.After-be24 = search in
     let c₂ : tie.Else2 = search in
     rw (
       le-ltb _ _ (c₂ .before .before .if1 .left),
@@ -107,18 +91,17 @@ returns-5 c =
       g .0,
       g .1,
       ← (g .2),
-      ← (bytes-of (c .before)),
-      ← (n .before .be23 .ensures .0),
-      ← (n .be24 .ensures .0),
+      ← (length-is (c .before)),
       eq-eqb _ _ (c .if3 .left),
     )
 
-of-lines-requires : tie.Need-of-lines-requires
-unfolding versionOut
-of-lines-requires c κs =
-    let g = good (c .before) in
-    let known = between leastVersion mostVersion _ (g .0) in
-    omega (arith, known .high, ap (λ (k : Book). k .version) (g .2))
+-- whose version and counts are inside their limits
+length-of-requires : tie.Need-length-of-requires
+length-of-requires c κs =
+    let known : tie.After-book = search in
+    let g = good known in
+    let s = counts-state _ _ _ _ _ (g .0) (g .1) in
+    rw (g .2) (s .known-version, s .few-held, s .few-lines)
 
 pub head-of-spec : {M : Type 1} → statement M
 head-of-spec =
@@ -138,12 +121,7 @@ head-of-spec =
     (λ c κs. search needs)  -- new-requires
     (λ c. search needs)  -- enum-known-r
     (λ c. search needs)  -- enum-known-book
-    of-lines-requires
-    (λ c κs. search needs)  -- bytes-requires
-    (λ c. search needs)  -- mul-if3
-    (λ c. search needs)  -- add-if3
-    (λ c. omega (arith, lines-fit c))  -- mul-if3-2
-    (λ c. omega (arith, lines-fit c))  -- add-if3-2
+    length-of-requires
     returns-3
     returns-4
     returns-5)
