@@ -47,9 +47,12 @@ use Rattle.junctions.proofs.Few.{few}
 use Rattle.rates.specs.Rates as rates
 use Rattle.rates.specs.Rates.{lineRate, firstHigh, goodRate, heightsOut, rateAnswer}
 use Rattle.rates.proofs.Rating.{marks-of}
-use Rattle.file.specs.Read.{readOf}
+use Rattle.file.specs.Read.{lengthOf, readOf}
 use Rattle.file.proofs.Reading.{ReadOrRefused, read-or-refused}
+use Rattle.writer.specs.Write as writer
+use Rattle.writer.specs.Write.{Writing, cannotSay, writeGood, writeOf}
 use Rattle.level.specs.Signed.{Small, SmallRead}
+use Rattle.level.specs.Writings.{SmallWritten}
 use Rattle.level.specs.Answers.{SmallAnswer}
 use Rattle.level.specs.Listings.{SmallListed}
 use Rattle.level.specs.Rating.{SmallRate}
@@ -77,6 +80,24 @@ read-small file held lines = go (read-or-refused file held lines)
           h = omega arith;
           n = omega arith;
         })
+
+unwritten-small : (number place : ℕ) → number ≤ 16 → place ≤ mostLines → SmallWritten (writer.refusedWith (refusal number place))
+unwritten-small number place high near = record { refusal = record { number = omega arith; place = omega arith }; bytes = omega arith }
+
+-- no more bytes than places
+pub write-small : (book : Lent) (file : List ℕ) → Small (length file) → SmallWritten (writeOf book file .answer)
+unfolding writeOf writeGood
+write-small book file small =
+    either-way (testOf book) _ _ (λ (w : Writing). SmallWritten (w .answer))
+    (λ r e. let n = tested-numbered book r e in unwritten-small (r .number) (r .place) (omega (arith, n .high)) (n .near))
+    (λ k e.
+    cond-ind (λ (w : Writing). SmallWritten (w .answer)) (cannotSay k (book .lines)) _ _
+    (λ _. unwritten-small 16 0 (omega arith) (omega arith))
+    (λ _.
+    cond-ind (λ (w : Writing). SmallWritten (w .answer)) (ltb (length file) (lengthOf k)) _ _
+    (λ _. unwritten-small 10 0 (omega arith) (omega arith))
+    (λ fits. let f = ltb-false (length file) (lengthOf k) fits in record
+    { refusal = record { number = omega arith; place = omega arith }; bytes = omega arith })))
 
 refusal-small : (number place : ℕ) → number ≤ 13 → place ≤ mostLines → SmallAnswer (survey.refusedWith (refusal number place))
 refusal-small number place high near =

@@ -1,4 +1,5 @@
 pub mod Signed
+pub mod Writings
 pub mod Answers
 pub mod Listings
 pub mod Rating

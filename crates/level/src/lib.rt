@@ -3,10 +3,12 @@
 ghost use mathlib.Core.Path.{_≡_};
 ghost use Rattle.book.specs.Lent.{lent};
 ghost use Rattle.file.specs.Read.{readOf};
+ghost use Rattle.writer.specs.Write.{writeOf};
 ghost use Rattle.survey.specs.Survey.{surveyOf};
 ghost use Rattle.survey.specs.Correction.{rerunOf, withdrawOf};
 ghost use Rattle.rates.specs.Rates.{rateAnswer};
 ghost use Rattle.level.specs.Signed.{SmallRefusal, signedRefusal, SmallRead, signedRead, readNow, ofRead};
+ghost use Rattle.level.specs.Writings.{SmallWritten, signedWritten, writingNow, ofWriting};
 ghost use Rattle.level.specs.Answers.{SmallAnswer, signedAnswer, surveyNow, ofSurvey, correctionNow, ofCorrection};
 ghost use Rattle.lists.specs.Listing.{listingOf, listingsOf};
 ghost use Rattle.lists.specs.NotChecked.{notCheckedOf};
@@ -71,6 +73,42 @@ pub extern "C" fn level_read(file: &[u8], held: &mut [i64], lines: &mut [i64]) -
         ≡ ofRead (readOf (now (file .entry)) (now (held .entry)) (now (lines .entry))) ⌝ }
 {
     read_answer(file::read(file, held, lines))
+}
+
+// What the writer answers.
+#[repr(C)]
+pub struct Written {
+    pub number: i64,
+    pub place: i64,
+    pub bytes: i64,
+}
+
+fn write_answer(a: writer::Written) -> Written
+    requires { ⌜ SmallWritten a ⌝ }
+    ensures { λ r. ⌜ r ≡ signedWritten a ⌝ }
+{
+    let refusal = a.refusal;
+    let r = signed_refusal(refusal);
+    Written {
+        number: r.number,
+        place: r.place,
+        bytes: signed::signed_count(a.bytes),
+    }
+}
+
+#[no_mangle]
+pub extern "C" fn level_write(
+    version: i64,
+    b: i64,
+    t: i64,
+    held: &[i64],
+    lines: &[i64],
+    file: &mut [u8],
+) -> Written
+    ensures { λ r. ⌜ writingNow r (now (file .exit))
+        ≡ ofWriting (writeOf (lent version b t (now (held .entry)) (now (lines .entry))) (now (file .entry))) ⌝ }
+{
+    write_answer(writer::write(version, b, t, held, lines, file))
 }
 
 // What survey, re-run and withdrawal answer.
