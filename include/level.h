@@ -34,16 +34,17 @@
  *
  * SLICES
  *
- * A slice is a pointer and, after it, the count of its elements (numbers, not lines or bytes). Slices
- * that are lent to one call must not overlap. Nothing is kept of them after the call, and no memory
- * is taken or given back. An output may be longer than its answer needs: the places after the answer
- * stay as they were.
+ * A slice is a pointer and, after it, the count of its elements (numbers, not lines or bytes; of a file,
+ * bytes). Slices that are lent to one call must not overlap. Nothing is kept of them after the call, and
+ * no memory is taken or given back. An output may be longer than its answer needs: the places after the
+ * answer stay as they were.
  *
  * ANSWERS
  *
  * Every answer begins with a number and a place. Number 0: done, and the place is 0. Any other number is
  * a refusal: the other numbers of the answer are 0 and no lent slice has changed. Where several apply,
- * the lowest is given (of 12 and 13 the one that comes first in the sweeps).
+ * the lowest is given, except that 16 comes before 10, and of 12 and 13 the one that comes first in the
+ * sweeps.
  *
  *    1  the file has fewer than 13 bytes
  *    2  the length that the file states is not its length
@@ -63,6 +64,7 @@
  *       first such piece
  *   12  level_adjust: the 10,000th sweep still moved a mark
  *   13  a height is outside its limit; the place is the mark
+ *   16  level_write: a line of a version 1 book is withdrawn, which a version 1 file cannot say
  */
 #ifndef LEVEL_H
 #define LEVEL_H
@@ -78,6 +80,12 @@ extern "C" {
 struct ReadAnswer {
     int64_t number, place;
     int64_t version, b, t, h, n;
+};
+
+/* What level_write answers: how many bytes the file has. */
+struct Written {
+    int64_t number, place;
+    int64_t bytes;
 };
 
 /* What a survey or a correction answers: rows of the report and pieces of the network. A piece is a
@@ -119,6 +127,14 @@ struct Rated {
 struct ReadAnswer level_read(const uint8_t *file, size_t file_bytes,
                              int64_t *held, size_t held_count,
                              int64_t *lines, size_t lines_count);
+
+/* Writes the book as a file, from which level_read reads the same book; a book that was read is written
+ * with the same bytes. With h held entries and n lines the file has 13 + 10*h + 12*n bytes, in version 2
+ * 13 + 10*h + 14*n: 8,717 are enough for every book of version 1, and 9,741 for every book. */
+struct Written level_write(int64_t version, int64_t b, int64_t t,
+                           const int64_t *held, size_t held_count,
+                           const int64_t *lines, size_t lines_count,
+                           uint8_t *file, size_t file_bytes);
 
 /* The loop survey: finds the loops of the book and fills rows, five numbers to a loop. There are as
  * many loops as standing lines, less marks, plus pieces. */
