@@ -4,9 +4,9 @@
  * Reads requests on standard input and answers each on standard output. A request is twelve numbers
  * (the call, version, b, t, loop or line, difference, and the counts of six slices), then the slices: held,
  * lines, and those that are left in the order of the call, none to four of them; the others have no
- * elements. Of level_read the third is the file, in bytes; all else is int64. The answer is twelve numbers
- * (up to seven of the call's answer, 1 if the call touched nothing but its outputs, and four zeros), then
- * the slices as they are after the call.
+ * elements. Of level_read and level_write the third is the file, in bytes; all else is int64. The answer is
+ * twelve numbers (up to seven of the call's answer, 1 if the call touched nothing but its outputs, and four
+ * zeros), then the slices as they are after the call.
  *
  * Every slice lies between guards, and those that are lent to be read are compared afterwards.
  */
@@ -22,6 +22,7 @@ extern void _exit(int);
 
 /* An archive that has some of the calls can be linked too; those it has not must not be asked for. */
 #pragma weak level_read
+#pragma weak level_write
 #pragma weak level_survey
 #pragma weak level_listing
 #pragma weak level_listings
@@ -32,7 +33,7 @@ extern void _exit(int);
 #pragma weak level_adjust
 #pragma weak level_rate
 
-enum { READ, SURVEY, LISTING, LISTINGS, NOT_CHECKED, SKETCH, RERUN, WITHDRAW, ADJUST, RATE };
+enum { READ, WRITE, SURVEY, LISTING, LISTINGS, NOT_CHECKED, SKETCH, RERUN, WITHDRAW, ADJUST, RATE };
 enum { HELD, LINES, THIRD, FOURTH, FIFTH, SIXTH, SLICES };
 /* Where the counts of the slices begin in a request, how many numbers a request or an answer has, and where in an
  * answer the 1 is. */
@@ -71,6 +72,12 @@ static void put(const void *from, size_t count)
 static int64_t *slice(int i)
 {
     return (int64_t *)(void *)(room[i] + GUARD);
+}
+
+/* The bytes of one element of a slice. */
+static size_t size_in(int64_t call, int i)
+{
+    return i == THIRD && (call == READ || call == WRITE) ? 1 : sizeof(int64_t);
 }
 
 /* Takes a slice in, between guards. */
@@ -138,6 +145,11 @@ static void make(const int64_t *q, int64_t *a)
         a[3] = r.b, a[4] = r.t, a[5] = r.h, a[6] = r.n;
         break;
     }
+    case WRITE: {
+        struct Written r = level_write(version, b, t, held, h, lines, l, room[THIRD] + GUARD, n);
+        a[0] = r.number, a[1] = r.place, a[2] = r.bytes;
+        break;
+    }
     case SURVEY:
     case RERUN:
     case WITHDRAW: {
@@ -183,7 +195,7 @@ int main(void)
         int64_t request[HEAD], answer[HEAD] = {0};
         get(request, sizeof request);
         for (int i = 0; i < SLICES; i++)
-            take(i, request[COUNTS + i], i == THIRD && request[0] == READ ? 1 : sizeof(int64_t));
+            take(i, request[COUNTS + i], size_in(request[0], i));
         make(request, answer);
         answer[UNTOUCHED] = 1;
         for (int i = 0; i < SLICES; i++)

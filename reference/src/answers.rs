@@ -32,6 +32,15 @@ pub struct ReadAnswer {
     pub n: i64,
 }
 
+/// The writer's answer: the bytes that the file has.
+#[repr(C)]
+#[derive(Clone, Copy, Debug, Default, PartialEq, Eq)]
+pub struct Written {
+    pub number: i64,
+    pub place: i64,
+    pub bytes: i64,
+}
+
 /// The answer of survey, re-run and withdrawal.
 #[repr(C)]
 #[derive(Clone, Copy, Debug, Default, PartialEq, Eq)]
@@ -96,6 +105,7 @@ impl PartialEq for Rated {
 #[derive(Clone, Copy, Debug, PartialEq, Eq)]
 pub enum Kind {
     Read,
+    Write,
     Survey,
     Listing,
     Listings,
@@ -110,6 +120,7 @@ pub enum Kind {
 /// Who answers the calls, in the words of `include/level.h`.
 pub trait Level {
     fn read(&mut self, file: &[u8], held: &mut [i64], lines: &mut [i64]) -> ReadAnswer;
+    fn write(&mut self, book: Lent, file: &mut [u8]) -> Written;
     fn survey(&mut self, book: Lent, rows: &mut [i64]) -> Answer;
     fn listing(&mut self, book: Lent, number: i64, out: &mut [i64]) -> Listed;
     fn listings(&mut self, book: Lent, out: &mut [i64]) -> Listed;

@@ -21,6 +21,12 @@ impl Level for Archive {
         unsafe { level_read(f, file.len(), h, held.len(), l, lines.len()) }
     }
 
+    fn write(&mut self, book: Lent, file: &mut [u8]) -> Written {
+        let Lent { version, b, t, held, lines } = book;
+        let (h, l, f) = (held.as_ptr(), lines.as_ptr(), file.as_mut_ptr());
+        unsafe { level_write(version, b, t, h, held.len(), l, lines.len(), f, file.len()) }
+    }
+
     fn survey(&mut self, book: Lent, rows: &mut [i64]) -> Answer {
         let Lent { version, b, t, held, lines } = book;
         let (h, l, r) = (held.as_ptr(), lines.as_ptr(), rows.as_mut_ptr());

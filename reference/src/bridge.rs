@@ -58,12 +58,14 @@ impl<'a> More<'a> {
     }
 }
 
-/// What comes back: the numbers of the answer, and the slices after the call.
+/// What comes back: the numbers of the answer, and the slices after the call. Those after held and lines are
+/// numbers or a file; the other is empty.
 struct Reply {
     answer: [i64; ANSWER],
     held: Vec<i64>,
     lines: Vec<i64>,
     more: [Vec<i64>; MORE],
+    file: Vec<u8>,
 }
 
 impl Bridge {
@@ -79,12 +81,12 @@ impl Bridge {
                 let _ = server.process.kill();
                 let _ = server.process.wait();
             }
-            let more = match request.more {
-                More::Numbers(slices) => slices.map(<[i64]>::to_vec),
-                More::File(_) => Default::default(),
+            let (more, file) = match request.more {
+                More::Numbers(slices) => (slices.map(<[i64]>::to_vec), vec![]),
+                More::File(file) => (Default::default(), file.to_vec()),
             };
             let (held, lines) = (request.book.held.to_vec(), request.book.lines.to_vec());
-            Reply { answer: [ENDED, 0, 0, 0, 0, 0, 0], held, lines, more }
+            Reply { answer: [ENDED, 0, 0, 0, 0, 0, 0], held, lines, more, file }
         })
     }
 
@@ -99,20 +101,24 @@ impl Bridge {
         let held = receive(output, request.book.held.len())?;
         let lines = receive(output, request.book.lines.len())?;
         let mut more: [Vec<i64>; MORE] = Default::default();
+        let mut file = vec![];
         match request.more {
             More::Numbers(slices) => {
                 for (after, lent) in more.iter_mut().zip(slices) {
                     *after = receive(output, lent.len())?;
                 }
             }
-            More::File(file) => output.read_exact(&mut vec![0; file.len()])?,
+            More::File(lent) => {
+                file = vec![0; lent.len()];
+                output.read_exact(&mut file)?;
+            }
         }
         let mut answer = [0; ANSWER];
         answer.copy_from_slice(&numbers[..ANSWER]);
         if numbers[ANSWER] != 1 {
             answer[0] = TOUCHED;
         }
-        Ok(Reply { answer, held, lines, more })
+        Ok(Reply { answer, held, lines, more, file })
     }
 
     /// A call that fills an output. Gives the numbers of its answer.
@@ -205,6 +211,14 @@ impl Level for Bridge {
         lines.copy_from_slice(&reply.lines);
         let [number, place, version, b, t, h, n] = reply.answer;
         ReadAnswer { number, place, version, b, t, h, n }
+    }
+
+    fn write(&mut self, book: Lent, file: &mut [u8]) -> Written {
+        let more = More::File(file);
+        let reply = self.ask(&Request { kind: Kind::Write, book, number: 0, difference: 0, more });
+        file.copy_from_slice(&reply.file);
+        let [number, place, bytes, ..] = reply.answer;
+        Written { number, place, bytes }
     }
 
     fn survey(&mut self, book: Lent, rows: &mut [i64]) -> Answer {

@@ -1,7 +1,7 @@
-//! The calls on a book in memory: survey, listings, sketch, re-run and withdrawal.
+//! The calls: survey, listings, re-run and withdrawal here, the others from their own files.
 
 use crate::answers::{refuse, Refusal};
-use crate::book::{self, within};
+use crate::book::within;
 use crate::network::Network;
 use crate::sketch::Sketch;
 use crate::*;
@@ -202,7 +202,7 @@ fn listed(count: Result<usize, Refusal>) -> Listed {
 
 impl Level for Reference {
     fn read(&mut self, file: &[u8], held: &mut [i64], lines: &mut [i64]) -> ReadAnswer {
-        match book::read(file, held, lines) {
+        match file::read(file, held, lines) {
             Ok(head) => ReadAnswer {
                 number: 0,
                 place: 0,
@@ -213,6 +213,13 @@ impl Level for Reference {
                 n: head.n as i64,
             },
             Err(Refusal { number, place }) => ReadAnswer { number, place, ..ReadAnswer::default() },
+        }
+    }
+
+    fn write(&mut self, book: Lent, file: &mut [u8]) -> Written {
+        match file::write(book, file) {
+            Ok(bytes) => Written { number: 0, place: 0, bytes: bytes as i64 },
+            Err(Refusal { number, place }) => Written { number, place, bytes: 0 },
         }
     }
 

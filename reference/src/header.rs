@@ -12,6 +12,8 @@ macro_rules! header {
             ) -> ReadAnswer
                 = read(file.lent(file_bytes), held.lent(held_count), lines.lent(lines_count));
 
+            level_write(const lines; file: *mut u8, file_bytes: usize) -> Written
+                = write(file.lent(file_bytes));
             level_survey(const lines; rows: *mut i64, rows_count: usize) -> Answer
                 = survey(rows.lent(rows_count));
             level_listing(const lines; number: i64, out: *mut i64, out_count: usize) -> Listed

@@ -12,6 +12,7 @@ pub mod archive;
 mod book;
 pub mod bridge;
 mod calls;
+mod file;
 mod header;
 mod network;
 mod paths;
@@ -19,9 +20,10 @@ mod sketch;
 mod text;
 pub mod trial;
 
-pub use answers::{Adjusted, Answer, Kind, Level, Listed, Rated, ReadAnswer, Sketched};
-pub use book::{write, Lent, LentMut, Version};
+pub use answers::{Adjusted, Answer, Kind, Level, Listed, Rated, ReadAnswer, Sketched, Written};
+pub use book::{Lent, LentMut, Version};
 pub use calls::Reference;
+pub use file::file_of;
 pub use network::{line_allows, verdict};
 
 pub const MAX_MARKS: usize = 256;
@@ -46,6 +48,8 @@ pub const MAX_SWEEPS: i64 = 10_000;
 /// Bytes of a file's head and of one held entry; those of a line go by the [`Version`].
 pub const HEAD_BYTES: usize = 13;
 pub const HELD_BYTES: usize = 10;
+/// No book's file is longer.
+pub const MAX_FILE: usize = Version::TWO.file_bytes(MAX_HELD, MAX_LINES);
 
 /// Bytes that the programs read.
 pub const MAX_READ: usize = 16_384;

@@ -1,7 +1,7 @@
 //! The text of the report program and of the sketch program.
 
 use crate::answers::Refusal;
-use crate::book::{self, Head};
+use crate::file::{self, Head};
 use crate::network::Network;
 use crate::sketch::{signed, Link, Sketch};
 use crate::*;
@@ -18,7 +18,7 @@ fn of_file(file: &[u8], of_book: impl FnOnce(&Head, &[i64]) -> String) -> Vec<u8
     let file = &file[..file.len().min(MAX_READ)];
     let mut held = [0; HELD * MAX_HELD];
     let mut lines = [0; LINE * MAX_LINES];
-    let text = match book::read(file, &mut held, &mut lines) {
+    let text = match file::read(file, &mut held, &mut lines) {
         Ok(head) => of_book(&head, &lines[..LINE * head.n]),
         Err(Refusal { number, place }) => format!("REFUSED {number} AT {place}\n"),
     };

@@ -6,7 +6,7 @@
 //! Dijkstra with a heap and an early stop, and its sweeps visit every free mark. Prints the best ns per
 //! call and the ratio archive / reference for each call and book, and for each call the geometric mean of
 //! its ratios and the worst. On three more books the sketch alone is timed, and on three of version 2, with
-//! lines of every class, reader and survey.
+//! lines of every class, reader, writer and survey.
 
 use reference::archive::Archive;
 use reference::trial::call::own_report;
@@ -28,11 +28,13 @@ const FEWEST_TURNS: usize = 3;
 type Named = (Kind, &'static str);
 
 const READ: Named = (Kind::Read, "read");
+const WRITE: Named = (Kind::Write, "write");
 const SURVEY: Named = (Kind::Survey, "survey");
 const SKETCH: Named = (Kind::Sketch, "sketch");
 
-const CALLS: [Named; 10] = [
+const CALLS: [Named; 11] = [
     READ,
+    WRITE,
     SURVEY,
     (Kind::Listing, "listing"),
     (Kind::Listings, "listings"),
@@ -113,6 +115,7 @@ struct Desk {
     kept: Vec<i64>,
     held_out: Vec<i64>,
     lines_out: Vec<i64>,
+    file_out: Vec<u8>,
     out: Vec<i64>,
     /// Links, spurs, loops and run of the sketch.
     sketched: [Vec<i64>; 4],
@@ -131,6 +134,7 @@ impl Desk {
             kept: report.clone(),
             held_out: vec![0; HELD * MAX_HELD],
             lines_out: vec![0; LINE * MAX_LINES],
+            file_out: vec![0; MAX_FILE],
             out: vec![0; MAX_LISTED],
             sketched: std::array::from_fn(|_| vec![0; ENTRY * MAX_LINES]),
             turn: 0,
@@ -150,6 +154,7 @@ impl Desk {
         let book = self.book.lent();
         self.turn = (self.turn + 1) % self.book.lines_count();
         let line = self.turn as i64 + 1;
+        let written = |a: Written| [a.number, a.place, a.bytes];
         let answer = |a: Answer| [a.number, a.rows, a.pieces];
         let listed = |a: Listed| [a.number, a.place, a.entries];
         match kind {
@@ -157,6 +162,7 @@ impl Desk {
                 let a = level.read(&self.file, &mut self.held_out, &mut self.lines_out);
                 [a.number, a.h, a.n]
             }
+            Kind::Write => written(level.write(book, &mut self.file_out)),
             Kind::Survey => answer(level.survey(book, &mut self.out)),
             Kind::Listing => listed(level.listing(book, last, &mut self.out)),
             Kind::Listings => listed(level.listings(book, &mut self.out)),
@@ -181,6 +187,11 @@ impl Desk {
                 [a.number, a.correction, a.rate.to_bits() as i64]
             }
         }
+    }
+
+    /// What the calls have filled and changed.
+    fn outputs(&self) -> impl PartialEq + '_ {
+        (&self.file_out, &self.out, &self.sketched, &self.corrected, &self.kept)
     }
 
     fn sketch(&mut self, level: &mut impl Level) -> [i64; 3] {
@@ -223,8 +234,7 @@ impl Race {
     fn same(&mut self, reference: &mut Reference) -> bool {
         let (ours, theirs) = (&mut self.ours, &mut self.theirs);
         ours.call(&mut Archive, self.kind) == theirs.call(reference, self.kind)
-            && (&ours.out, &ours.sketched, &ours.corrected, &ours.kept)
-                == (&theirs.out, &theirs.sketched, &theirs.corrected, &theirs.kept)
+            && ours.outputs() == theirs.outputs()
     }
 
     /// Times both by turns.
@@ -282,7 +292,7 @@ fn every_race() -> Vec<(String, Vec<Race>)> {
         let version_2 = CLASSED.contains(&name).then(|| book.clone().classed(class));
         races.push((name.to_string(), races_of(book, &CALLS)));
         if let Some(book) = version_2 {
-            races.push((format!("{name}, version 2"), races_of(book, &[READ, SURVEY])));
+            races.push((format!("{name}, version 2"), races_of(book, &[READ, WRITE, SURVEY])));
         }
     }
     for (name, book) in sketched_books(random) {

@@ -1,5 +1,6 @@
 //! Drives every call of `liblevel.a` and the reference with the same inputs and compares every answer
-//! and every lent buffer.
+//! and every lent buffer. What the archive has written it must read as the same book, and what it has read
+//! it must write as the same bytes.
 //!
 //!     differential [--seed N] [--calls N] [--report COMMAND] [--sketch COMMAND] [--files N]
 //!                  [--through COMMAND] [--only NAME,NAME..]
@@ -13,10 +14,12 @@
 
 use reference::bridge::Bridge;
 use reference::trial::asks::{every_ask, new_difference, room};
+use reference::trial::buffer::Buffer;
 use reference::trial::call::{lay_out, make, own_report, CALLS, KINDS, PROGRAMS};
-use reference::trial::call::{Ask, Buffer, Call, Given, Kept, Outcome, Program};
+use reference::trial::call::{Ask, Call, Given, Kept, Outcome, Program};
 use reference::trial::damage;
 use reference::trial::random::Random;
+use reference::trial::round_trip::{is_back, way_back};
 use reference::trial::shapes::good_book;
 use reference::trial::shrink::shrink;
 use reference::trial::words::{arguments, print_book, print_file};
@@ -25,7 +28,7 @@ use reference::*;
 use std::process::ExitCode;
 
 /// Answers are counted by number: 0 for done, and the refusals.
-const NUMBERS: usize = 14;
+const NUMBERS: usize = 17;
 /// Corrections in a chain on a book that is too large to be emptied.
 const LONG_CHAIN: usize = 12;
 
@@ -125,13 +128,17 @@ struct Both {
     lent: Vec<Buffer>,
     archive: Outcome,
     reference: Outcome,
+    /// The way back, if the archive's does not lead to what was lent.
+    lost: Option<Call>,
 }
 
 impl Both {
-    /// Whether answer or buffers differ, or a refused call has changed a buffer.
+    /// Whether answer or buffers differ, a refused call has changed a buffer, or the way back is lost.
     fn differ(&self) -> bool {
         let refused = self.archive.given.number() != 0;
-        self.archive != self.reference || refused && self.archive.buffers != self.lent
+        self.archive != self.reference
+            || refused && self.archive.buffers != self.lent
+            || self.lost.is_some()
     }
 }
 
@@ -263,7 +270,15 @@ impl Test {
                 (archive, make(&mut self.reference, call, &lent))
             }
         };
-        Both { lent, archive, reference }
+        let back = if archive == reference { way_back(&archive) } else { None };
+        let lost = back.filter(|back| self.wanted(back.kind()) && !self.leads_back(call, back));
+        Both { lent, archive, reference, lost }
+    }
+
+    /// Whether the archive's way back from a call leads to what the call was lent.
+    fn leads_back(&mut self, call: &Call, back: &Call) -> bool {
+        let lent = lay_out(&mut self.reference, back);
+        is_back(call, &make(self.archive.as_mut(), back, &lent))
     }
 
     fn reference_text(&mut self, program: Program, file: &[u8]) -> Vec<u8> {
@@ -286,29 +301,38 @@ impl Test {
         }
     }
 
-    /// Prints a call with all it is lent, both answers, and where the buffers differ.
+    /// Prints a call and, if that is what differs, its way back.
     fn print_call(&mut self, call: &Call) {
-        const MOST: usize = 8;
         let both = self.both(call);
-        println!("{} {}", KINDS[call.kind()], arguments(call));
-        match call {
-            Call::Read { file, .. } | Call::Text { file, .. } => print_file(file),
-            Call::Ask { book, .. } => print_book(book),
+        print_both(call, &both);
+        if let Some(back) = &both.lost {
+            println!("THE WAY BACK does not lead to what was lent");
+            print_both(back, &self.both(back));
         }
-        for buffer in &both.lent {
-            println!("  lent {}: {} places", buffer.name, buffer.numbers().len());
+    }
+}
+
+/// Prints a call with all it is lent, both answers, and where the buffers differ.
+fn print_both(call: &Call, both: &Both) {
+    const MOST: usize = 8;
+    println!("{} {}", KINDS[call.kind()], arguments(call));
+    match call {
+        Call::Read { file, .. } | Call::Text { file, .. } => print_file(file),
+        Call::Ask { book, .. } => print_book(book),
+    }
+    for buffer in &both.lent {
+        println!("  lent {}: {} places", buffer.name, buffer.count());
+    }
+    println!("  archive:   {:?}", both.archive.given);
+    println!("  reference: {:?}", both.reference.given);
+    let after = both.archive.buffers.iter().zip(&both.reference.buffers);
+    for ((archive, reference), before) in after.zip(&both.lent) {
+        for (place, ours, theirs) in archive.differences(reference).into_iter().take(MOST) {
+            println!("  {}[{place}]: archive {ours}, reference {theirs}", archive.name);
         }
-        println!("  archive:   {:?}", both.archive.given);
-        println!("  reference: {:?}", both.reference.given);
-        let after = both.archive.buffers.iter().zip(&both.reference.buffers);
-        for ((archive, reference), before) in after.zip(&both.lent) {
-            for (place, ours, theirs) in archive.differences(reference).take(MOST) {
-                println!("  {}[{place}]: archive {ours}, reference {theirs}", archive.name);
-            }
-            if both.archive.given.number() != 0 {
-                for (place, now, then) in archive.differences(before).take(MOST) {
-                    println!("  {}[{place}]: refused, yet {then} became {now}", archive.name);
-                }
+        if both.archive.given.number() != 0 {
+            for (place, now, then) in archive.differences(before).into_iter().take(MOST) {
+                println!("  {}[{place}]: refused, yet {then} became {now}", archive.name);
             }
         }
     }

@@ -112,6 +112,7 @@ pub fn every_ask(random: &mut Random, reference: &mut Reference, book: &Book) ->
         heights.push(0);
     }
     vec![
+        Ask::Write { room: room(random) },
         Ask::Survey { room: room(random) },
         Ask::Listing { number: loop_number(random, rows), room: room(random) },
         Ask::Listing { number: rows, room: room(random) },

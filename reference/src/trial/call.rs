@@ -1,5 +1,6 @@
 //! One call with all that it is lent, made on any implementation, and what came of it.
 
+use super::buffer::Buffer;
 use super::Book;
 use crate::*;
 
@@ -20,6 +21,7 @@ pub struct Kept {
 /// What is asked of a book. The rooms of a sketch are those of links, spurs, loops and run.
 #[derive(Clone, Debug)]
 pub enum Ask {
+    Write { room: Room },
     Survey { room: Room },
     Listing { number: i64, room: Room },
     Listings { room: Room },
@@ -66,7 +68,7 @@ macro_rules! names {
 }
 
 /// What is compared, by name: the calls, then the programs.
-pub const KINDS: [&str; 12] = header!(names);
+pub const KINDS: [&str; 13] = header!(names);
 pub const CALLS: usize = KINDS.len() - PROGRAMS.len();
 
 impl Program {
@@ -90,17 +92,26 @@ impl Call {
     /// The place of the call's name in `KINDS`.
     pub fn kind(&self) -> usize {
         match self {
-            Call::Read { .. } => 0,
-            Call::Ask { ask: Ask::Survey { .. }, .. } => 1,
-            Call::Ask { ask: Ask::Listing { .. }, .. } => 2,
-            Call::Ask { ask: Ask::Listings { .. }, .. } => 3,
-            Call::Ask { ask: Ask::NotChecked { .. }, .. } => 4,
-            Call::Ask { ask: Ask::Sketch { .. }, .. } => 5,
-            Call::Ask { ask: Ask::Rerun { .. }, .. } => 6,
-            Call::Ask { ask: Ask::Withdraw { .. }, .. } => 7,
-            Call::Ask { ask: Ask::Adjust { .. }, .. } => 8,
-            Call::Ask { ask: Ask::Rate { .. }, .. } => 9,
+            Call::Read { .. } => Kind::Read as usize,
+            Call::Ask { ask, .. } => ask.kind() as usize,
             Call::Text { program, .. } => program.kind(),
+        }
+    }
+}
+
+impl Ask {
+    fn kind(&self) -> Kind {
+        match self {
+            Ask::Write { .. } => Kind::Write,
+            Ask::Survey { .. } => Kind::Survey,
+            Ask::Listing { .. } => Kind::Listing,
+            Ask::Listings { .. } => Kind::Listings,
+            Ask::NotChecked { .. } => Kind::NotChecked,
+            Ask::Sketch { .. } => Kind::Sketch,
+            Ask::Rerun { .. } => Kind::Rerun,
+            Ask::Withdraw { .. } => Kind::Withdraw,
+            Ask::Adjust { .. } => Kind::Adjust,
+            Ask::Rate { .. } => Kind::Rate,
         }
     }
 }
@@ -109,6 +120,7 @@ impl Call {
 #[derive(Clone, Debug, PartialEq)]
 pub enum Given {
     Read(ReadAnswer),
+    Written(Written),
     Answer(Answer),
     Listed(Listed),
     Sketched(Sketched),
@@ -123,6 +135,7 @@ impl Given {
     pub fn number(&self) -> i64 {
         match self {
             Given::Read(answer) => answer.number,
+            Given::Written(answer) => answer.number,
             Given::Answer(answer) => answer.number,
             Given::Listed(answer) => answer.number,
             Given::Sketched(answer) => answer.number,
@@ -133,53 +146,6 @@ impl Given {
                 refused.and_then(|number| number.parse().ok()).unwrap_or(0)
             }
         }
-    }
-}
-
-/// Places before and after each lent buffer that no call may touch.
-const GUARD: usize = 8;
-const CANARY: i64 = -0x5EED_CA9A_417C_0DE5;
-
-/// A lent buffer between its guards.
-#[derive(Clone, Debug, PartialEq)]
-pub struct Buffer {
-    pub name: &'static str,
-    places: Vec<i64>,
-}
-
-impl Buffer {
-    fn of(name: &'static str, content: &[i64]) -> Self {
-        let guard = [CANARY; GUARD];
-        Buffer { name, places: [&guard, content, &guard].concat() }
-    }
-
-    /// An output, filled with numbers that no answer has.
-    fn output(name: &'static str, length: usize) -> Self {
-        let content: Vec<i64> = (0..length as i64).map(|i| -7_000_000_000_000_000 - i).collect();
-        Buffer::of(name, &content)
-    }
-
-    fn lent(&self) -> &[i64] {
-        &self.places[GUARD..self.places.len() - GUARD]
-    }
-
-    fn lent_mut(&mut self) -> &mut [i64] {
-        let end = self.places.len() - GUARD;
-        &mut self.places[GUARD..end]
-    }
-
-    /// The numbers lent, without the guards.
-    pub fn numbers(&self) -> &[i64] {
-        self.lent()
-    }
-
-    /// Where two states of one buffer differ: place (from 0, guards below and above) and both numbers.
-    pub fn differences<'a>(
-        &'a self,
-        other: &'a Buffer,
-    ) -> impl Iterator<Item = (i64, i64, i64)> + 'a {
-        let places = (-(GUARD as i64)..).zip(self.places.iter().zip(&other.places));
-        places.filter(|(_, (x, y))| x != y).map(|(place, (&x, &y))| (place, x, y))
     }
 }
 
@@ -225,7 +191,7 @@ fn kept_report(reference: &mut Reference, book: &Book, kept: &Kept) -> Buffer {
     let length = places(rows.len(), kept.beyond);
     let mut buffer = Buffer::output("report", length);
     let common = length.min(rows.len());
-    buffer.lent_mut()[..common].copy_from_slice(&rows[..common]);
+    buffer.numbers_mut()[..common].copy_from_slice(&rows[..common]);
     buffer
 }
 
@@ -250,6 +216,8 @@ fn more(reference: &mut Reference, book: &Book, ask: &Ask) -> Vec<Buffer> {
         vec![Buffer::output(name, places(need, room))]
     };
     match ask {
+        // As long as the file would be if the book were good: 10 can then apply beside any other refusal.
+        Ask::Write { room } => vec![Buffer::file("file", places(book.file().len(), *room))],
         Ask::Survey { room } => output("rows", *room),
         Ask::Listing { room, .. } => output("out", *room),
         Ask::Listings { room } => output("out", *room),
@@ -288,22 +256,25 @@ pub fn make(level: &mut dyn Level, call: &Call, lent: &[Buffer]) -> Outcome {
     let mut buffers = lent.to_vec();
     let given = match (call, &mut buffers[..]) {
         (Call::Read { file, .. }, [held, lines]) => {
-            Given::Read(level.read(file, held.lent_mut(), lines.lent_mut()))
+            Given::Read(level.read(file, held.numbers_mut(), lines.numbers_mut()))
         }
         (Call::Ask { book, ask }, [held, lines, more @ ..]) => {
             let Book { version, b, t, .. } = *book;
-            let book = Lent { version, b, t, held: held.lent(), lines: lines.lent_mut() };
-            let mut more: Vec<&mut [i64]> = more.iter_mut().map(Buffer::lent_mut).collect();
-            make_ask(level, ask, book, &mut more)
+            let book = Lent { version, b, t, held: held.numbers(), lines: lines.numbers_mut() };
+            make_ask(level, ask, book, more)
         }
         _ => Given::Text(String::new()),
     };
     Outcome { given, buffers }
 }
 
-/// Asks a book; `more` are the slices that are lent with it.
-fn make_ask(level: &mut dyn Level, ask: &Ask, book: LentMut, more: &mut [&mut [i64]]) -> Given {
-    match (ask, more) {
+/// Asks a book; `more` are the buffers that are lent with it.
+fn make_ask(level: &mut dyn Level, ask: &Ask, book: LentMut, more: &mut [Buffer]) -> Given {
+    if let (Ask::Write { .. }, [file]) = (ask, &mut *more) {
+        return Given::Written(level.write(book.lent(), file.bytes_mut()));
+    }
+    let mut more: Vec<&mut [i64]> = more.iter_mut().map(Buffer::numbers_mut).collect();
+    match (ask, &mut more[..]) {
         (Ask::Survey { .. }, [rows]) => Given::Answer(level.survey(book.lent(), rows)),
         (&Ask::Listing { number, .. }, [out]) => {
             Given::Listed(level.listing(book.lent(), number, out))

@@ -1,16 +1,19 @@
 //! What the differential test, the bench and the tests of the reference share: books of every shape,
-//! damage, calls with their lent buffers, and a search for the smallest book that still differs.
+//! damage, calls with their lent buffers, round trips of files, and a search for the smallest book that still
+//! differs.
 
 pub mod asks;
+pub mod buffer;
 pub mod call;
 pub mod damage;
 pub mod program;
 pub mod random;
+pub mod round_trip;
 pub mod shapes;
 pub mod shrink;
 pub mod words;
 
-use crate::{Lent, LentMut, Version, HEAD_BYTES, HELD, HELD_BYTES, LINE};
+use crate::{file_of, Lent, LentMut, Version, HELD, LINE};
 
 /// A book in memory, good or not.
 #[derive(Clone, Debug, PartialEq, Eq)]
@@ -59,12 +62,12 @@ impl Book {
 
     /// What its version decides; version 1 where there is no such.
     pub fn limits(&self) -> &'static Version {
-        Version::of(self.version).unwrap_or(&Version::ONE)
+        self.lent().limits()
     }
 
     /// The book's file.
     pub fn file(&self) -> Vec<u8> {
-        crate::write(self.lent())
+        file_of(self.lent())
     }
 }
 
@@ -74,6 +77,5 @@ fn file_counts(file: &[u8]) -> Option<(usize, usize, &'static Version)> {
     let two = |at: usize| Some(u16::from_be_bytes([*file.get(at)?, *file.get(at + 1)?]) as usize);
     let (held, lines) = (two(9)?, two(11)?);
     let version = Version::of(file[4] as i64).unwrap_or(&Version::ONE);
-    let size = HEAD_BYTES + HELD_BYTES * held + version.line_bytes * lines;
-    (size <= file.len()).then_some((held, lines, version))
+    (version.file_bytes(held, lines) <= file.len()).then_some((held, lines, version))
 }

@@ -28,7 +28,9 @@ enum Step {
     PlainReport,
     /// The room of an output, by its place among them.
     PlainRoom(usize),
+    /// A height that is lent to a rate, and one of a held entry.
     PlainHeight(usize),
+    PlainHeld(usize),
 }
 
 /// Makes a call smaller as long as it still differs, for at most twenty seconds.
@@ -67,6 +69,7 @@ fn steps(call: &Call) -> Vec<Step> {
         steps.push(Step::PlainClass(i));
     }
     steps.extend((0..marks as usize).map(Step::PlainHeight));
+    steps.extend((0..held).map(Step::PlainHeld));
     steps.push(Step::PlainTolerance);
     steps
 }
@@ -161,6 +164,7 @@ fn apply_to_book(book: &mut Book, ask: &mut Ask, step: &Step) -> Option<()> {
             Ask::Rate { heights, .. } => change(heights.get_mut(*mark)?, 0)?,
             _ => return None,
         },
+        Step::PlainHeld(i) => change(book.held.get_mut(HELD * i + 1)?, 0)?,
     }
     Some(())
 }
@@ -192,7 +196,7 @@ fn plain_room(room: &mut Room) -> Option<()> {
 fn rooms(ask: &mut Ask) -> &mut [Room] {
     match ask {
         Ask::Survey { room } | Ask::Listings { room } | Ask::NotChecked { room } => from_mut(room),
-        Ask::Listing { room, .. } | Ask::Adjust { room } => from_mut(room),
+        Ask::Write { room } | Ask::Listing { room, .. } | Ask::Adjust { room } => from_mut(room),
         Ask::Rerun { kept, .. } | Ask::Withdraw { kept, .. } => from_mut(&mut kept.beyond),
         Ask::Sketch { rooms } => rooms,
         Ask::Rate { .. } => &mut [],

@@ -23,13 +23,13 @@ impl<T: 'static> Start for *const T {
     }
 }
 
-impl Start for *mut i64 {
-    type Slice = &'static mut [i64];
+impl<T: 'static> Start for *mut T {
+    type Slice = &'static mut [T];
 
     /// One fault writes a place past the slice's end.
-    unsafe fn lent(self, count: usize) -> &'static mut [i64] {
+    unsafe fn lent(self, count: usize) -> &'static mut [T] {
         if Faulty::named("writes-past-the-end") {
-            *self.add(count) = 0;
+            self.add(count).write_bytes(0, 1);
         }
         if count == 0 {
             &mut []

@@ -1,11 +1,12 @@
 //! The reference with one fault, named by LEVEL_FAULT: each a mistake that somebody might make.
 
+use crate::writer;
 use reference::trial::call::own_report;
 use reference::trial::Book;
 use reference::*;
 use std::sync::OnceLock;
 
-fn fault() -> &'static str {
+pub(crate) fn fault() -> &'static str {
     static FAULT: OnceLock<String> = OnceLock::new();
     FAULT.get_or_init(|| std::env::var("LEVEL_FAULT").unwrap_or_default())
 }
@@ -104,7 +105,7 @@ fn turned(lines: &[i64]) -> Vec<i64> {
 }
 
 /// The book with its withdrawn lines standing.
-fn all_standing(book: Lent) -> Book {
+pub(crate) fn all_standing(book: Lent) -> Book {
     let mut standing = Book::of(book);
     for line in standing.lines.chunks_exact_mut(LINE).filter(|line| line[4] == 0) {
         line[4] = 1;
@@ -195,6 +196,10 @@ impl Level for Faulty {
             }
             _ => right,
         }
+    }
+
+    fn write(&mut self, book: Lent, file: &mut [u8]) -> Written {
+        writer::write(&mut self.0, book, file)
     }
 
     fn survey(&mut self, book: Lent, rows: &mut [i64]) -> Answer {

@@ -6,3 +6,4 @@
 mod exports;
 pub mod faults;
 pub mod program;
+mod writer;
