@@ -1,7 +1,7 @@
 //! What the differential test drives: its books, calls and files, counted by what is in them. Each thing that is
 //! counted here must come up.
 
-use reference::trial::asks::every_ask;
+use reference::trial::asks::{every_ask, room};
 use reference::trial::call::{lay_out, make, Ask, Call, KINDS};
 use reference::trial::damage::{any_book, files, NO_VERSIONS};
 use reference::trial::random::Random;
@@ -114,7 +114,8 @@ fn books() {
 }
 
 /// The numbers beside 3 that each call is answered with; an adjustment's 13 is one that no book here comes to.
-const NUMBERS: [(&str, &[i64]); 9] = [
+const NUMBERS: [(&str, &[i64]); 10] = [
+    ("level_write", &[0, 4, 6, 7, 10, 16]),
     ("level_survey", &[0, 4, 6, 7, 10]),
     ("level_listing", &[0, 4, 6, 7, 8, 10]),
     ("level_listings", &[0, 4, 6, 7, 10]),
@@ -145,7 +146,12 @@ fn calls() {
             for (_, numbers) in NUMBERS.iter().filter(|(call, _)| *call == name) {
                 for (version, number) in numbers.iter().flat_map(|n| [(1, n), (2, n)]) {
                     let so = (book.version, given) == (version, *number);
-                    tally.count(format!("{name}, version {version}, {number}"), so);
+                    // Version 2 can say that a line is withdrawn.
+                    if (version, *number) == (2, 16) {
+                        assert!(!so, "{book:?}");
+                    } else {
+                        tally.count(format!("{name}, version {version}, {number}"), so);
+                    }
                 }
                 tally.count(format!("{name}, 3"), given == 3);
             }
@@ -153,6 +159,56 @@ fn calls() {
             tally.count("3 before a difference outside", given == 3 && outside);
             tally.count("3 before heights not b in number", given == 3 && heights != book.b);
         }
+    }
+    tally.all_came_up();
+}
+
+/// What the writer is lent, beside what it answers: each refusal with those that come after it, and files of all
+/// lengths with all that stands at a limit.
+fn count_written(tally: &mut Tally, book: &Book, places: usize, number: i64) {
+    let lines = || book.lines.chunks_exact(LINE);
+    let (bytes, withdrawn) = (book.file().len(), lines().any(|line| line[4] == 0));
+    let (short, cannot) = (places < bytes, withdrawn && book.version != 2);
+    for earlier in [3, 4, 6, 7] {
+        tally.count(format!("{earlier} before 16"), number == earlier && cannot && !short);
+        tally.count(format!("{earlier} before 16 and 10"), number == earlier && cannot && short);
+    }
+    tally.count("16 with room", number == 16 && !short);
+    tally.count("16 before 10", number == 16 && short);
+    for version in [1, 2] {
+        let mut count = |what: &str, refusal, so| {
+            let so = so && (book.version, number) == (version, refusal);
+            tally.count(format!("version {version}, {what}"), so);
+        };
+        count("no places", 10, places == 0);
+        count("one place short", 10, places + 1 == bytes);
+        count("as many places", 0, places == bytes);
+        count("more places", 0, places > bytes);
+        count("13 bytes", 0, bytes == HEAD_BYTES);
+        count("the most bytes", 0, bytes == [8717, 9741][version as usize - 1]);
+        for limit in [-1, 1] {
+            let height = book.held.chunks_exact(HELD).any(|e| e[1] == limit * MAX_HELD_HEIGHT);
+            let difference = lines().any(|line| line[2] == limit * MAX_DIFFERENCE);
+            count(&format!("height at {limit}"), 0, height);
+            count(&format!("difference at {limit}"), 0, difference);
+        }
+    }
+    tally.count("version 2, some withdrawn", number == 0 && withdrawn);
+    let none_stands = withdrawn && lines().all(|line| line[4] == 0);
+    tally.count("version 2, all withdrawn", number == 0 && none_stands);
+}
+
+#[test]
+fn files_written() {
+    let (mut random, mut tally) = (Random::new(4), Tally::default());
+    let mut reference = Reference::new();
+    for _ in 0..4000 {
+        let book = any_book(&mut random);
+        let ask = Ask::Write { room: room(&mut random) };
+        let call = Call::Ask { book: book.clone(), ask };
+        let lent = lay_out(&mut reference, &call);
+        let given = make(&mut reference, &call, &lent).given.number();
+        count_written(&mut tally, &book, lent[2].count(), given);
     }
     tally.all_came_up();
 }

@@ -1,4 +1,5 @@
-//! The refusal table of document 01: each number, its place, and which one is given where several apply.
+//! The refusals of document 01's table and of document 02: each number, its place, and which one is given where
+//! several apply.
 
 use reference::trial::call::own_report;
 use reference::trial::damage::NO_VERSIONS;
@@ -170,6 +171,76 @@ fn files_into_short_buffers() {
     assert_eq!(Reference::new().read(&wrong, &mut [], &mut []).number, 7);
 }
 
+/// The number and place that the writer answers, lent so many places; a refusal writes nothing.
+fn write(book: &Book, places: usize) -> (i64, i64) {
+    let mut file = vec![9; places];
+    let answer = Reference::new().write(book.lent(), &mut file);
+    if answer.number != 0 {
+        assert_eq!(answer.bytes, 0);
+        assert!(file.iter().all(|&byte| byte == 9));
+    }
+    (answer.number, answer.place)
+}
+
+/// 3, 4, 6, 7, 16 and 10, in this order: each time one fault is mended and the next is given.
+#[test]
+fn writes_refused() {
+    let mut book = ring();
+    (book.version, book.t, book.held[0], book.lines[9]) = (3, 0, 4, 9);
+    for places in [0, 12, 70, 71, 100] {
+        let mut book = book.clone();
+        assert_eq!(write(&book, places), (3, 0));
+        book.version = 1;
+        assert_eq!(write(&book, places), (4, 0));
+        book.t = 10;
+        assert_eq!(write(&book, places), (6, 1));
+        book.held[0] = 2;
+        assert_eq!(write(&book, places), (7, 2));
+        book.lines[9] = 100;
+        assert_eq!(book, ring());
+        assert_eq!(write(&book, places), (16, 0));
+        book.lines[22] = 1;
+        assert_eq!(write(&book, places), if places < 71 { (10, 0) } else { (0, 0) });
+    }
+}
+
+#[test]
+fn a_withdrawn_line_is_written_in_version_2_alone() {
+    for line in 0..4 {
+        let mut book = ring();
+        book.lines[22] = 1;
+        assert_eq!(write(&book, 71), (0, 0));
+        book.lines[LINE * line + 4] = 0;
+        assert_eq!(write(&book, 71), (16, 0));
+        assert_eq!(write(&book, 70), (16, 0), "before 10");
+        book = book.classed(|i| i as i64);
+        assert_eq!(write(&book, 79), (0, 0));
+        assert_eq!(write(&book, 78), (10, 0));
+        book.lines[10] = 2;
+        assert_eq!(write(&book, 79), (7, 2));
+    }
+    assert_eq!(write(&Book { lines: [1, 2, 0, 10, 0, -1].repeat(512), ..ring() }, 9741), (16, 0));
+}
+
+#[test]
+fn files_too_short() {
+    let mut standing = ring();
+    standing.lines[22] = 1;
+    let none = Book { held: vec![], lines: vec![], ..ring() };
+    let none_classed = none.clone().classed(|_| 0);
+    let books = [(standing, 71), (classed_ring(), 79), (none, 13), (none_classed, 13)];
+    for (book, bytes) in books {
+        for places in [0, 1, 4, 12, bytes - 1] {
+            assert_eq!(write(&book, places), (10, 0), "{places} of {bytes}");
+        }
+        let mut file = vec![9; bytes + 2];
+        let written = Reference::new().write(book.lent(), &mut file);
+        assert_eq!(written, Written { number: 0, place: 0, bytes: bytes as i64 });
+        assert_eq!(file, [book.file(), vec![9, 9]].concat());
+        assert_eq!(write(&book, bytes), (0, 0));
+    }
+}
+
 #[test]
 fn limits_of_the_book() {
     for b in [0, -1, 257, i64::MIN, i64::MAX] {
@@ -262,9 +333,10 @@ fn the_lowest_number() {
 }
 
 /// What every call but the reader answers to a lent book with nothing else good: the number and the place.
-fn every_call(book: &Book) -> [(i64, i64); 9] {
+fn every_call(book: &Book) -> [(i64, i64); 10] {
     let mut reference = Reference::new();
     let (lent, none) = (book.lent(), &mut []);
+    let write = reference.write(lent, &mut []);
     let survey = reference.survey(lent, none);
     let listing = reference.listing(lent, 0, none);
     let listings = reference.listings(lent, none);
@@ -277,6 +349,7 @@ fn every_call(book: &Book) -> [(i64, i64); 9] {
     let withdraw = reference.withdraw(corrected.lent_mut(), none, 0);
     assert_eq!(&corrected, book);
     [
+        (write.number, write.place),
         (survey.number, survey.place),
         (listing.number, listing.place),
         (listings.number, listings.place),
@@ -295,14 +368,14 @@ fn versions() {
     for version in NO_VERSIONS {
         for book in [ring(), classed_ring()] {
             let book = Book { version, ..book };
-            assert_eq!(every_call(&book), [(3, 0); 9]);
+            assert_eq!(every_call(&book), [(3, 0); 10]);
             let (held, lines) = (vec![0; 3], vec![9; 7]);
             let wrong = Book { b: 0, t: -1, held, lines, ..book };
-            assert_eq!(every_call(&wrong), [(3, 0); 9]);
+            assert_eq!(every_call(&wrong), [(3, 0); 10]);
         }
     }
     for book in [Book { t: 0, ..ring() }, Book { t: 1, ..classed_ring() }] {
-        assert_eq!(every_call(&book), [(4, 0); 9]);
+        assert_eq!(every_call(&book), [(4, 0); 10]);
     }
 }
 
@@ -541,6 +614,7 @@ fn never_panics() {
         reference.report(&file);
         reference.sketch_text(&file);
         reference.read(&file, &mut any_numbers(random), &mut out);
+        reference.write(book.lent(), &mut vec![0; random.below(100)]);
         reference.survey(book.lent(), &mut out);
         reference.listing(book.lent(), number, &mut out);
         reference.listings(book.lent(), &mut out);

@@ -1,7 +1,6 @@
 //! The rules once more, word by word and slowly, on small books with many ties.
 
 use reference::trial::call::own_report;
-use reference::trial::damage::{any_book, files};
 use reference::trial::random::Random;
 use reference::trial::shapes::{edge_book, good_book, roots, small_book};
 use reference::trial::Book;
@@ -458,100 +457,6 @@ fn edge_books() {
     for _ in 0..200 {
         let book = edge_book(&mut random);
         same_as_slow(&mut reference, &book, &mut random);
-    }
-}
-
-fn outside(number: i64, low: i64, high: i64) -> bool {
-    number < low || number > high
-}
-
-/// The refusal of a lent book by the table: its number and place, or zeros.
-fn slow_refusal(book: &Book) -> (i64, i64) {
-    let Book { version, b, t, ref held, ref lines } = *book;
-    if version != 1 && version != 2 {
-        return (3, 0);
-    }
-    let tolerance = if version == 1 { outside(t, 1, 1000) } else { t != 0 };
-    let whole = held.len() % 2 == 0 && lines.len() % 6 == 0;
-    if outside(b, 1, 256) || tolerance || !whole || held.len() > 512 || lines.len() > 3072 {
-        return (4, 0);
-    }
-    for (place, entry) in (1..).zip(held.chunks(2)) {
-        let earlier = held.chunks(2).take(place - 1).any(|earlier| earlier[0] == entry[0]);
-        let height = outside(entry[1], -10_000_000_000, 10_000_000_000);
-        if outside(entry[0], 1, b) || height || earlier {
-            return (6, place as i64);
-        }
-    }
-    for (place, line) in (1..).zip(lines.chunks(6)) {
-        let ends = outside(line[0], 1, b) || outside(line[1], 1, b) || line[0] == line[1];
-        let difference = outside(line[2], -100_000_000, 100_000_000);
-        let length = outside(line[3], 10, 100_000);
-        let class = if version == 1 { line[5] != -1 } else { outside(line[5], 0, 4) };
-        if ends || difference || length || outside(line[4], 0, 1) || class {
-            return (7, place);
-        }
-    }
-    (0, 0)
-}
-
-/// The book of a file, byte by byte; or the refusal's number and place.
-fn slow_read(file: &[u8]) -> Result<Book, (i64, i64)> {
-    if file.len() < 13 {
-        return Err((1, 0));
-    }
-    let mut bytes = file.iter();
-    let mut take = |count| bytes.by_ref().take(count).fold(0, |n, &byte| n << 8 | byte as i64);
-    let [stated, version, t, b, h, n] = [4, 1, 2, 2, 2, 2].map(&mut take);
-    if stated != file.len() as i64 {
-        return Err((2, 0));
-    }
-    let mut book = Book { version, b, t, held: vec![], lines: vec![] };
-    match slow_refusal(&book) {
-        (0, 0) if h <= 256 && n <= 512 => {}
-        (3, 0) => return Err((3, 0)),
-        _ => return Err((4, 0)),
-    }
-    if stated != 13 + 10 * h + if version == 1 { 12 * n } else { 14 * n } {
-        return Err((5, 0));
-    }
-    for _ in 0..h {
-        book.held.extend([2, 8].map(&mut take));
-    }
-    for _ in 0..n {
-        let [from, to, difference, length] = [2, 2, 4, 4].map(&mut take);
-        let [class, standing] = if version == 1 { [-1, 1] } else { [1, 1].map(&mut take) };
-        book.lines.extend([from, to, difference as i32 as i64, length, standing, class]);
-    }
-    match slow_refusal(&book) {
-        (0, 0) => Ok(book),
-        refusal => Err(refusal),
-    }
-}
-
-#[test]
-fn refusals_of_books() {
-    let mut random = Random::new(8);
-    let mut rows = [0; ROW * MAX_LINES];
-    for _ in 0..20_000 {
-        let book = any_book(&mut random);
-        let answer = Reference::new().survey(book.lent(), &mut rows);
-        assert_eq!((answer.number, answer.place), slow_refusal(&book), "{book:?}");
-    }
-}
-
-#[test]
-fn files_of_both_versions() {
-    let mut random = Random::new(9);
-    let (mut held, mut lines) = ([0; HELD * MAX_HELD], [0; LINE * MAX_LINES]);
-    for file in (0..4000).flat_map(|_| files(&mut random)) {
-        let ReadAnswer { number, place, version, b, t, h, n } =
-            Reference::new().read(&file, &mut held, &mut lines);
-        let held = held[..HELD * h as usize].to_vec();
-        let lines = lines[..LINE * n as usize].to_vec();
-        let read = Book { version, b, t, held, lines };
-        let read = if number == 0 { Ok(read) } else { Err((number, place)) };
-        assert_eq!(read, slow_read(&file), "{file:?}");
     }
 }
 

@@ -59,6 +59,28 @@ fn a_read() {
     assert_eq!(lines[..], [&book.lines[..], &[9]].concat());
 }
 
+/// Byte by byte, and as in books/.
+#[test]
+fn a_write() {
+    #[rustfmt::skip]
+    let file = [
+        0, 0, 0, 107, 1, 0, 120, 0, 5, 0, 1, 0, 7,
+        0, 1, 0, 0, 0, 0, 5, 245, 225, 0,
+        0, 1, 0, 3, 0,  96, 209,  40, 0, 0,  6,  64,
+        0, 2, 0, 3, 0,  64, 158, 248, 0, 0,  9, 196,
+        0, 5, 0, 2, 0,  46, 177,  32, 0, 0,  3, 232,
+        0, 5, 0, 1, 0,  14,   9, 192, 0, 0, 15, 160,
+        0, 1, 0, 4, 0,  59, 110, 216, 0, 0,  6,  64,
+        0, 4, 0, 3, 0,  36, 198,  16, 0, 0,  4, 226,
+        0, 5, 0, 4, 0,  73, 140,  32, 0, 0,  7, 208,
+    ];
+    assert_eq!(include_bytes!("../../books/worked.book"), &file);
+    let mut written = [9; 108];
+    let answer = Reference::new().write(worked().lent(), &mut written);
+    assert_eq!(answer, Written { number: 0, place: 0, bytes: 107 });
+    assert_eq!(written[..], [&file[..], &[9]].concat());
+}
+
 #[test]
 fn b_tree() {
     assert_eq!(Reference::new().tree(worked().lent()), [1, 5, 7, 2]);
