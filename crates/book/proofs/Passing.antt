@@ -60,9 +60,23 @@ held-passes b held i g =
           (λ j. eqZ (markAt held j) (markAt held i)) i (λ j l. apart-eqZ (markAt held j) (markAt held i) (g .once j l)),
     )
 
+-- nor are its counts outside
+pub counts-pass : (k : Book) (book : Lent) → GoodBook k book
+    → bookOut (pos (k .version)) (pos (k .marks)) (pos (k .tolerance)) (k .held) (k .lines) ≡ false
+unfolding bookOut outN
+counts-pass k book g =
+    rw (
+      inside leastMarks mostMarks (k .marks) (g .a-mark) (g .few-marks),
+      tolerance-passes (g .by-version),
+      le-ltb (k .held) leastHeld (omega arith),
+      le-ltb mostHeld (k .held) (g .held-good .few),
+      le-ltb (k .lines) leastLines (omega arith),
+      le-ltb mostLines (k .lines) (g .lines-good .few),
+    )
+
 -- a book inside every limit passes the test
 pub good-passes : (k : Book) (book : Lent) → GoodBook k book → testOf book ≡ Good k
-unfolding testOf torn bookOut outN firstBadHeld firstBadLine
+unfolding testOf torn firstBadHeld firstBadLine
 good-passes k book g =
     rw (
       g .version,
@@ -73,12 +87,7 @@ good-passes k book g =
       n,
       g .marks,
       g .tolerance,
-      inside leastMarks mostMarks (k .marks) (g .a-mark) (g .few-marks),
-      tolerance-passes (g .by-version),
-      le-ltb (k .held) leastHeld (omega arith),
-      le-ltb mostHeld (k .held) (g .held-good .few),
-      le-ltb (k .lines) leastLines (omega arith),
-      le-ltb mostLines (k .lines) (g .lines-good .few),
+      counts-pass k book g,
       none-first (heldBad (pos (k .marks)) (book .held)) (k .held) (λ i l. held-passes (k .marks) (book .held) i (g .held-good .each i l)),
       none-first (lineBad (pos (k .version)) (pos (k .marks)) (book .lines)) (k .lines) (λ i l.
           line-passes (pos (k .version)) (k .marks) (book .lines) i (g .lines-good .each i l) (class-passes (g .by-version) i l)),

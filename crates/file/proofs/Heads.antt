@@ -21,7 +21,7 @@ use Rattle.book.specs.declared.Refusal.{Refusal}
 use Rattle.book.specs.declared.Tested.{Tested}
 use Rattle.book.specs.declared.Tested.the-variants as tested
 use Rattle.book.proofs.Versions.{tolerance-inside}
-use Rattle.file.specs.Read.{statedLength, statedVersion, statedT, statedB, statedH, statedN, fileLength, headOf, Stated}
+use Rattle.file.specs.Read.{statedLength, statedVersion, statedT, statedB, statedH, statedN, statedCounts, fileLength, headOf, Stated}
 use Rattle.file.specs.Entry.{entryBytes, lineKind}
 use Rattle.file.specs.declared.entry.Kind.the-variants.{Line, ClassedLine}
 use Rattle.file.specs.declared.Head.{Head}
@@ -51,22 +51,37 @@ counts-state v b t h n known inside =
       few-lines = inN-high leastLines mostLines n (or-right (out₁ || out₂ || out₃) out₄ inside);
     }
 
-pub head-states : (file : List ℕ) (k : Book) → headOf file ≡ States k → Stated (length file) k
+-- what a head that is not refused says: its file's length, and version and counts that pass
+pub record Says (file : List ℕ) (k : Book) : Type 0 where
+  pub its-length : statedLength file ≡ length file
+  pub known : versionOut (pos (statedVersion file)) ≡ false
+  pub inside : bookOut (pos (statedVersion file)) (pos (statedB file)) (pos (statedT file)) (statedH file) (statedN file) ≡ false
+  pub size : length file ≡ fileLength (statedVersion file) (statedH file) (statedN file)
+  pub counts-are : k ≡ statedCounts file
+
+pub head-says : (file : List ℕ) (k : Book) → headOf file ≡ States k → Says file k
 unfolding headOf
-head-states file k e =
+head-says file k e =
     let v = statedVersion file in
-    let b = statedB file in
-    let t = statedT file in
     let h = statedH file in
     let n = statedN file in
     let p₁ = past (ltb (length file) 13) 1 _ k e in
     let p₂ = past (not (eqb (statedLength file) (length file))) 2 _ k (p₁ .1) in
     let p₃ = past (versionOut (pos v)) 3 _ k (p₂ .1) in
-    let p₄ = past (bookOut (pos v) (pos b) (pos t) h n) 4 _ k (p₃ .1) in
+    let p₄ = past (bookOut (pos v) (pos (statedB file)) (pos (statedT file)) h n) 4 _ k (p₃ .1) in
     let p₅ = past (not (eqb (length file) (fileLength v h n))) 5 _ k (p₄ .1) in
-    let q : k ≡ counts (pos v) (pos b) (pos t) h n = cc in
-    let size = eqb-true (length file) (fileLength v h n) (not-false (eqb (length file) (fileLength v h n)) (p₅ .0)) in
-    rw (q, size) (counts-state v b t h n (p₃ .0) (p₄ .0))
+    record {
+      its-length = eqb-true (statedLength file) (length file) (not-false (eqb (statedLength file) (length file)) (p₂ .0));
+      known = p₃ .0;
+      inside = p₄ .0;
+      size = eqb-true (length file) (fileLength v h n) (not-false (eqb (length file) (fileLength v h n)) (p₅ .0));
+      counts-are = cc;
+    }
+
+pub head-states : (file : List ℕ) (k : Book) → headOf file ≡ States k → Stated (length file) k
+head-states file k e =
+    let s = head-says file k e in
+    rw (s .counts-are, s .size) (counts-state _ _ _ _ _ (s .known) (s .inside))
 
 -- "A file has 13 + 10h + 12n bytes, at most 8,717"; of version 2 13 + 10h + 14n, at most 9,741
 pub longest-is : (fileLength 1 mostHeld mostLines ≡ 8717) × (fileLength 2 mostHeld mostLines ≡ 9741)

@@ -1,4 +1,10 @@
 pub mod Numbers
+pub mod BothWays
+pub mod Fields
 pub mod Parts
 pub mod Entries
 pub mod Answers
+pub mod ReadBack
+pub mod FileRead
+pub mod WriteBack
+pub mod AreBytes

@@ -21,10 +21,6 @@ bytes-length zero x = refl
 bytes-length (suc k) x = length-append (bytesOf k (x / 256)) (x % 256 ∷ []) ∙ omega (arith, bytes-length k (x / 256))
 
 -- The bits of a signed number, by its size.
-pub not-zero : (z : ℤ) → ltZ z (pos 0) ≡ true → 0 < natAbs z
-not-zero (pos n) h = let m = ltb-true n 0 h in absurd (omega arith)
-not-zero (negsuc n) h = omega arith
-
 pub bits-below : (z : ℤ) → ltZ z (pos 0) ≡ true → natAbs z < 18446744073709551616 → 18446744073709551615 - natAbs z + 1 ≡ ofZ w64 z
 bits-below (pos n) h l = let m = ltb-true n 0 h in absurd (omega arith)
 bits-below (negsuc n) h l = omega arith

@@ -4,7 +4,8 @@ use mathlib.Core.Bool.{true}
 use lib.IntN.{pos, natAbs}
 use lib.Signed.{ltZ}
 use mir.Facts.{toZ-ofZ}
-use Rattle.writer.proofs.Numbers.{not-zero, bits-below, bits-plain}
+use Rattle.laws.proofs.Size.{below-zero-size}
+use Rattle.writer.proofs.Numbers.{bits-below, bits-plain}
 use borrow.Author.Needs.{needs}
 use Rattle.writer.proofs.wire.bits.Statement.{statement}
 use Rattle.writer.proofs.wire.bits.Tie as tie
@@ -18,12 +19,12 @@ below : (c : tie.Then1) → ltZ (c .before .before .args .x) (pos 0) ≡ true
 below c = rw (toZ-ofZ (c .before .before .fits .x)) at (c .if1 .taken)
 
 add-result : tie.Need-add-result
-add-result c = omega (arith, not-zero (c .before .before .args .x) (below c), size (c .before))
+add-result c = omega (arith, below-zero-size (c .before .before .args .x) (below c), size (c .before))
 
 returns : tie.Need-returns
 returns c =
     let z = c .before .before .args .x in
-    rw (size (c .before)) (bits-below z (below c) (omega (arith, size (c .before), not-zero z (below c))))
+    rw (size (c .before)) (bits-below z (below c) (omega (arith, size (c .before), below-zero-size z (below c))))
 
 returns-2 : tie.Need-returns-2
 returns-2 c =
