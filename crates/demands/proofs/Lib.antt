@@ -16,3 +16,4 @@ pub mod ShutOut
 pub mod Heights
 pub mod Start
 pub mod TheSketch
+pub mod Saving

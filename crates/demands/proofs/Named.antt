@@ -33,6 +33,7 @@ use Rattle.lists.specs.Listing.{listingOf, listingsOf}
 use Rattle.lists.specs.NotChecked.{notCheckedOf}
 use Rattle.survey.specs.Correction.{corrected, otherReport, correctOf, correctGood, rerunOf, withdrawOf}
 use Rattle.junctions.specs.Call.{sketchCall}
+use Rattle.writer.specs.Write.{writeOf}
 use Rattle.rates.specs.Rates.{heightsOut, rateAnswer}
 use Rattle.adjust.proofs.Calling.{by-refusal}
 use Rattle.demands.specs.Tables.{bookFault}
@@ -46,7 +47,7 @@ use Rattle.demands.proofs.BookRules.{test-by-rules}
 
 -- a book that the test refuses gets the same refusal from every call
 pub faulty-book-same-at-every-call : (book : Lent) (r : Refusal) → testOf book ≡ Refused r → SameAtEveryCall book r
-unfolding surveyOf listingOf listingsOf notCheckedOf sketchCall withdrawOf rerunOf correctOf differenceOut rateAnswer heightsOut
+unfolding surveyOf listingOf listingsOf notCheckedOf sketchCall withdrawOf rerunOf correctOf differenceOut rateAnswer heightsOut writeOf
 faulty-book-same-at-every-call book r e = record {
   survey-of = λ out. rw e;
   listing-of = λ loop out. rw e;
@@ -56,6 +57,7 @@ faulty-book-same-at-every-call book r e = record {
   withdrawal = λ report line. rw e;
   re-run = λ report line difference small. rw (beside-inside book _ (size-inside mostDifference difference small), e);
   adjustment = λ out. by-refusal book out _ e;
+  written = λ file. rw e;
   rate = λ heights line as-many. rw (beside-inside book (heightsOut book heights) (rw (as-many, eqZ-same (book .b))), e);
 }
 

@@ -16,6 +16,7 @@ use Rattle.book.specs.declared.height.MadeHeight.{MadeHeight}
 use Rattle.book.specs.declared.held.MadeHeld.{MadeHeld}
 use Rattle.book.specs.declared.line.MadeLine.{MadeLine}
 use Rattle.file.specs.Read.{Outcome, readOf}
+use Rattle.writer.specs.Write.{Writing, writeOf}
 use Rattle.survey.specs.Survey.{Surveyed, surveyOf}
 use Rattle.lists.specs.Listing.{Listing, listingOf, listingsOf}
 use Rattle.lists.specs.NotChecked.{notCheckedOf}
@@ -30,6 +31,7 @@ use Rattle.text.proofs.Puts.{put-unique}
 use Rattle.page.specs.Page.{pageOf}
 use Rattle.page.specs.Sketch.{sketchPageOf}
 use Rattle.level.specs.Signed.{ReadNow, ofRead}
+use Rattle.level.specs.Writings.{WritingNow, ofWriting}
 use Rattle.level.specs.Answers.{SurveyNow, ofSurvey, CorrectionNow, ofCorrection}
 use Rattle.level.specs.Listings.{ListingNow, ofListing}
 use Rattle.level.specs.Sketches.{SketchNow, ofSketch}
@@ -48,6 +50,10 @@ one-answer given x y e f = e ∙ sym f
 pub reader-has-one-answer : (file : List ℕ) (held lines : List ℤ) (x y : Outcome) → x ≡ readOf file held lines
     → y ≡ readOf file held lines → x ≡ y
 reader-has-one-answer file held lines = one-answer (readOf file held lines)
+
+-- the writer: answer and file
+pub writer-has-one-answer : (book : Lent) (file : List ℕ) (x y : Writing) → x ≡ writeOf book file → y ≡ writeOf book file → x ≡ y
+writer-has-one-answer book file = one-answer (writeOf book file)
 
 -- the survey: answer and rows
 pub survey-has-one-answer : (book : Lent) (out : List ℤ) (x y : Surveyed) → x ≡ surveyOf book out → y ≡ surveyOf book out → x ≡ y
@@ -96,6 +102,10 @@ rate-has-one-answer book heights line = one-answer (rateAnswer book heights line
 pub level-read-has-one-answer : (file : List ℕ) (held lines : List ℤ) (x y : ReadNow)
     → x ≡ ofRead (readOf file held lines) → y ≡ ofRead (readOf file held lines) → x ≡ y
 level-read-has-one-answer file held lines = one-answer (ofRead (readOf file held lines))
+
+pub level-write-has-one-answer : (book : Lent) (file : List ℕ) (x y : WritingNow)
+    → x ≡ ofWriting (writeOf book file) → y ≡ ofWriting (writeOf book file) → x ≡ y
+level-write-has-one-answer book file = one-answer (ofWriting (writeOf book file))
 
 pub level-survey-has-one-answer : (book : Lent) (out : List ℤ) (x y : SurveyNow)
     → x ≡ ofSurvey (surveyOf book out) → y ≡ ofSurvey (surveyOf book out) → x ≡ y

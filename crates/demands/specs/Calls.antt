@@ -12,11 +12,13 @@ use Rattle.book.specs.Limits.{mostDifference}
 use Rattle.book.specs.Held.{heldWords}
 use Rattle.book.specs.Line.{lineWords}
 use Rattle.book.specs.Good.{GoodBook}
-use Rattle.book.specs.Test.{refusal}
+use Rattle.book.specs.Test.{refusal, countsOf}
 use Rattle.book.specs.declared.Refusal.{Refusal}
 use Rattle.file.specs.Read as read
 use Rattle.file.specs.Read.{Outcome, answered, done, statedLength, statedVersion, fileLength, statedH, statedN, statedCounts, heldOf}
-use Rattle.file.specs.Read.{linesOf, bookIn}
+use Rattle.file.specs.Read.{linesOf, bookIn, lengthOf}
+use Rattle.writer.specs.Write as writer
+use Rattle.writer.specs.Write.{Writing, writing, fileOf, writeOf}
 use Rattle.loops.specs.Row.{listings}
 use Rattle.loops.specs.Report.{loopsOf}
 use Rattle.survey.specs.Report as survey
@@ -35,7 +37,7 @@ use Rattle.adjust.specs.Call.{adjusted, adjustOf}
 use Rattle.demands.specs.Rules.{Rule, KeepsToTable}
 pub use Rattle.demands.specs.Tables.{afresh}
 use Rattle.demands.specs.Tables.{surveyRules, loopListing, listingRules, listingsRules, notCheckedRules, rerunRules, withdrawRules}
-use Rattle.demands.specs.Tables.{sketchLists, sketchRules, fileRules}
+use Rattle.demands.specs.Tables.{sketchLists, sketchRules, fileRules, writeRules}
 
 -- the survey: rows and pieces of the book, and its report in the first places of the output
 abbrev pub surveyDone : Lent → List ℤ → Surveyed
@@ -109,6 +111,17 @@ ReaderKeepsToTable file held lines given =
     KeepsToTable (λ (o : Outcome). o .answer .refusal) (fileRules file held lines)
     (λ r. answered held lines (read.refusedWith r)) (readDone file held lines) given
 
+-- the writer: how many bytes the book's file has, and the file in the first places of the lent one
+abbrev pub writeDone : Lent → List ℕ → Writing
+writeDone book file =
+    let k = countsOf book in
+    writing (writer.done k) (fileOf k (book .held) (book .lines) ++ drop (lengthOf k) file)
+
+abbrev pub WriterKeepsToTable : Lent → List ℕ → Writing → Type 0
+WriterKeepsToTable book file given =
+    KeepsToTable (λ (w : Writing). w .answer .refusal) (writeRules book file)
+    (λ r. writing (writer.refusedWith r) file) (writeDone book file) given
+
 -- "Each call tests all that it is lent": a faulty book gets the same refusal from every call, and nothing is changed (a re-run is refused
 -- with 4 already where its new difference is outside the limit, and a rate where its heights are not b in number)
 pub record SameAtEveryCall (book : Lent) (r : Refusal) : Type 0 where
@@ -121,6 +134,7 @@ pub record SameAtEveryCall (book : Lent) (r : Refusal) : Type 0 where
   pub re-run : (report : List ℤ) (line difference : ℤ) → natAbs difference ≤ mostDifference
       → rerunOf book report line difference ≡ corrected (survey.refusedWith r) (book .lines) report
   pub adjustment : (out : List ℤ) → adjustOf book out ≡ adjusted (adjust.refusedWith r) out
+  pub written : (file : List ℕ) → writeOf book file ≡ writing (writer.refusedWith r) file
   pub rate : (heights : List ℤ) (line : ℤ) → pos (length heights) ≡ book .b → rateAnswer book heights line ≡ rates.refusedWith r
 
 -- "3 .. before all else": a book of an unknown version gets 3 from every call, also where a new difference is outside its limit or the

@@ -6,3 +6,4 @@ pub mod Corrections
 pub mod StillStands
 pub mod Heights
 pub mod TheSketch
+pub mod Saving

@@ -12,9 +12,10 @@ use Rattle.book.specs.Lent.{Lent}
 use Rattle.book.specs.Version.{versionOut}
 use Rattle.book.specs.Held.{heldWords, heldCount, firstBadHeld}
 use Rattle.book.specs.Line.{lineWords, lineCount, differenceOut, firstBadLine}
-use Rattle.book.specs.Test.{torn, bookOut}
+use Rattle.book.specs.Test.{torn, bookOut, countsOf}
 use Rattle.file.specs.Read.{statedLength, statedVersion, statedT, statedB, statedH, statedN, statedCounts, fileLength, heldOf, linesOf}
-use Rattle.file.specs.Read.{bookIn}
+use Rattle.file.specs.Read.{bookIn, lengthOf}
+use Rattle.writer.specs.Write.{cannotSay}
 use Rattle.loops.specs.Loops.{loopAt}
 use Rattle.loops.specs.Row.{listed, listings}
 use Rattle.loops.specs.Report.{loopsOf, reportOf}
@@ -107,6 +108,15 @@ withdrawRules book report number = bookRules book (correctionRules book report n
 unfoldable pub rerunRules : Lent → List ℤ → ℤ → ℤ → List Rule
 unfolding differenceOut bookFault noLine otherReport reportOf
 rerunRules book report number difference = besideRules (differenceOut difference) book (correctionRules book report number)
+
+-- the writer: 16, "Version 1 cannot say that a line is withdrawn", "after 7 and before 10"; the file has room, or 10
+abbrev pub savingRules : Lent → List ℕ → List Rule
+savingRules book file =
+    rule 16 (cannotSay (countsOf book) (book .lines)) 0 ∷ rule 10 (ltb (length file) (lengthOf (countsOf book))) 0 ∷ []
+
+unfoldable pub writeRules : Lent → List ℕ → List Rule
+unfolding cannotSay
+writeRules book file = bookRules book (savingRules book file)
 
 -- 10, of the reader's two buffers
 abbrev pub roomsRule : List ℕ → List ℤ → List ℤ → Rule

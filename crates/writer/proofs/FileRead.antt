@@ -67,9 +67,9 @@ held-back held b h few g i l =
     (held-read (markAt held i) (heightAt held i) (wider 65535 (omega arith) (e .mark)) (omega (arith, e .height)))
 
 -- where no line is withdrawn, each stands
-stands : (lines : List ℤ) (n i : ℕ) → anyWithdrawn lines n ≡ false → i < n → Between 0 1 (standingAt lines i) → standingAt lines i ≡ pos 1
+pub all-stand : (lines : List ℤ) (n i : ℕ) → anyWithdrawn lines n ≡ false → i < n → Between 0 1 (standingAt lines i) → standingAt lines i ≡ pos 1
 unfolding anyWithdrawn
-stands lines n i e l s =
+all-stand lines n i e l s =
     let z = standingAt lines i in
     let not-zero : natAbs z ≡ 0 → ⊥ =
     λ zero-size. eqZ-apart z (pos 0) (none-below (λ j. eqZ (standingAt lines j) (pos 0)) n e i l) (s .is ∙ ap pos zero-size) in
@@ -101,7 +101,7 @@ module _ (lines : List ℤ) (b n : ℕ) (few : b ≤ mostMarks) (g : Lines lines
   lines-back (single low high none) said i l =
       let e = g .each i l in
       rw (six i l)
-      (line-read _ _ _ _ _ _ (sayable b lines i few e) (stands lines n i said l (e .standing)) (none i l))
+      (line-read _ _ _ _ _ _ (sayable b lines i few e) (all-stand lines n i said l (e .standing)) (none i l))
   lines-back (classed each) said i l =
       let e = g .each i l in
       rw (six i l)
