@@ -1,15 +1,14 @@
 -- Request 05, "Save what was corrected": the writer, sentence by sentence. Assumes nothing.
 use mathlib.Core.Path.{_≡_, refl, sym, _∙_, ap, ap₂, subst}
 use mathlib.Core.Logic.{_⊎_, _↔_, inl, inr}
-use mathlib.Core.Bool.{Bool, true, false, cond, true≢false}
-use mathlib.Core.List.{List, [], _∷_, _++_}
+use mathlib.Core.Bool.{true, false, cond}
+use mathlib.Core.List.{List, _++_}
 use Prim.Native.Nat.{ℕ, _*_, _≤_, _<_}
 use native.Mathlib.Omega.{arith}
-use lib.Dec.{ltb}
-use lib.ListN.{length, take, drop}
+use lib.ListN.{length, drop}
 use lib.Seq.{take-at}
 use lib.IntN.{ℤ, pos}
-use borrow.Author.Tests.{ltb-false, lt-ltb, le-ltb, eq-eqb}
+use borrow.Author.Tests.{ltb-false, le-ltb, eq-eqb}
 use Rattle.laws.specs.Tests.{eqZ}
 use Rattle.laws.proofs.FirstBad.{none-any}
 use Rattle.laws.proofs.Scans.{any-found}
@@ -25,20 +24,18 @@ use Rattle.book.proofs.IfGood.{if-good}
 use Rattle.book.proofs.Goods.{tested-good, tested-counts}
 use Rattle.book.proofs.Passing.{good-passes, counts-pass}
 use Rattle.book.proofs.Versions.{version-passes}
+use Rattle.file.specs.Wire.{Bytes}
 use Rattle.file.specs.Read.{Outcome, statedLength, statedVersion, statedH, statedN, statedCounts, fileLength, lengthOf, headOf, heldOf}
 use Rattle.file.specs.Read.{linesOf, bookIn, readOf}
-use Rattle.file.specs.declared.Head.{Head}
 use Rattle.file.specs.declared.Head.the-variants.{States}
 use Rattle.file.proofs.Heads.{head-says}
 use Rattle.survey.specs.Survey.{surveyOf}
-use Rattle.writer.specs.Bytes.{Bytes}
 use Rattle.writer.specs.Write as writer
 use Rattle.writer.specs.Write.{Writing, writing, fileOf, anyWithdrawn, cannotSay, writeGood, writeOf}
 use Rattle.writer.proofs.Answers.{not-said, no-room, all-written}
 use Rattle.writer.proofs.FileRead.{all-stand, file-length, head-back, book-read-back, read-back}
 use Rattle.writer.proofs.WriteBack.{file-written, read-is-sayable}
 use Rattle.writer.proofs.AreBytes.{file-bytes}
-use Rattle.demands.specs.Rules.{rule}
 use Rattle.demands.specs.Tables.{savingRules, writeRules}
 use Rattle.demands.specs.Calls.{writeDone, WriterKeepsToTable, Readable}
 use Rattle.demands.specs.Corrections.{Step, Accepted, KeptTrue}

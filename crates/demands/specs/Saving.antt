@@ -12,7 +12,7 @@ use Rattle.book.specs.Lent.{Lent, lent}
 use Rattle.book.specs.Test.{noRefusal, testOf}
 use Rattle.book.specs.declared.Book.{Book}
 use Rattle.book.specs.declared.Tested.the-variants.{Good}
-use Rattle.file.specs.Read.{Outcome, lengthOf}
+use Rattle.file.specs.Read.{Outcome}
 use Rattle.writer.specs.Write.{Writing}
 
 -- the file that a call has written: the first bytes of the lent one, as many as it answers

@@ -10,10 +10,11 @@ use mir.Val.{ofZ}
 use Rattle.book.specs.Held.{markAt, heightAt}
 use Rattle.book.specs.Line.{fromAt, toAt, differenceAt, lengthAt, standingAt, classAt}
 use Rattle.book.specs.declared.Book.{Book}
+use Rattle.file.specs.Wire.{Bytes}
 use Rattle.file.specs.Entry.{entryWords, lineKind}
 use Rattle.file.specs.declared.entry.Kind.{Kind}
 use Rattle.file.specs.declared.entry.Kind.the-variants.{Held, Line, ClassedLine}
-use Rattle.writer.specs.Bytes.{Bytes, bytesOf}
+use Rattle.writer.specs.Bytes.{bytesOf}
 use Rattle.writer.specs.Entry.{heldBytes, lineBytes, classedLineBytes, bytes, written}
 use Rattle.writer.specs.Write.{headBytes, fileOf}
 use Rattle.writer.proofs.Fields.{run}

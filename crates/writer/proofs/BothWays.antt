@@ -1,7 +1,7 @@
 -- Numbers and their bytes, both ways: what is read of the bytes of a number, and the bytes of a number that was read; once for every count
 -- of bytes, unsigned and signed.
 -- Assumes nothing.
-use mathlib.Core.Path.{_≡_, refl, sym, _∙_, ap}
+use mathlib.Core.Path.{_≡_, refl, _∙_, ap}
 use mathlib.Core.Bool.{Bool, true, false}
 use mathlib.Core.List.{List, [], _∷_, _++_, append-assoc}
 use Prim.Native.Nat.{ℕ, zero, suc, _+_, _*_, _-_, _/_, _%_, _^_, _≤_, _<_}
@@ -11,12 +11,12 @@ use lib.Dec.{ltb}
 use lib.ListN.{length, getD, take, drop, length-append, length-drop, List·getD-append}
 use lib.Seq.{getD-at, getD-drop, take-suc}
 use lib.IntN.{ℤ, pos, negsuc, natAbs}
-use borrow.Author.Tests.{ltb-true, ltb-false, lt-ltb, le-ltb}
+use borrow.Author.Tests.{ltb-true, ltb-false}
 use mir.Syntax.{w32, w64}
 use mir.Val.{toZ, ofZ}
-use mir.Facts.{toZ-ofZ, ofZ-toZ}
-use Rattle.file.specs.Wire.{be}
-use Rattle.writer.specs.Bytes.{Bytes, bytesOf, inBytes}
+use mir.Facts.{ofZ-toZ}
+use Rattle.file.specs.Wire.{Bytes, be}
+use Rattle.writer.specs.Bytes.{bytesOf, inBytes}
 use Rattle.writer.proofs.Numbers.{bytes-length}
 
 -- ---- reading what was written

@@ -1,13 +1,13 @@
 -- A run of numbers, one after the other, each in so many bytes: any one of them read, and all of them written.
 -- Assumes nothing.
-use mathlib.Core.Path.{_≡_, refl, sym, _∙_, ap}
+use mathlib.Core.Path.{_≡_, refl, sym, _∙_}
 use mathlib.Core.List.{List, [], _∷_, _++_}
 use Prim.Native.Nat.{ℕ, _+_, _^_, _≤_, _<_}
 use native.Mathlib.Omega.{arith}
-use lib.ListN.{length, take, drop, length-append}
+use lib.ListN.{length, take, length-append}
 use lib.Seq.{take-add}
-use Rattle.file.specs.Wire.{be}
-use Rattle.writer.specs.Bytes.{Bytes, bytesOf}
+use Rattle.file.specs.Wire.{Bytes, be}
+use Rattle.writer.specs.Bytes.{bytesOf}
 use Rattle.writer.proofs.Numbers.{bytes-length}
 use Rattle.writer.proofs.BothWays.{be-front, be-last, bytes-back}
 

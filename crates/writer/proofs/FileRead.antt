@@ -1,12 +1,11 @@
 -- Reading what was written: the whole file of a good book that a file of its version can say.
 -- Assumes nothing.
-use mathlib.Core.Path.{_≡_, refl, sym, _∙_, ap}
-use mathlib.Core.Bool.{Bool, true, false, cond, not}
+use mathlib.Core.Path.{_≡_, refl, _∙_, ap}
+use mathlib.Core.Bool.{false, cond}
 use mathlib.Core.List.{List, [], _∷_, _++_, append-assoc, append-nil}
 use Prim.Native.Nat.{ℕ, zero, suc, _+_, _*_, _^_, _≤_, _<_}
 use native.Mathlib.Nat.{mul-le-mul}
 use native.Mathlib.Omega.{arith}
-use lib.Dec.{eqb, ltb}
 use lib.ListN.{length, getD, take, drop, length-append, length-drop}
 use lib.Seq.{take-suc, take-all, getD-drop}
 use lib.IntN.{ℤ, pos, natAbs}
@@ -20,17 +19,17 @@ use Rattle.book.specs.Held.{heldWords, markAt, heightAt}
 use Rattle.book.specs.Line.{lineWords, fromAt, toAt, differenceAt, lengthAt, standingAt}
 use Rattle.book.specs.Version.{versionOut, hasClasses}
 use Rattle.book.specs.Test.{bookOut, testOf}
-use Rattle.book.specs.Lent.{Lent, lent}
+use Rattle.book.specs.Lent.{Lent}
 use Rattle.book.specs.Good.{GoodLine, Lines, HeldEntries, Versioned, single, classed, GoodBook}
 use Rattle.book.specs.declared.Book.{Book}
 use Rattle.book.proofs.IfGood.{if-good}
 use Rattle.book.proofs.Passing.{counts-pass, good-passes}
 use Rattle.book.proofs.Versions.{version-passes, known-version, small-tolerance}
 use Rattle.file.specs.Wire.{be}
-use Rattle.file.specs.Entry.{entryBytes, entryWords, numbers, lineKind, entries}
+use Rattle.file.specs.Entry.{entryBytes, numbers, lineKind, entries}
 use Rattle.file.specs.Read.{lengthOf, headOf, heldOf, linesOf, bookIn, Outcome, done, roomOf, bodyOf, afterHead, readOf}
 use Rattle.file.specs.declared.Head.the-variants.{States}
-use Rattle.file.specs.declared.entry.Kind.the-variants.{Held, Line, ClassedLine}
+use Rattle.file.specs.declared.entry.Kind.the-variants.{Held}
 use Rattle.file.proofs.Heads.{line-bytes}
 use Rattle.file.proofs.Entries.{room-for, line-words}
 use Rattle.writer.specs.Entry.{bytes, written}

@@ -2,11 +2,11 @@
 -- Assumes nothing.
 use mathlib.Core.Path.{_≡_, refl, sym, _∙_, ap}
 use mathlib.Core.List.{List, [], _∷_, _++_, append-assoc}
-use Prim.Native.Nat.{ℕ, zero, suc, _+_, _*_, _^_, _≤_, _<_}
+use Prim.Native.Nat.{ℕ, zero, suc, _+_, _*_, _^_, _<_}
 use native.Mathlib.Nat.{zero-mul}
 use native.Mathlib.Omega.{arith}
 use lib.ListN.{length, take, drop, length-append}
-use lib.Seq.{take-add, take-at, drop-at, drop-drop}
+use lib.Seq.{take-add, take-at, drop-at}
 use lib.IntN.{ℤ, pos, negsuc, natAbs}
 use mir.Syntax.{w32, w64}
 use mir.Val.{SFits, toZ, ofZ}
@@ -17,12 +17,12 @@ use Rattle.book.specs.Version.{noClass}
 use Rattle.file.specs.Wire.{be}
 use Rattle.file.specs.Entry.{entryBytes, entryWords, heldNumbers, lineNumbers, numbers, entries}
 use Rattle.file.specs.declared.entry.Kind.{Kind}
-use Rattle.file.specs.declared.entry.Kind.the-variants.{Held, Line, ClassedLine}
+use Rattle.file.specs.declared.entry.Kind.the-variants.{Line, ClassedLine}
 use Rattle.writer.specs.Bytes.{bytesOf, inBytes}
 use Rattle.writer.specs.Entry.{heldBytes, lineBytes, classedLineBytes, bytes, written}
-use Rattle.writer.proofs.BothWays.{be-front, in-four}
+use Rattle.writer.proofs.BothWays.{in-four}
 use Rattle.writer.proofs.Fields.{run, field-read}
-use Rattle.writer.proofs.Entries.{line-bytes-length, entry-length, written-length}
+use Rattle.writer.proofs.Entries.{entry-length, written-length}
 
 -- ---- an entry
 

@@ -2,7 +2,7 @@
 -- Assumes nothing.
 use mathlib.Core.Path.{_≡_, refl, sym, _∙_, ap}
 use mathlib.Core.Bool.{Bool, true, false, cond}
-use mathlib.Core.List.{List, [], _∷_, _++_}
+use mathlib.Core.List.{List, [], _++_}
 use Prim.Native.Nat.{ℕ, zero, suc, _+_, _*_, _≤_, _<_}
 use native.Mathlib.Nat.{zero-mul}
 use native.Mathlib.Decide.{decLt}
@@ -10,23 +10,21 @@ use native.Mathlib.Omega.{arith}
 use lib.ListN.{length, getD, take, drop, length-take, length-drop, List·getD-eq-default}
 use lib.Seq.{take-add, take-all, getD-take, getD-drop, drop-drop}
 use lib.IntN.{ℤ, pos}
-use mir.Syntax.{w32, w64}
-use mir.Val.{toZ, ofZ}
 use Rattle.laws.specs.Tests.{eqZ}
 use Rattle.laws.proofs.FirstBad.{none-any}
 use Rattle.book.specs.Line.{standingField, standingAt, entryAt}
 use Rattle.book.specs.Version.{hasClasses}
 use Rattle.book.specs.declared.Book.{Book}
 use Rattle.book.proofs.Places.{entry-field}
-use Rattle.file.specs.Wire.{be}
-use Rattle.file.specs.Entry.{entryBytes, entryWords, heldNumbers, lineNumbers, numbers, lineKind, entries}
+use Rattle.file.specs.Wire.{Bytes, be}
+use Rattle.file.specs.Entry.{entryBytes, heldNumbers, lineNumbers, numbers, lineKind, entries}
 use Rattle.file.specs.Read.{lengthOf, headOf, heldOf, linesOf}
 use Rattle.file.specs.declared.Head.the-variants.{States}
 use Rattle.file.specs.declared.entry.Kind.{Kind}
 use Rattle.file.specs.declared.entry.Kind.the-variants.{Held, Line, ClassedLine}
 use Rattle.file.proofs.Heads.{Says, head-says, head-states}
 use Rattle.file.proofs.Entries.{room-for, entry-read, line-read}
-use Rattle.writer.specs.Bytes.{Bytes, bytesOf, inBytes}
+use Rattle.writer.specs.Bytes.{bytesOf}
 use Rattle.writer.specs.Entry.{heldBytes, lineBytes, classedLineBytes, bytes, written}
 use Rattle.writer.specs.Write.{headBytes, fileOf, anyWithdrawn, cannotSay}
 use Rattle.writer.proofs.BothWays.{be-below, four-back, eight-back}

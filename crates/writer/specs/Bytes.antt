@@ -1,15 +1,10 @@
 -- Document 01: "The file, big-endian": the bytes of a number, which `be` of room file reads.
 -- Assumes nothing.
 use mathlib.Core.List.{List, [], _∷_, _++_}
-use Prim.Native.Nat.{ℕ, zero, suc, _/_, _%_, _<_}
-use lib.ListN.{getD}
+use Prim.Native.Nat.{ℕ, zero, suc, _/_, _%_}
 use lib.IntN.{ℤ}
 use mir.Syntax.{w64}
 use mir.Val.{ofZ}
-
--- a list of numbers that stands for bytes: each is below 256
-abbrev pub Bytes : List ℕ → Type 0
-Bytes s = (i : ℕ) → getD s i 0 < 256
 
 -- the k lowest bytes of a number, the highest of them first
 unfoldable pub bytesOf : ℕ → ℕ → List ℕ

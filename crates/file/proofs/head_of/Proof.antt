@@ -1,14 +1,10 @@
 use mathlib.Core.Path.{_≡_, _∙_, ap}
 use mathlib.Core.Bool.{false}
-use native.Mathlib.Omega.{arith}
 use lib.IntN.{pos}
 use borrow.Author.Tests.{eq-eqb, ne-eqb, lt-ltb, le-ltb}
 use Rattle.laws.proofs.Signed.{stored}
-use Rattle.laws.proofs.Size.{between}
-use Rattle.book.specs.Limits.{leastVersion, mostVersion}
 use Rattle.book.specs.Version.{versionOut}
 use Rattle.book.specs.Test.{bookOut, bookOf}
-use Rattle.book.specs.declared.Book.{Book}
 use Rattle.book.proofs.Made.{book-made}
 use Rattle.file.specs.Read.{statedVersion, statedT, statedB, statedH, statedN, statedCounts, fileLength, lengthOf, headOf}
 use Rattle.file.proofs.Heads.{counts-state, book-refused}
