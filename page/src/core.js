@@ -87,14 +87,28 @@ class Core {
     return this.room[name].numbers.slice(0, many);
   }
 
-  read(file) {
+  /** The bytes of the room for a file. */
+  fileRoom() {
     const { at, numbers } = this.room.file;
-    new Uint8Array(numbers.buffer, at, numbers.byteLength).set(file);
-    const words = [at, BigInt(file.length), ...this.out('held'), ...this.out('lines')];
+    return new Uint8Array(numbers.buffer, at, numbers.byteLength);
+  }
+
+  read(file) {
+    const room = this.fileRoom();
+    room.set(file);
+    const words = [room.byteOffset, BigInt(file.length), ...this.out('held'), ...this.out('lines')];
     const [number, place, version, marks, tolerance, h, n] = this.call('level_read', words, 7);
     const held = this.given('held', 2 * count(h));
     const lines = this.given('lines', LINE * count(n));
     return { number: count(number), place: count(place), numbers: { version, marks, tolerance, held, lines } };
+  }
+
+  /** Writes the file of a book. */
+  write(book) {
+    const room = this.fileRoom();
+    const words = [...this.lendBook(book), room.byteOffset, BigInt(room.length)];
+    const [number, place, bytes] = this.call('level_write', words, 3);
+    return { number: count(number), place: count(place), bytes: room.slice(0, count(bytes)) };
   }
 
   survey(book) {

@@ -1,12 +1,12 @@
 // Opening and saving book files. A refused file never replaces the book that is open.
-import { bookOf, groups, hasClasses } from './book.js';
+import { bookOf, groups } from './book.js';
 import { CoreStopped, LINE, count, lineCount } from './core.js';
 import { chooseNothing } from './choice.js';
 import { isSaved, openBook, present, setSaved, theCore } from './desk.js';
 import { button, byId, make } from './dom.js';
-import { numbersIn, fileBytes } from './file.js';
+import { numbersIn } from './file.js';
 import { hush, refuse, strong, tell, undoHere } from './notice.js';
-import { FILE_WORDS } from './refusals.js';
+import { FILE_WORDS, NOT_RIGHT, writingWords } from './refusals.js';
 import { named, plural, short } from './text.js';
 
 // As much as the report program reads.
@@ -16,6 +16,8 @@ const ENDING = '.book';
 const NOT_IN_NAMES = /[\\/:*?"<>|\u0000-\u001f]/g;
 
 export const cleanName = name => name.replace(NOT_IN_NAMES, ' ').trim();
+
+const refusedWords = ({ number, place }) => `Refused ${number}${place > 0 ? ` at ${place}` : ''}.`;
 
 /** What is wrong with a refused file. */
 const fileWords = (number, place) => ({ 6: `Held entry ${place} is wrong.`, 7: `Line ${place} is wrong.`, ...FILE_WORDS })[number];
@@ -38,7 +40,7 @@ function showButton(name, bytes) {
 }
 
 function refuseFile(name, bytes, { number, place }) {
-  refuse(strong(`${short(name)} was not opened. Refused ${number}${place > 0 ? ` at ${place}` : ''}.`),
+  refuse(strong(`${short(name)} was not opened. ${refusedWords({ number, place })}`),
     ` ${fileWords(number, place)} The book shown is the one from before. `,
     ...(number === 6 || number === 7 ? [showButton(name, bytes)] : []));
 }
@@ -64,24 +66,6 @@ async function openFile(file) {
   }
 }
 
-const sameNumbers = (p, q) => p.length === q.length && p.every((each, i) => each === q[i]);
-
-/** Whether the core reads the same book back. */
-function readsBack(numbers, bytes) {
-  const { number, numbers: back } = theCore().read(bytes);
-  return number === 0 && ['version', 'marks', 'tolerance'].every(key => back[key] === numbers[key])
-    && sameNumbers(back.held, numbers.held) && sameNumbers(back.lines, numbers.lines);
-}
-
-/** Why a book cannot be saved, or an empty text. */
-function whyNot({ book, results }) {
-  if (!results.done) return 'A file holds only a book that is right. What is wrong stands above the book.';
-  const gone = book.lines.flatMap((line, i) => (line.standing ? [] : [i + 1]));
-  if (gone.length === 0 || hasClasses(book)) return '';
-  return `A version 1 file cannot say that a line is withdrawn, and this book has ${named('line', gone, ', ')} withdrawn. `
-    + 'Print the report, undo the withdrawal, or make it a book of version 2, with a class for each line.';
-}
-
 function download(name, bytes) {
   const address = URL.createObjectURL(new Blob([bytes], { type: 'application/octet-stream' }));
   const link = make('a', { href: address, download: name });
@@ -91,19 +75,43 @@ function download(name, bytes) {
   setTimeout(() => URL.revokeObjectURL(address), 1_000);
 }
 
+/** Saves the bytes that the core wrote of a book. */
+function saveBytes({ name, book, results }, bytes) {
+  const fileName = (name || 'level') + ENDING;
+  download(fileName, bytes);
+  setSaved();
+  const n = lineCount(results.numbers);
+  const open = book.lines.length > n ? ` Line ${n + 1} is not complete and is not in the file.` : '';
+  tell('Saved as ', strong(fileName), `, ${bytes.length} bytes.${open}`);
+}
+
+/** Says why the core did not write a book. */
+function refuseBook({ lines }, answer) {
+  const withdrawn = lines.flatMap(({ standing }, i) => (standing ? [] : [i + 1]));
+  refuse(strong(`Not saved. ${refusedWords(answer)}`), ` ${writingWords(answer.number, withdrawn)}`);
+}
+
+/** The core's answer to a book that is to be saved; if the core stops null, once that is said. */
+function written(numbers) {
+  try {
+    return theCore().write(numbers);
+  } catch (error) {
+    if (!(error instanceof CoreStopped)) throw error;
+    theCore().start();
+    refuse(strong('Not saved. The core stopped.'), ' Please report this book.');
+    return null;
+  }
+}
+
 export function saveFile() {
   const step = present();
-  const why = whyNot(step);
-  if (why) return refuse(strong('Not saved.'), ` ${why}`);
-  const { numbers } = step.results;
-  const bytes = fileBytes(numbers);
-  if (!readsBack(numbers, bytes)) return refuse(strong('Not saved.'), ' The file did not read back the same. Please report this.');
-  const name = (step.name || 'level') + ENDING;
-  download(name, bytes);
-  setSaved();
-  const n = lineCount(numbers);
-  const open = step.book.lines.length > n ? ` Line ${n + 1} is not complete and is not in the file.` : '';
-  tell('Saved as ', strong(name), `, ${bytes.length} bytes.${open}`);
+  const { faults, stopped, numbers } = step.results;
+  // Of a text that cannot be read, or a book on which the core stopped, there may be no numbers to lend it.
+  if (stopped || faults.length > 0) return refuse(strong('Not saved.'), ` ${NOT_RIGHT}`);
+  const answer = written(numbers);
+  if (!answer) return;
+  if (answer.number === 0) saveBytes(step, answer.bytes);
+  else refuseBook(step.book, answer);
 }
 
 export const askForFile = () => byId('file').click();

@@ -3,10 +3,7 @@ import { count, lineCount } from './core.js';
 import { sinceStart } from './desk.js';
 import { byId, make, refill } from './dom.js';
 import { tallyText } from './since.js';
-import { named, plural } from './text.js';
-
-const MANY = 14;
-const FEW = 12;
+import { named, namedFew, plural } from './text.js';
 
 /** A tile: what it means, its title, and words below. */
 const tile = (meaning, title, words) => ({ meaning, title, words });
@@ -15,11 +12,8 @@ const made = ({ meaning, title, words }) =>
 
 function notCheckedTile({ notChecked }, comparison) {
   if (notChecked.length === 0) return null;
-  const shown = notChecked.length > MANY ? notChecked.slice(0, FEW) : notChecked;
-  const more = notChecked.length - shown.length;
   const lost = comparison && comparison.lost.length > 0 ? ` Checked at the start: ${named('line', comparison.lost)}.` : '';
-  const title = `NOT CHECKED: ${named('line', shown)}${more > 0 ? ` and ${more} more` : ''}`;
-  return tile('loud', title, `No closed loop passes here. A blunder would not show.${lost}`);
+  return tile('loud', `NOT CHECKED: ${namedFew('line', notChecked)}`, `No closed loop passes here. A blunder would not show.${lost}`);
 }
 
 function loopsTile({ loops }) {

@@ -2,6 +2,7 @@
 // good numbers in its other places: no limit is tested here. Those in the sentences are held to the core by a test.
 import { cellOf } from './book.js';
 import { LINE, NO_CLASS, lineCount } from './core.js';
+import { namedFew } from './text.js';
 
 export const LIMITS = {
   marks: '1 to 256',
@@ -94,6 +95,16 @@ export const FILE_WORDS = {
   4: 'Its marks, tolerance or counts are outside their limits; in version 2 the tolerance is 0.',
   5: 'It has more or fewer entries than it says.',
 };
+
+/** Why a book that is not right is not saved. */
+export const NOT_RIGHT = 'A file holds only a book that is right. What is wrong stands above the book.';
+
+/** Why the core does not write a book, of which these lines are withdrawn. */
+export const writingWords = (number, withdrawn) => ({
+  10: 'This is a fault of this page. Please report it.',
+  16: `A version 1 file cannot say that a line is withdrawn: ${namedFew('line', withdrawn)}. `
+    + 'Make it a version 2 book, by Version beside Tolerance, with a class for each line; or undo the withdrawal.',
+}[number] || NOT_RIGHT);
 
 /** Why there are no adjusted heights. */
 export const heightsWords = (number, place) => ({

@@ -6,6 +6,9 @@ const PLAIN = /^([0-9]*)(?:([.,])([0-9]*))?$/;
 // With six decimals 17 digits: far inside 64 bits, so that nothing wraps.
 const MOST_DIGITS = 11;
 const SHOWN = 24;
+// Of more than many numbers a few are named.
+const MANY = 14;
+const FEW = 12;
 
 /** The whole number that a text means, in units of its last decimal: { whole }, or { fault } if it means none. */
 export function wholeFrom(text, decimals) {
@@ -68,8 +71,11 @@ export function rateText(rate, minus = MINUS) {
 export const plural = (many, one, more = `${one}s`) => `${many} ${many === 1 ? one : more}`;
 
 /** "line 4", "lines 4 5": numbers with their word. */
-export const named = (word, numbers, between = ' ') =>
-  `${numbers.length === 1 ? word : `${word}s`} ${numbers.join(between)}`;
+export const named = (word, numbers) => `${numbers.length === 1 ? word : `${word}s`} ${numbers.join(' ')}`;
+
+/** The same, cut to a length that fits into a message: "lines 1 2 3 4 5 6 7 8 9 10 11 12 and 8 more". */
+export const namedFew = (word, numbers) => (numbers.length <= MANY ? named(word, numbers)
+  : `${named(word, numbers.slice(0, FEW))} and ${numbers.length - FEW} more`);
 
 /** A sentence's first letter, large. */
 export const sentence = words => words.charAt(0).toUpperCase() + words.slice(1);

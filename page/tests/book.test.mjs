@@ -1,11 +1,11 @@
-// The book as it is typed, and its file.
+// The book as it is typed.
 import assert from 'node:assert/strict';
 import { readFileSync } from 'node:fs';
 import { test } from 'node:test';
 import {
   bookOf, cellName, cellOf, emptyBook, faultWords, pasted, readBook, sameBook, withCell, withVersion, withoutRow,
 } from '../src/book.js';
-import { fileBytes, numbersIn } from '../src/file.js';
+import { numbersIn } from '../src/file.js';
 
 const stored = name => new Uint8Array(readFileSync(new URL(`../../books/${name}.book`, import.meta.url)));
 const WORKED = stored('worked');
@@ -16,11 +16,12 @@ const worked = () => bookOf(numbersIn(WORKED));
 const classed = () => bookOf(numbersIn(THREE_CLASSES));
 const lineFaults = book => readBook(book).faults.map(faultWords);
 
-test('a file of either version is the same after its texts were read back', () => {
+test('the numbers of a book of either version are the same after its texts were read back', () => {
   for (const file of [WORKED, THREE_CLASSES]) {
+    const { held, lines, ...head } = numbersIn(file);
     const { numbers, faults } = readBook(bookOf(numbersIn(file)));
     assert.deepEqual(faults, []);
-    assert.deepEqual(fileBytes(numbers), file);
+    assert.deepEqual(numbers, { ...head, held: BigInt64Array.from(held), lines: BigInt64Array.from(lines) });
   }
 });
 

@@ -1,7 +1,8 @@
 // Searches the page's source for what must not be there: node page/tests/rules.mjs
 //
-// Everything that is a result comes from the core. So outside of drawing no script rounds, makes a float of a text, adds whole numbers or
-// compares with a number, but in the places that are listed here with their reason. And nowhere does text become markup, or leave the page.
+// Everything that is a result comes from the core, and so does every byte of a saved file. So outside of drawing no script rounds, makes
+// a float of a text, adds whole numbers or compares with a number, but in the places that are listed here with their reason. And nowhere
+// are numbers written as bytes, or does text become markup, or leave the page.
 import { readFileSync, readdirSync } from 'node:fs';
 
 const PAGE = new URL('../', import.meta.url);
@@ -14,6 +15,7 @@ const EVERYWHERE = [
   [/\b(fetch|XMLHttpRequest|WebSocket|EventSource|sendBeacon|importScripts|Worker|RTCPeerConnection)\b/, 'it leaves the page'],
   [/https?:\/\/(?!www\.w3\.org\/2000\/svg)/, 'it leaves the page'],
   [/\bMath\.random\b|\bcrypto\b/, 'chance'],
+  [/\.set(Big)?(Ui|I)nt\d+\(|\.setFloat\d+\(/, 'numbers become bytes'],
 ];
 const IN_DRAWING = [[/\b(Date|performance)\b/, 'a clock in the picture']];
 const OUTSIDE_DRAWING = [
@@ -34,9 +36,11 @@ const ALLOWED = [
   ['core.js', 'const NO_CLASS = -1n', 'the form of a lent book'],
   ['text.js', 'const MOST_DIGITS = 11', 'nothing wraps in 64 bits'],
   ['text.js', 'const SHOWN = 24', 'how much of a text a message shows'],
+  ['text.js', 'const MANY = 14', 'how many lines a message names'],
+  ['text.js', 'const FEW = 12', 'how many lines a message names'],
   ['text.js', 'Math.floor(Math.abs(rate) * 1000 + 0.5)', 'the display of a rate, as the sheet of heights has it'],
-  ['file.js', 'const HEAD = 13', 'the form of a file'],
-  ['file.js', 'const HELD = 10', 'the form of a file'],
+  ['file.js', 'const HEAD = 13', 'the form of a refused file'],
+  ['file.js', 'const HELD = 10', 'the form of a refused file'],
   ['allowed.js', 'const KEPT = 20_000', 'how many answers are kept'],
   ['allowed.js', 'from + 1n', 'the marks of a ring that the core is asked about'],
   ['allowed.js', 'Math.floor(Math.sqrt(Number(10n * allows)))', 'a guess, which counts only if the core says so'],
@@ -56,8 +60,6 @@ const ALLOWED = [
   ['entry.js', 'Math.min(TABLES[table].most, book[table].length + 1)', 'how many rows there are'],
   ['files.js', 'const MOST_BYTES = 16_384', 'as much as the report program reads'],
   ['focus.js', 'const KEPT = 8', 'how many places are remembered'],
-  ['glance.js', 'const MANY = 14', 'how many lines a tile names'],
-  ['glance.js', 'const FEW = 12', 'how many lines a tile names'],
   ['keys.js', 'const MOST_PASTED = 400_000', 'how much is pasted'],
   ['loops.js', 'const MANY_OPEN = 14', 'how many lines a tile names'],
   ['loops.js', 'BAR.allowed * Number(size(loop.misclosure)) / Number(loop.allowed)', 'how long a bar is drawn'],

@@ -1,7 +1,9 @@
 // Text to whole numbers and back, exactly.
 import assert from 'node:assert/strict';
 import { test } from 'node:test';
-import { decimalText, faultText, metres, millimetres, named, plural, rateText, short, signedLine, wholeFrom } from '../src/text.js';
+import {
+  decimalText, faultText, metres, millimetres, named, namedFew, plural, rateText, short, signedLine, wholeFrom,
+} from '../src/text.js';
 
 const whole = (text, decimals = 6) => wholeFrom(text, decimals).whole;
 const fault = (text, decimals = 6) => wholeFrom(text, decimals).fault;
@@ -71,5 +73,8 @@ test('words', () => {
   assert.equal(plural(1, 'line'), '1 line');
   assert.equal(plural(0, 'line'), '0 lines');
   assert.equal(named('line', [4, 5]), 'lines 4 5');
+  const numbers = many => Array.from({ length: many }, (_, i) => i + 1);
+  assert.equal(namedFew('line', numbers(14)), 'lines 1 2 3 4 5 6 7 8 9 10 11 12 13 14');
+  assert.equal(namedFew('line', numbers(15)), 'lines 1 2 3 4 5 6 7 8 9 10 11 12 and 3 more');
   assert.equal(signedLine(-7), '−7');
 });

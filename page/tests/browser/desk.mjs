@@ -135,9 +135,9 @@ export class Desk {
     return this.profile.saved(act);
   }
 
-  /** Presses Save where no file may come. */
-  saveInVain() {
-    return this.profile.saved(() => this.press('#save'), 700);
+  /** Saves, by the button or as told, where no file may come. */
+  saveInVain(act = () => this.press('#save')) {
+    return this.profile.saved(act, 700);
   }
 
   async shutNotice() {

@@ -193,7 +193,8 @@ async function versionIsChosen(desk) {
 async function withdrawnLinesAreSaved(desk) {
   await desk.withdraw(3);
   same(await desk.saveInVain(), null, 'not in version 1');
-  includes(await desk.notice(), 'or make it a book of version 2, with a class for each line.', 'the message');
+  includes(await desk.notice(), 'Not saved. Refused 16.', 'the message');
+  includes(await desk.notice(), 'Make it a version 2 book, by Version beside Tolerance, with a class for each line;', 'the message');
   await desk.chooseVersion('2');
   await desk.paste(lineCell(1, 'class'), '4\n4\n4\n4\n4\n4\n4');
   same(await desk.wrongCells(), ['Line 3, class'], 'a withdrawn line is not pasted over');
@@ -203,10 +204,16 @@ async function withdrawnLinesAreSaved(desk) {
   const lines = tableOf(book('worked')).lines.map((line, row) => [...line, 4, row === 2 ? 0 : 1]);
   const wanted = bytesOf({ ...tableOf(book('worked')), version: 2, tolerance: 0, lines });
   same(file?.bytes.toString('hex'), wanted.toString('hex'), 'the saved bytes');
+  same(await desk.isUnsaved(), false, 'saved');
   const saved = await desk.texts();
   await desk.openBook(file.bytes, 'again.book');
   same(await desk.texts(), saved, 'opened again');
   includes(await desk.checkedBy(3), 'withdrawn', 'the line');
+  same((await desk.save())?.bytes.equals(file.bytes), true, 'saved again');
+  await desk.chooseVersion('1');
+  same(await desk.saveInVain(), null, 'not as one of version 1 again');
+  includes(await desk.notice(), 'Refused 16. A version 1 file cannot say that a line is withdrawn: line 3.', 'the message');
+  same(await desk.isUnsaved(), true, 'not saved');
 }
 
 async function savedBytes(desk) {

@@ -52,7 +52,8 @@ async function coreTrapKeepsTheBook(desk) {
   await trapInACorrection(desk, 'level_rerun', () => desk.rerun(6, '2.428'));
   await trapInACorrection(desk, 'level_withdraw', () => desk.withdraw(6));
   await trapInOpening(desk);
-  same((await traps(desk)).sprung, 8, 'traps that were sprung');
+  await trapInSaving(desk);
+  same((await traps(desk)).sprung, 9, 'traps that were sprung');
 }
 
 /** A cell that is typed stays, the message comes, and the next edit has results again from a new core. */
@@ -147,4 +148,16 @@ async function trapInOpening(desk) {
   same((await desk.state()).book, before.book, 'level_read: the book');
   await sleep(20);
   includes(await desk.openBook(book('two_pieces'), 'two.book'), 'Opened two', 'level_read: works again');
+}
+
+async function trapInSaving(desk) {
+  await desk.openBook(book('worked'), 'worked.book');
+  await desk.write(lineCell(1, 'length'), '1700');
+  const before = await desk.state();
+  await setTrap(desk, 'level_write');
+  same(await desk.saveInVain(), null, 'level_write: no file comes');
+  same(await desk.notice(), 'Not saved. The core stopped. Please report this book.', 'level_write: the message');
+  same([await desk.state(), await desk.isUnsaved()], [before, true], 'level_write: the book');
+  holds(await desk.save() !== null, 'level_write: works again');
+  same(await desk.isUnsaved(), false, 'level_write: saved');
 }

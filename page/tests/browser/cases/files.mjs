@@ -4,7 +4,7 @@ import os from 'node:os';
 import path from 'node:path';
 import { book } from '../books.mjs';
 import { holds, includes, same } from '../check.mjs';
-import { lineCell } from '../desk.mjs';
+import { heldCell, lineCell } from '../desk.mjs';
 import { report } from '../programs.mjs';
 import { until } from '../tools.mjs';
 
@@ -126,7 +126,10 @@ async function savedBytesAreTheOpenedBytes(desk) {
     await desk.openBook(book(name), `${name}.book`);
     const file = await desk.save();
     same([file?.name, file?.bytes.equals(book(name))], [`${name}.book`, true], name);
-    includes(await desk.notice(), `Saved as ${name}.book`, 'the message');
+    includes(await desk.notice(), `Saved as ${name}.book , ${book(name).length} bytes.`, 'the message');
+    const saved = await desk.state();
+    await desk.openBook(file.bytes, file.name);
+    same(await desk.state(), saved, 'opened again');
   }
   await desk.write(lineCell(1, 'length'), '710');
   same(await desk.isUnsaved(), true, 'after a change');
@@ -136,23 +139,52 @@ async function savedBytesAreTheOpenedBytes(desk) {
   same(await desk.isUnsaved(), true, 'and undone');
 }
 
+/** Saves in vain: no file comes, the message is this one, nothing changes, and the book is still one that is not saved. */
+async function holdsNotSaved(desk, words) {
+  const before = await desk.state();
+  same(await desk.saveInVain(), null, 'no file comes');
+  same(await desk.notice(), words, 'the message');
+  same(await desk.focused(), 'save', 'the focus stays');
+  same(await desk.state(), before, 'nothing changed');
+  same(await desk.isUnsaved(), true, 'not saved');
+}
+
+const notSaved16 = lines => `Not saved. Refused 16. A version 1 file cannot say that a line is withdrawn: ${lines}. `
+  + 'Make it a version 2 book, by Version beside Tolerance, with a class for each line; or undo the withdrawal.';
+
 async function withdrawnLineIsNotSaved(desk) {
   await desk.withdraw(3);
-  same(await desk.saveInVain(), null, 'no file comes');
-  includes(await desk.notice(), 'Not saved.', 'the message');
-  includes(await desk.notice(), 'A version 1 file cannot say that a line is withdrawn', 'the message');
-  includes(await desk.notice(), 'line 3', 'the message');
-  await desk.undo();
+  await holdsNotSaved(desk, notSaved16('line 3'));
+  await desk.withdraw(1);
+  await holdsNotSaved(desk, notSaved16('lines 1 3'));
+  await desk.click('#shut');
+  same([await desk.notice(), await desk.focused()], ['', 'save'], 'the message is closed');
+  await desk.focus('#tolerance');
+  const byKey = () => desk.page.press('s', { control: true });
+  same(await desk.saveInVain(byKey), null, 'no file comes by Ctrl+S');
+  same(await desk.notice(), notSaved16('lines 1 3'), 'the message');
+  same(await desk.focused(), 'tolerance', 'the focus stays');
+  await desk.undo(2);
+  same(await desk.isUnsaved(), false, 'as it was opened');
   same((await desk.save())?.bytes.equals(book('worked')), true, 'after Undo');
 }
 
+/** The core refuses numbers; texts that cannot be read are none, so that it is not asked. */
 async function refusedBookIsNotSaved(desk) {
-  for (const text of ['5', 'abc', '']) {
-    await desk.write(lineCell(1, 'length'), text);
-    same(await desk.saveInVain(), null, 'no file comes');
-    includes(await desk.notice(), 'Not saved.', text);
+  const right = 'A file holds only a book that is right. What is wrong stands above the book.';
+  for (const [cell, text, refused] of [
+    [lineCell(1, 'length'), '5', ' Refused 7 at 1.'], [lineCell(3, 'to'), '5', ' Refused 7 at 3.'],
+    [heldCell(1, 'mark'), '6', ' Refused 6 at 1.'], ['#tolerance', '0', ' Refused 4.'], ['#marks', '257', ' Refused 4.'],
+    [lineCell(1, 'length'), 'abc', ''], [lineCell(1, 'length'), '', ''], ['#marks', 'five', ''],
+  ]) {
+    await desk.write(cell, text);
+    await holdsNotSaved(desk, `Not saved.${refused} ${right}`);
+    holds(await desk.trouble() !== '', 'what is wrong stands above');
     await desk.undo();
   }
+  await desk.withdraw(3);
+  await desk.write(lineCell(1, 'length'), '5');
+  await holdsNotSaved(desk, `Not saved. Refused 7 at 1. ${right}`);
 }
 
 async function nameIsTheNameOfTheFile(desk) {
