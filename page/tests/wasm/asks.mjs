@@ -2,13 +2,14 @@
 
 import { damageFile, fileOf } from './files.mjs';
 import {
-  ENTRY_NUMBERS, EXTREMES, HELD_NUMBERS, LINE_NUMBERS, MOST_DIFFERENCE, MOST_HEIGHT, MOST_HELD, MOST_LINES, MOST_LISTED,
-  MOST_MARKS, ROW_NUMBERS, aroundLimits,
+  ENTRY_NUMBERS, EXTREMES, HELD_NUMBERS, LINE_NUMBERS, MOST_DIFFERENCE, MOST_FILE_BYTES, MOST_HEIGHT, MOST_HELD, MOST_LINES,
+  MOST_LISTED, MOST_MARKS, ROW_NUMBERS, aroundLimits,
 } from './limits.mjs';
 
 // The place in a report's row of the count of the loop's lines.
 const COUNT_IN_ROW = 1;
 const NO_ANSWER = 0x5c5c5c5c5c5c5c5cn;
+const NO_BYTE = 0x5c;
 
 /** Asks every call of a book, on both sides of the comparison. */
 export async function askAll(comparison, random, book) {
@@ -17,6 +18,7 @@ export async function askAll(comparison, random, book) {
   await sketch(comparison, random, book);
   await adjust(comparison, random, book);
   await correct(comparison, random, book, report);
+  await write(comparison, random, book);
   await read(comparison, random, fileOf(book));
 }
 
@@ -113,6 +115,13 @@ function lineNumber(random, { lines }) {
 function oneOf(random, count) {
   if (random.onceIn(12)) return random.pick([...EXTREMES, BigInt(count + 1)]);
   return BigInt(random.within(1, Math.max(count, 1)));
+}
+
+/** Writes with room for any file, then with about as much as this one takes. */
+async function write(comparison, random, book) {
+  for (const bytes of [MOST_FILE_BYTES, placesFor(random, fileOf(book).length)]) {
+    await comparison.ask('level_write', book, [new Uint8Array(Math.max(bytes, 0)).fill(NO_BYTE)]);
+  }
 }
 
 /** Reads a file as it is, and damaged. */

@@ -2,9 +2,9 @@
 //
 // A request is twelve numbers (the call, version, b, t, loop or line, difference, and the counts of six slices), then the
 // slices: held, lines, and those that are left in the order of the call, one to four of them; the others have no
-// elements. Of level_read the third is the file, in bytes; all else is 64-bit numbers, lowest byte first, as this
-// processor and the module have them. An answer is twelve numbers (up to seven of the call's answer, 1 if the call
-// touched nothing but its outputs, and four zeros), then the slices as they are after the call.
+// elements. Of level_read and level_write the third is the file, in bytes; all else is 64-bit numbers, lowest byte
+// first, as this processor and the module have them. An answer is twelve numbers (up to seven of the call's answer, 1 if
+// the call touched nothing but its outputs, and four zeros), then the slices as they are after the call.
 
 export const NUMBER_BYTES = 8;
 export const SLICE_NAMES = ['held', 'lines', 'third', 'fourth', 'fifth', 'sixth'];
@@ -17,7 +17,6 @@ export const MOST_SLICE_BYTES = 1 << 20;
 export const MOST_REQUEST_BYTES = HEAD_BYTES + SLICES * MOST_SLICE_BYTES;
 
 const [HELD, LINES, THIRD, FOURTH, FIFTH, SIXTH] = SLICE_NAMES.keys();
-export const READ = 0;
 
 // The place in an answer's head of the 1 that says: nothing but the outputs was touched.
 export const UNTOUCHED = 7;
@@ -29,6 +28,10 @@ export const CALLS = [
   {
     name: 'level_read', numbers: 7, writes: [HELD, LINES],
     argumentsOf: ({ held, lines, more: [third] }) => [...third, ...held, ...lines],
+  },
+  {
+    name: 'level_write', numbers: 3, writes: [THIRD],
+    argumentsOf: ({ book, more: [third] }) => [...book, ...third],
   },
   {
     name: 'level_survey', numbers: 4, writes: [THIRD],
@@ -73,6 +76,13 @@ export function callNumber(name) {
   return CALLS.findIndex((call) => call.name === name);
 }
 
+const OF_FILES = ['level_read', 'level_write'].map(callNumber);
+
+/** Whether the third slice of a call, by its number in a request, is a file. */
+export function isOfFiles(call) {
+  return OF_FILES.includes(Number(call));
+}
+
 /** The numbers at the start of a request or an answer. */
 export function headOf(bytes) {
   return Array.from({ length: HEAD_NUMBERS }, (_, place) => bytes.readBigInt64LE(NUMBER_BYTES * place));
@@ -87,7 +97,7 @@ export function countsOf(head) {
 export function slicesOf(head) {
   let end = HEAD_BYTES;
   return countsOf(head).map((count, slice) => {
-    const size = slice === THIRD && head[0] === BigInt(READ) ? 1 : NUMBER_BYTES;
+    const size = slice === THIRD && isOfFiles(head[0]) ? 1 : NUMBER_BYTES;
     if (count < 0n || count > BigInt(MOST_SLICE_BYTES / size)) throw new Error(`a slice of ${count} is asked for`);
     const start = end;
     end += Number(count) * size;

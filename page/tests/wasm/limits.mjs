@@ -4,6 +4,7 @@ export const MOST_MARKS = 256;
 export const MOST_HELD = 256;
 export const MOST_LINES = 512;
 export const MOST_LISTED = 65_792;
+export const MOST_FILE_BYTES = 9_741;
 export const MOST_TOLERANCE = 1000;
 export const MOST_CLASS = 4;
 export const MOST_DIFFERENCE = 100_000_000;

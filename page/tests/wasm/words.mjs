@@ -1,6 +1,6 @@
 // A call and its two answers in words, for people.
 
-import { CALLS, NUMBER_BYTES, READ, SLICE_NAMES, headOf, numbersOf, slicesOf } from './calls.mjs';
+import { CALLS, NUMBER_BYTES, SLICE_NAMES, headOf, isOfFiles, numbersOf, slicesOf } from './calls.mjs';
 import { HELD_NUMBERS, LINE_NUMBERS, ROW_NUMBERS } from './limits.mjs';
 
 const MOST_PLACES = 8;
@@ -14,7 +14,7 @@ export function callInWords(request) {
     `${CALLS[call].name}: version ${version}, b ${b}, t ${t}, loop or line ${number}, difference ${difference}`,
     ...numbersInWords('held', numbersOf(held), HELD_NUMBERS),
     ...numbersInWords('lines', numbersOf(lines), LINE_NUMBERS),
-    ...(call === BigInt(READ) ? bytesInWords(more[0]) : moreInWords(more)),
+    ...(isOfFiles(call) ? bytesInWords(more[0]) : moreInWords(more)),
   ].join('\n');
 }
 
