@@ -123,7 +123,8 @@ written-exactly-if book file =
             ltb-false (length file) (lengthOf k) (first-of (rest-of own)),
           ),
       λ p.
-          let v = subst (λ (x : Book). Writable book x × (lengthOf x ≤ length file)) (tested-counts book (p .0) (p .1 .passes)) (p .1, p .2) in
+          let same = tested-counts book (p .0) (p .1 .passes) in
+          let v = subst (λ (x : Book). Writable book x × (lengthOf x ≤ length file)) same (p .1, p .2) in
           let passes = v .0 .passes in
           w .1 (passes-only-if book k passes (none-and (said-exactly-if book k passes .1 (v .0 .said))
           (none-and (le-ltb (length file) (lengthOf k) (v .1)) none-in))),

@@ -18,7 +18,8 @@ module _ (k : Book) (held lines : List ℤ) (file : List ℕ) where
   unfolding writeGood
   not-said e = rw e
 
-  pub no-room : cannotSay k lines ≡ false → length file < lengthOf k → writeGood k held lines file ≡ writing (refusedWith (refusal 10 0)) file
+  pub no-room : cannotSay k lines ≡ false → length file < lengthOf k
+      → writeGood k held lines file ≡ writing (refusedWith (refusal 10 0)) file
   unfolding writeGood
   no-room e l = rw (e, lt-ltb (length file) (lengthOf k) l)
 

@@ -66,7 +66,8 @@ held-back held b h few g i l =
     (held-read (markAt held i) (heightAt held i) (wider 65535 (omega arith) (e .mark)) (omega (arith, e .height)))
 
 -- where no line is withdrawn, each stands
-pub all-stand : (lines : List ℤ) (n i : ℕ) → anyWithdrawn lines n ≡ false → i < n → Between 0 1 (standingAt lines i) → standingAt lines i ≡ pos 1
+pub all-stand : (lines : List ℤ) (n i : ℕ) → anyWithdrawn lines n ≡ false → i < n → Between 0 1 (standingAt lines i)
+    → standingAt lines i ≡ pos 1
 unfolding anyWithdrawn
 all-stand lines n i e l s =
     let z = standingAt lines i in

@@ -36,7 +36,8 @@ module _ {l₀ : List ℕ} {a : ℕ} {p out : List ℕ} (so-far : Poured l₀ a 
   -- that part, where there is room for it, is lent whole
   pub part-length : (e : ℕ) → a ≤ e → e ≤ length l₀ → length (take (e - a) (drop a out)) ≡ e - a
   part-length e l h =
-      let same : length out ≡ length l₀ = ap length (so-far .is) ∙ length-append p (drop a l₀) ∙ omega (arith, so-far .long, length-drop a l₀)
+      let same : length out ≡ length l₀ =
+      ap length (so-far .is) ∙ length-append p (drop a l₀) ∙ omega (arith, so-far .long, length-drop a l₀)
       in simp (length-take, length-drop) (omega arith)
 
   -- a number, in w bytes

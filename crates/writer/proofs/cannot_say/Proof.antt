@@ -8,7 +8,8 @@ use borrow.Author.Needs.{needs}
 use Rattle.writer.proofs.cannot_say.Statement.{statement}
 use Rattle.writer.proofs.cannot_say.Tie as tie
 
-flag : (c : tie.After-has-classes) → (let entry : tie.Start = search in c .has-classes .result ≡ hasClasses (pos (entry .args .book .version)))
+flag : (c : tie.After-has-classes) → (let entry : tie.Start = search in
+    c .has-classes .result ≡ hasClasses (pos (entry .args .book .version)))
 flag c =
     let v = c .before in
     rw (stored (v .signed-count .result) (v .signed-count .ok) (v .signed-count .ensures)) at (c .has-classes .ensures)

@@ -13,8 +13,9 @@ use borrow.Author.Needs.{needs}
 use Rattle.writer.proofs.fill.Statement.{statement}
 use Rattle.writer.proofs.fill.Tie as tie
 
--- a line takes so many bytes
-size : (c : tie.Start) → c .args .bytes ≡ 13 + c .args .book .held * 10 + c .args .book .lines * entryBytes (lineKind (c .args .book .version))
+-- the bytes of head, held entries and lines
+size : (c : tie.Start) → (let k = c .args .book in
+    c .args .bytes ≡ 13 + k .held * 10 + k .lines * entryBytes (lineKind (k .version)))
 size c = c .pre .1 .1 .0
 
 write-head-requires : tie.Need-write-head-requires
@@ -52,7 +53,8 @@ returns c =
     let kind : tie.After-of-lines = search in
     let h = entry .args .held .now in
     let l = entry .args .lines .now in
-    let p₁ = then-part (none-poured (entry .args .file .now)) _ (headBytes k) 13 (omega arith) (head .write-head .ensures) (head-length k) in
+    let p₁ = then-part (none-poured (entry .args .file .now)) _ (headBytes k) 13 (omega arith) (head .write-head .ensures)
+    (head-length k) in
     let p₂ = then-part p₁ _ (written Held h (k .held)) (13 + k .held * 10) (omega arith) (held .write-entries .ensures)
     (written-length Held h (k .held) ∙ omega arith) in
     let p₃ = then-part p₂ _ (written (lineKind (k .version)) l (k .lines)) bytes (omega (arith, size entry))

@@ -32,7 +32,8 @@ returns c =
     let entry = entry-of bytes in
     let k = entry .args .book in
     let whole = entry .pre .1 in
-    let p₁ = then-number (none-poured (entry .args .out .now)) _ 4 (lengthOf k) (omega (arith, whole)) (entry .pre .0) (bytes .put .ensures) in
+    let p₁ = then-number (none-poured (entry .args .out .now)) _ 4 (lengthOf k) (omega (arith, whole)) (entry .pre .0)
+    (bytes .put .ensures) in
     let p₂ = then-number p₁ _ 1 (k .version) (omega (arith, whole)) refl (version .put2 .ensures) in
     let p₃ = then-number p₂ _ 2 (k .tolerance) (omega (arith, whole)) refl (tolerance .put3 .ensures) in
     let p₄ = then-number p₃ _ 2 (k .marks) (omega (arith, whole)) refl (marks .put4 .ensures) in

@@ -20,7 +20,8 @@ returns c =
     let standing : tie.After-put2 = search in
     let p₁ = then-part (none-poured (entry .args .out .now)) _ (lineBytes e) 12 (omega arith) (line .write-line .ensures)
     (line-bytes-length e) in
-    let p₂ = then-signed p₁ _ 1 (classAt e 0) (omega (arith, whole)) (k .before .bits-arg .given) (k .bits .ensures) (class .put .ensures) in
+    let p₂ = then-signed p₁ _ 1 (classAt e 0) (omega (arith, whole)) (k .before .bits-arg .given) (k .bits .ensures)
+    (class .put .ensures) in
     let p₃ = then-signed p₂ _ 1 (standingAt e 0) (omega (arith, whole)) (s .before .bits-arg2 .given) (s .bits2 .ensures)
     (standing .put2 .ensures) in
     all-poured p₃ whole
