@@ -60,7 +60,7 @@ held-passes b held i g =
           (λ j. eqZ (markAt held j) (markAt held i)) i (λ j l. apart-eqZ (markAt held j) (markAt held i) (g .once j l)),
     )
 
--- nor are its counts outside
+-- the counts of a book inside every limit are not outside theirs
 pub counts-pass : (k : Book) (book : Lent) → GoodBook k book
     → bookOut (pos (k .version)) (pos (k .marks)) (pos (k .tolerance)) (k .held) (k .lines) ≡ false
 unfolding bookOut outN

@@ -49,6 +49,7 @@ statedCounts file = counts (pos (statedVersion file)) (pos (statedB file)) (pos 
 abbrev pub fileLength : ℕ → ℕ → ℕ → ℕ
 fileLength version h n = 13 + h * 10 + n * entryBytes (lineKind version)
 
+-- so long is the file of a book with these counts
 abbrev pub lengthOf : Book → ℕ
 lengthOf k = fileLength (k .version) (k .held) (k .lines)
 

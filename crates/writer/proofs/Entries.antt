@@ -1,6 +1,6 @@
 -- Laws on the bytes of a head and of a run of entries, for every kind of entry.
 -- Assumes nothing.
-use mathlib.Core.Path.{_≡_, _∙_}
+use mathlib.Core.Path.{_≡_, refl, _∙_}
 use mathlib.Core.List.{List, _++_}
 use Prim.Native.Nat.{ℕ, zero, suc, _+_, _*_, _-_}
 use native.Mathlib.Nat.{add-sub-cancel-left}
@@ -16,21 +16,16 @@ use Rattle.file.specs.declared.entry.Kind.{Kind}
 use Rattle.file.specs.declared.entry.Kind.the-variants.{Held, Line, ClassedLine}
 use Rattle.writer.specs.Entry.{heldBytes, lineBytes, classedLineBytes, bytes, written}
 use Rattle.writer.specs.Write.{headBytes}
-use Rattle.writer.proofs.Numbers.{bytes-length}
-
-pub line-bytes-length : (e : List ℤ) → length (lineBytes e) ≡ 12
-unfolding lineBytes
-line-bytes-length e = simp (length-append, bytes-length)
 
 pub entry-length : (kind : Kind) (e : List ℤ) → length (bytes kind e) ≡ entryBytes kind
-unfolding heldBytes classedLineBytes
-entry-length Held e = simp (length-append, bytes-length)
-entry-length Line e = line-bytes-length e
-entry-length ClassedLine e = simp (length-append, bytes-length, line-bytes-length)
+unfolding heldBytes lineBytes classedLineBytes
+entry-length Held e = refl
+entry-length Line e = refl
+entry-length ClassedLine e = refl
 
 pub head-length : (k : Book) → length (headBytes k) ≡ 13
 unfolding headBytes
-head-length k = simp (length-append, bytes-length)
+head-length k = refl
 
 pub written-length : (kind : Kind) (slice : List ℤ) (n : ℕ) → length (written kind slice n) ≡ n * entryBytes kind
 unfolding written

@@ -1,7 +1,8 @@
 use native.Mathlib.Omega.{arith}
 use Rattle.book.specs.Line.{classAt, standingAt}
+use Rattle.file.specs.declared.entry.Kind.the-variants.{Line}
 use Rattle.writer.specs.Entry.{lineBytes, classedLineBytes}
-use Rattle.writer.proofs.Entries.{line-bytes-length}
+use Rattle.writer.proofs.Entries.{entry-length}
 use Rattle.writer.proofs.Parts.{none-poured, then-part, then-signed, all-poured}
 use borrow.Author.Needs.{needs}
 use Rattle.writer.proofs.entry.write_classed_line.Statement.{statement}
@@ -19,7 +20,7 @@ returns c =
     let s : tie.After-bits2 = search in
     let standing : tie.After-put2 = search in
     let p₁ = then-part (none-poured (entry .args .out .now)) _ (lineBytes e) 12 (omega arith) (line .write-line .ensures)
-    (line-bytes-length e) in
+    (entry-length Line e) in
     let p₂ = then-signed p₁ _ 1 (classAt e 0) (omega (arith, whole)) (k .before .bits-arg .given) (k .bits .ensures)
     (class .put .ensures) in
     let p₃ = then-signed p₂ _ 1 (standingAt e 0) (omega (arith, whole)) (s .before .bits-arg2 .given) (s .bits2 .ensures)
