@@ -12,64 +12,64 @@ use Rattle.book.specs.Good.{GoodBook}
 use Rattle.book.specs.declared.Book.{Book}
 use Rattle.book.specs.declared.Refusal.{Refusal}
 use Rattle.book.specs.declared.Tested.TheVariants.{Good, Refused}
-use Rattle.book.proofs.Goods.{good-lines}
-use Rattle.book.proofs.IfGood.{if-refused, if-good}
+use Rattle.book.proofs.Goods.{good_lines}
+use Rattle.book.proofs.IfGood.{if_refused, if_good_lem}
 use Rattle.adjust.specs.Adjusted.{Outcome, done, refused, adjustment}
-use Rattle.adjust.specs.Answers.{settledAt, refusedWith, answered, Answers}
-use Rattle.adjust.specs.Call.{adjusted, givenBy, adjustGood, adjustOf, GoodEntries}
+use Rattle.adjust.specs.Answers.{settled_at, refused_with, answered, Answers}
+use Rattle.adjust.specs.Call.{adjusted, given_by, adjust_good, adjust_of, GoodEntries}
 use Rattle.adjust.specs.declared.Adjusted.{Adjusted}
 
 -- a tested book has good entries
-pub good-entries : (k : Book) (book : Lent) → GoodBook k book → GoodEntries k book.held book.lines
-good-entries k book g = record {
-  lines-good = good-lines k book g;
-  held-good = g.held-good;
+pub good_entries : (k : Book) (book : Lent) → GoodBook k book → GoodEntries k book.held book.lines
+good_entries k book g = record {
+  lines_good = good_lines k book g;
+  held_good = g.held_good;
 }
 
 -- the call by the test of its book
 module _ (book : Lent) (out : List ℤ) where
-  pub by-refusal : (r : Refusal) → test_of book ≡ Refused r → adjustOf book out ≡ adjusted (refusedWith r) out
-  unfolding adjustOf
-  by-refusal = if-refused (test_of book) (λ r. adjusted (refusedWith r) out) (λ k. adjustGood k book.held book.lines out)
+  pub by_refusal : (r : Refusal) → test_of book ≡ Refused r → adjust_of book out ≡ adjusted (refused_with r) out
+  unfolding adjust_of
+  by_refusal = if_refused (test_of book) (λ r. adjusted (refused_with r) out) (λ k. adjust_good k book.held book.lines out)
 
-  pub by-good-book : (k : Book) → test_of book ≡ Good k → adjustOf book out ≡ adjustGood k book.held book.lines out
-  unfolding adjustOf
-  by-good-book = if-good (test_of book) (λ r. adjusted (refusedWith r) out) (λ k. adjustGood k book.held book.lines out)
+  pub by_good_book : (k : Book) → test_of book ≡ Good k → adjust_of book out ≡ adjust_good k book.held book.lines out
+  unfolding adjust_of
+  by_good_book = if_good_lem (test_of book) (λ r. adjusted (refused_with r) out) (λ k. adjust_good k book.held book.lines out)
 
 -- what is given by an answer and the heights that it leaves
 module _ (a : Adjusted) (z out : List ℤ) where
-  given-done : (o : Outcome) → Answers a z o → a.refusal.number ≡ 0 → adjusted a (z ++ drop (length z) out) ≡ givenBy out o
-  given-done (done n hs) w e =
+  given_done : (o : Outcome) → Answers a z o → a.refusal.number ≡ 0 → adjusted a (z ++ drop (length z) out) ≡ given_by out o
+  given_done (done n hs) w e =
       let q : done n z ≡ done n hs = subst (λ (x : Adjusted). answered x z ≡ done n hs) w.whole w.is in
       let same : z ≡ hs = cc in
       ap (λ (x : Adjusted). adjusted x (z ++ drop (length z) out)) w.whole
-      ∙ ap (λ (x : List ℤ). adjusted (settledAt n) (x ++ drop (length x) out)) same
-  given-done (refused k p) w e =
+      ∙ ap (λ (x : List ℤ). adjusted (settled_at n) (x ++ drop (length x) out)) same
+  given_done (refused k p) w e =
       let none : k ≡ 0 = sym (ap (λ (x : Adjusted). x.refusal.number) w.whole) ∙ e in
-      let q : answered (refusedWith (refusal k p)) z ≡ refused k p =
+      let q : answered (refused_with (refusal k p)) z ≡ refused k p =
       subst (λ (x : Adjusted). answered x z ≡ refused k p) w.whole w.is in
-      absurd (clash (subst (λ (x : ℕ). answered (refusedWith (refusal x p)) z ≡ refused x p) none q))
+      absurd (clash (subst (λ (x : ℕ). answered (refused_with (refusal x p)) z ≡ refused x p) none q))
     where
       clash : done 0 z ≡ refused 0 p → ⊥
       clash e = let x : ◌≡◌ {A = ℕ} 0 1 = cc in omega arith
 
-  given-refused : (o : Outcome) → Answers a z o → (a.refusal.number ≡ 0 → ⊥) → adjusted a out ≡ givenBy out o
-  given-refused (done n hs) w e = absurd (e (ap (λ (x : Adjusted). x.refusal.number) w.whole))
-  given-refused (refused k p) w e = ap (λ (x : Adjusted). adjusted x out) w.whole
+  given_refused : (o : Outcome) → Answers a z o → (a.refusal.number ≡ 0 → ⊥) → adjusted a out ≡ given_by out o
+  given_refused (done n hs) w e = absurd (e (ap (λ (x : Adjusted). x.refusal.number) w.whole))
+  given_refused (refused k p) w e = ap (λ (x : Adjusted). adjusted x out) w.whole
 
 module _ (k : Book) (held lines out : List ℤ) where
   -- 10
-  pub call-ten : (a : Adjusted) → length out < k.marks → a ≡ refusedWith (refusal 10 0) → adjusted a out ≡ adjustGood k held lines out
-  unfolding adjustGood
-  call-ten a h e = rw (lt-ltb (length out) k.marks h) (ap (λ (x : Adjusted). adjusted x out) e)
+  pub call_ten : (a : Adjusted) → length out < k.marks → a ≡ refused_with (refusal 10 0) → adjusted a out ≡ adjust_good k held lines out
+  unfolding adjust_good
+  call_ten a h e = rw (lt-ltb (length out) k.marks h) (ap (λ (x : Adjusted). adjusted x out) e)
 
   module _ (a : Adjusted) (z : List ℤ) (room : k.marks ≤ length out) (w : Answers a z (adjustment k.marks held lines)) where
-    pub call-done : a.refusal.number ≡ 0 → (out' : List ℤ) → out' ≡ z ++ drop (length z) out
-        → adjusted a out' ≡ adjustGood k held lines out
-    unfolding adjustGood
-    call-done e out' q =
-        rw (le-ltb (length out) k.marks room) (ap (adjusted a) q ∙ given-done a z out (adjustment k.marks held lines) w e)
+    pub call_done : a.refusal.number ≡ 0 → (out' : List ℤ) → out' ≡ z ++ drop (length z) out
+        → adjusted a out' ≡ adjust_good k held lines out
+    unfolding adjust_good
+    call_done e out' q =
+        rw (le-ltb (length out) k.marks room) (ap (adjusted a) q ∙ given_done a z out (adjustment k.marks held lines) w e)
 
-    pub call-refused : (a.refusal.number ≡ 0 → ⊥) → adjusted a out ≡ adjustGood k held lines out
-    unfolding adjustGood
-    call-refused e = rw (le-ltb (length out) k.marks room) (given-refused a z out (adjustment k.marks held lines) w e)
+    pub call_refused : (a.refusal.number ≡ 0 → ⊥) → adjusted a out ≡ adjust_good k held lines out
+    unfolding adjust_good
+    call_refused e = rw (le-ltb (length out) k.marks room) (given_refused a z out (adjustment k.marks held lines) w e)

@@ -6,7 +6,7 @@ use Rattle.network.specs.Standing.{standing}
 use Rattle.network.specs.Tree.{tree}
 use Rattle.sights.specs.Sights.{sights_of}
 use Rattle.sweeps.specs.Sweeps.{Settled, settled, unsettled, settle}
-use Rattle.start.specs.Start.{heldHeight, is_held, rootedBy, unheldPiece, startHeights}
+use Rattle.start.specs.Start.{held_height, is_held, rooted_by, unheld_piece, start_heights}
 
 -- The sweeps and the heights, or a refusal's number and place
 pub data Outcome : Type 0 where
@@ -20,12 +20,12 @@ ended (Settled.outside m) = refused 13 m
 ended unsettled = refused 12 0
 
 -- 11: "a piece has no held mark", with "its lowest mark, lowest of all such"; 0 is none
-abbrev pub unlessUnheld : ℕ → (Unit {0} → Outcome) → Outcome
-unlessUnheld zero go = go tt
-unlessUnheld (suc m) go = refused 11 (suc m)
+abbrev pub unless_unheld : ℕ → (Unit {0} → Outcome) → Outcome
+unless_unheld zero go = go tt
+unless_unheld (suc m) go = refused 11 (suc m)
 
 unfoldable pub adjustment : ℕ → List ℤ → List ℤ → Outcome
-unfolding startHeights settle unheldPiece
+unfolding start_heights settle unheld_piece
 adjustment b held lines =
-    unlessUnheld (unheldPiece (rootedBy (tree b (standing lines))) (heldHeight held) b)
-    (λ _. ended (settle (sights_of (standing lines)) (is_held held) b (startHeights b held lines)))
+    unless_unheld (unheld_piece (rooted_by (tree b (standing lines))) (held_height held) b)
+    (λ _. ended (settle (sights_of (standing lines)) (is_held held) b (start_heights b held lines)))

@@ -2,7 +2,7 @@
 ghost use Rattle.std.specs.Prelude.{◌≡◌, length};
 ghost use Rattle.start.specs.Along.{Blank};
 ghost use Rattle.adjust.specs.Adjusted.{adjustment};
-ghost use Rattle.adjust.specs.Answers.{endAnswer, Answers};
+ghost use Rattle.adjust.specs.Answers.{end_answer, Answers};
 ghost use Rattle.adjust.specs.Call.{GoodEntries};
 ghost use Rattle.adjust.specs.Planted.{Planted};
 
@@ -11,7 +11,7 @@ use book::Book;
 use sweeps::End;
 
 fn answer_of(e: End) -> Adjusted
-    ensures { result ≡ endAnswer e }
+    ensures { result ≡ end_answer e }
 {
     match e {
         End::Settled(n) => crate::settled_at(n),

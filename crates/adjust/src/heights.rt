@@ -3,7 +3,7 @@ ghost use Rattle.std.specs.Prelude.{◌≡◌, ◌≤◌, length};
 ghost use Rattle.prepare.specs.Prepared.{RoomBook};
 ghost use Rattle.adjust.specs.Adjusted.{adjustment};
 ghost use Rattle.adjust.specs.Answers.{Answers};
-ghost use Rattle.adjust.specs.Call.{GoodEntries, adjusted, adjustGood};
+ghost use Rattle.adjust.specs.Call.{GoodEntries, adjusted, adjust_good};
 
 use crate::Adjusted;
 use crate::along::adjust_along;
@@ -75,7 +75,7 @@ fn adjust_by(
 ) -> Adjusted
     requires fact_1 { GoodEntries book held.now lines.now }
     requires fact_2 { (length z.old ≡ book.marks) × (book.marks ≤ length heights.old) }
-    ensures { adjusted result heights.new ≡ adjustGood book held.now lines.now heights.old }
+    ensures { adjusted result heights.new ≡ adjust_good book held.now lines.now heights.old }
 {
     let a = adjust_into(book, held, lines, z);
     let refusal = a.refusal;
@@ -88,7 +88,7 @@ fn adjust_by(
 // 10, or the adjustment.
 pub(crate) fn adjust_good(book: Book, held: &[i64], lines: &[i64], heights: &mut [i64]) -> Adjusted
     requires { GoodEntries book held.now lines.now }
-    ensures { adjusted result heights.new ≡ adjustGood book held.now lines.now heights.old }
+    ensures { adjusted result heights.new ≡ adjust_good book held.now lines.now heights.old }
 {
     let b = book.marks;
     if heights.len() < b {

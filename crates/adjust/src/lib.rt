@@ -2,9 +2,9 @@
 ghost use Rattle.std.specs.Prelude.{◌≡◌};
 ghost use Rattle.book.specs.Lent.{lent};
 ghost use Rattle.book.specs.Test.{refusal};
-ghost use Rattle.rates.specs.Rates.{rateAnswer};
-ghost use Rattle.adjust.specs.Answers.{settledAt, refusedWith};
-ghost use Rattle.adjust.specs.Call.{adjusted, adjustOf};
+ghost use Rattle.rates.specs.Rates.{rate_answer};
+ghost use Rattle.adjust.specs.Answers.{settled_at, refused_with};
+ghost use Rattle.adjust.specs.Call.{adjusted, adjust_of};
 
 mod along;
 mod heights;
@@ -20,19 +20,19 @@ pub struct Adjusted {
 }
 
 pub(crate) fn refuse(number: usize, place: usize) -> Adjusted
-    ensures { result ≡ refusedWith (refusal number place) }
+    ensures { result ≡ refused_with (refusal number place) }
 {
     refused(Refusal::new(number, place))
 }
 
 fn refused(refusal: Refusal) -> Adjusted
-    ensures { result ≡ refusedWith refusal }
+    ensures { result ≡ refused_with refusal }
 {
     Adjusted { refusal, sweeps: 0 }
 }
 
 pub(crate) fn settled_at(sweeps: usize) -> Adjusted
-    ensures { result ≡ settledAt sweeps }
+    ensures { result ≡ settled_at sweeps }
 {
     let refusal = Refusal::none();
     Adjusted { refusal, sweeps }
@@ -49,7 +49,7 @@ pub fn adjust(
     heights: &mut [i64],
 ) -> Adjusted
     ensures { adjusted result heights.new
-        ≡ adjustOf (lent version b t held.now lines.now) heights.old }
+        ≡ adjust_of (lent version b t held.now lines.now) heights.old }
 {
     match book::test(version, b, t, held, lines) {
         Tested::Refused(r) => refused(r),
@@ -67,7 +67,7 @@ pub fn rate(
     heights: &[i64],
     line: i64,
 ) -> RateAnswer
-    ensures { result ≡ rateAnswer (lent version b t held.now lines.now) heights.now line }
+    ensures { result ≡ rate_answer (lent version b t held.now lines.now) heights.now line }
 {
     let outside = !signed::same(signed::signed_count(heights.len()), b);
     match book::test_beside(outside, version, b, t, held, lines) {

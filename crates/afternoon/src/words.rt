@@ -1,6 +1,6 @@
 // What is printed, in a surveyor's words.
 ghost use Rattle.std.specs.Prelude.{◌≤◌, ◌+◌, length};
-ghost use Rattle.loops.specs.Row.{rowWords};
+ghost use Rattle.loops.specs.Row.{row_words};
 
 use crate::{LINES_WORDS, REPORT_WORDS, Step};
 use book::held::Held;
@@ -161,7 +161,7 @@ pub(crate) fn put_report(number: usize, was: &[i64; REPORT_WORDS], is: &[i64; RE
 }
 
 fn put_row_at(was: &[i64], is: &[i64], at: usize)
-    requires { (at + rowWords ≤ length was.now) × (at + rowWords ≤ length is.now) }
+    requires { (at + row_words ≤ length was.now) × (at + row_words ≤ length is.now) }
 {
     count(b"    ROW", at / rows::ROW_WORDS + 1);
     put_row(&is[at..at + rows::ROW_WORDS]);
@@ -176,7 +176,7 @@ fn put_row_at(was: &[i64], is: &[i64], at: usize)
 
 // A row in words; what names no closing line, number by number.
 fn put_row(row: &[i64])
-    requires { rowWords ≤ length row.now }
+    requires { row_words ≤ length row.now }
 {
     if row[rows::ROW_CLOSING] < 1 {
         put(b": EMPTY");

@@ -10,80 +10,80 @@ use lib.Dec.{eqb, ltb}
 use lib.ListN.{length}
 use lib.IntN.{ℤ, pos, nat_abs}
 use borrow.Author.Tests.{eqb-true, ltb-false, lt-ltb, not-false}
-use Rattle.laws.specs.Tests.{outZ, outN, eqZ}
-use Rattle.laws.proofs.Tests.{or_left, or_right, inN-high, eqZ-apart}
-use Rattle.laws.proofs.Scans.{cond-zero, none-bad, none_below, first-most}
-use Rattle.laws.proofs.Size.{between, size-within}
-use Rattle.book.specs.Limits.{leastVersion, mostVersion, leastMarks, mostMarks, leastLines, mostLines, leastHeld, mostHeld}
-use Rattle.book.specs.Limits.{mostDifference, leastLength, mostLength, mostHeldHeight}
-use Rattle.book.specs.Version.{versionOut, toleranceOut, classOut}
-use Rattle.book.specs.Height.{heldHeightOut}
-use Rattle.book.specs.Held.{heldWords, markAt, heightAt, heldCount, heldOut, heldBefore, heldBad, firstBadHeld}
-use Rattle.book.specs.Line.{lineWords, fromAt, to_at, differenceAt, length_at, standingAt, class_at, lineCount, differenceOut}
-use Rattle.book.specs.Line.{lineFault, classFault, faultAt, lineBad, firstBadLine}
+use Rattle.laws.specs.Tests.{out_z, out_n, eq_z}
+use Rattle.laws.proofs.Tests.{or_left, or_right, in_n_high, eq_z_apart}
+use Rattle.laws.proofs.Scans.{cond_zero, none_bad, none_below, first_most}
+use Rattle.laws.proofs.Size.{between, size_within}
+use Rattle.book.specs.Limits.{least_version, most_version, least_marks, most_marks, least_lines, most_lines, least_held, most_held}
+use Rattle.book.specs.Limits.{most_difference, least_length, most_length, most_held_height}
+use Rattle.book.specs.Version.{version_out, tolerance_out, class_out}
+use Rattle.book.specs.Height.{held_height_out}
+use Rattle.book.specs.Held.{held_words, mark_at, height_at, held_count, held_out, held_before, held_bad, first_bad_held}
+use Rattle.book.specs.Line.{line_words, from_at, to_at, difference_at, length_at, standing_at, class_at, line_count, difference_out}
+use Rattle.book.specs.Line.{line_fault, class_fault, fault_at, line_bad, first_bad_line}
 use Rattle.book.specs.Lent.{Lent}
-use Rattle.book.specs.Test.{bookOut, countsOf, refused, torn, test_of, testBeside}
+use Rattle.book.specs.Test.{book_out, counts_of, refused, torn, test_of, test_beside}
 use Rattle.book.specs.Good.{GoodLine, GoodHeld, GoodBook, GoodLines}
 use Rattle.book.specs.declared.Book.{Book}
 use Rattle.book.specs.declared.Refusal.{Refusal}
 use Rattle.book.specs.declared.Tested.{Tested}
 use Rattle.book.specs.declared.Tested.TheVariants.{Good, Refused}
-use Rattle.book.proofs.Versions.{tolerance-inside, versioned, known-version, small-tolerance, classes}
+use Rattle.book.proofs.Versions.{tolerance_inside, versioned, known_version, small_tolerance, classes}
 
 none_first : (n : ℕ) → ltb 0 n ≡ false → n ≡ 0
 none_first n e = let z = ltb-false 0 n e in omega arith
 
 -- a line without a fault has none in its five numbers, nor in its class
-no-fault : (version b : ℤ) (lines : List ℤ) (i : ℕ) → lineBad version b lines i ≡ false
-    → (lineFault b (fromAt lines i) (to_at lines i) (differenceAt lines i) (length_at lines i) (standingAt lines i) ≡ 0)
-    × (classOut version (class_at lines i) ≡ false)
-unfolding lineBad faultAt classFault
-no-fault version b lines i e = go (lineFault b _ _ _ _ _) (none_first (faultAt version b lines i) e)
+no_fault : (version b : ℤ) (lines : List ℤ) (i : ℕ) → line_bad version b lines i ≡ false
+    → (line_fault b (from_at lines i) (to_at lines i) (difference_at lines i) (length_at lines i) (standing_at lines i) ≡ 0)
+    × (class_out version (class_at lines i) ≡ false)
+unfolding line_bad fault_at class_fault
+no_fault version b lines i e = go (line_fault b _ _ _ _ _) (none_first (fault_at version b lines i) e)
   where
-    go : (f : ℕ) → cond (ltb 0 f) f (cond (classOut version (class_at lines i)) 6 0) ≡ 0
-        → (f ≡ 0) × (classOut version (class_at lines i) ≡ false)
-    go zero e = (refl, (cond-zero (classOut version (class_at lines i)) 5 0 e).0)
+    go : (f : ℕ) → cond (ltb 0 f) f (cond (class_out version (class_at lines i)) 6 0) ≡ 0
+        → (f ≡ 0) × (class_out version (class_at lines i) ≡ false)
+    go zero e = (refl, (cond_zero (class_out version (class_at lines i)) 5 0 e).0)
     go (suc f) e = absurd (omega (arith, rw (lt-ltb 0 (suc f) (omega arith)) at e))
 
-pub good-class : (version b : ℤ) (lines : List ℤ) (i : ℕ) → lineBad version b lines i ≡ false → classOut version (class_at lines i) ≡ false
-good-class version b lines i e = (no-fault version b lines i e).1
+pub good_class : (version b : ℤ) (lines : List ℤ) (i : ℕ) → line_bad version b lines i ≡ false → class_out version (class_at lines i) ≡ false
+good_class version b lines i e = (no_fault version b lines i e).1
 
 -- five numbers without a fault are a line
-pub good-line : (version : ℤ) (b : ℕ) (lines : List ℤ) (i : ℕ) → lineBad version (pos b) lines i ≡ false → GoodLine b lines i
-unfolding lineFault differenceOut
-good-line version b lines i e =
-    let f = fromAt lines i in
+pub good_line : (version : ℤ) (b : ℕ) (lines : List ℤ) (i : ℕ) → line_bad version (pos b) lines i ≡ false → GoodLine b lines i
+unfolding line_fault difference_out
+good_line version b lines i e =
+    let f = from_at lines i in
     let t = to_at lines i in
-    let d = differenceAt lines i in
+    let d = difference_at lines i in
     let l = length_at lines i in
-    let s = standingAt lines i in
-    let none : lineFault (pos b) f t d l s ≡ 0 = (no-fault version (pos b) lines i e).0 in
-    let ends = cond-zero (outZ (pos 1) (pos b) f || outZ (pos 1) (pos b) t) 0 _ none in
-    let same = cond-zero (eqZ f t) 1 _ ends.1 in
-    let difference = cond-zero (differenceOut d) 2 _ same.1 in
-    let long = cond-zero (outZ (pos leastLength) (pos mostLength) l) 3 _ difference.1 in
-    let standing = cond-zero (outZ (pos 0) (pos 1) s) 4 0 long.1 in
+    let s = standing_at lines i in
+    let none : line_fault (pos b) f t d l s ≡ 0 = (no_fault version (pos b) lines i e).0 in
+    let ends = cond_zero (out_z (pos 1) (pos b) f || out_z (pos 1) (pos b) t) 0 _ none in
+    let same = cond_zero (eq_z f t) 1 _ ends.1 in
+    let difference = cond_zero (difference_out d) 2 _ same.1 in
+    let long = cond_zero (out_z (pos least_length) (pos most_length) l) 3 _ difference.1 in
+    let standing = cond_zero (out_z (pos 0) (pos 1) s) 4 0 long.1 in
     record {
-      from = between 1 b f (or_left (outZ (pos 1) (pos b) f) (outZ (pos 1) (pos b) t) ends.0);
-      to = between 1 b t (or_right (outZ (pos 1) (pos b) f) (outZ (pos 1) (pos b) t) ends.0);
-      apart = eqZ-apart f t same.0;
-      difference = size-within mostDifference d difference.0;
-      long = between leastLength mostLength l long.0;
+      from = between 1 b f (or_left (out_z (pos 1) (pos b) f) (out_z (pos 1) (pos b) t) ends.0);
+      to = between 1 b t (or_right (out_z (pos 1) (pos b) f) (out_z (pos 1) (pos b) t) ends.0);
+      apart = eq_z_apart f t same.0;
+      difference = size_within most_difference d difference.0;
+      long = between least_length most_length l long.0;
       standing = between 0 1 s standing.0;
     }
 
 -- a held entry that is not bad
-pub good-held : (b : ℕ) (held : List ℤ) (i : ℕ) → heldBad (pos b) held i ≡ false → GoodHeld b held i
-unfolding heldBad heldOut heldHeightOut heldBefore
-good-held b held i e =
-    let m = markAt held i in
-    let h = heightAt held i in
-    let out = or_left (heldOut (pos b) m h) (heldBefore held m i) e in
-    let fresh = or_right (heldOut (pos b) m h) (heldBefore held m i) e in
+pub good_held : (b : ℕ) (held : List ℤ) (i : ℕ) → held_bad (pos b) held i ≡ false → GoodHeld b held i
+unfolding held_bad held_out held_height_out held_before
+good_held b held i e =
+    let m = mark_at held i in
+    let h = height_at held i in
+    let out = or_left (held_out (pos b) m h) (held_before held m i) e in
+    let fresh = or_right (held_out (pos b) m h) (held_before held m i) e in
     record {
-      mark = between 1 b m (or_left (outZ (pos 1) (pos b) m) (heldHeightOut h) out);
-      height = size-within mostHeldHeight h (or_right (outZ (pos 1) (pos b) m) (heldHeightOut h) out);
-      once = λ j l. eqZ-apart (markAt held j) m (none_below (λ j. eqZ (markAt held j) m) i fresh j l);
+      mark = between 1 b m (or_left (out_z (pos 1) (pos b) m) (held_height_out h) out);
+      height = size_within most_held_height h (or_right (out_z (pos 1) (pos b) m) (held_height_out h) out);
+      once = λ j l. eq_z_apart (mark_at held j) m (none_below (λ j. eq_z (mark_at held j) m) i fresh j l);
     }
 
 -- an answer of the test that is no refusal got past each refusal
@@ -102,76 +102,76 @@ whole w slice e =
 module _ (book : Lent) where
   -- the tests that a book has passed
   pub record Passed : Type 0 where
-    pub version : versionOut book.version ≡ false
-    pub inside : bookOut book.version book.b book.t (heldCount book.held) (lineCount book.lines) ≡ false
-    pub held_whole : torn heldWords book.held ≡ false
-    pub lines-whole : torn lineWords book.lines ≡ false
-    pub held-good : ltb 0 (firstBadHeld book.b book.held) ≡ false
-    pub lines-good : ltb 0 (firstBadLine book.version book.b book.lines) ≡ false
+    pub version : version_out book.version ≡ false
+    pub inside : book_out book.version book.b book.t (held_count book.held) (line_count book.lines) ≡ false
+    pub held_whole : torn held_words book.held ≡ false
+    pub lines_whole : torn line_words book.lines ≡ false
+    pub held_good : ltb 0 (first_bad_held book.b book.held) ≡ false
+    pub lines_good : ltb 0 (first_bad_line book.version book.b book.lines) ≡ false
 
   module _ (k : Book) (e : test_of book ≡ Good k) where
-    passed : Passed × (k ≡ countsOf book)
+    passed : Passed × (k ≡ counts_of book)
     unfolding test_of
     passed =
-        let line = firstBadLine book.version book.b book.lines in
-        let p₁ = past (versionOut book.version) 3 0 _ k e in
-        let p₂ = past (bookOut book.version book.b book.t (heldCount book.held) (lineCount book.lines)) 4 0 _ k p₁.1 in
-        let p₃ = past (torn heldWords book.held) 4 0 _ k p₂.1 in
-        let p₄ = past (torn lineWords book.lines) 4 0 _ k p₃.1 in
-        let p₅ = past (ltb 0 (firstBadHeld book.b book.held)) 6 (firstBadHeld book.b book.held) _ k p₄.1 in
+        let line = first_bad_line book.version book.b book.lines in
+        let p₁ = past (version_out book.version) 3 0 _ k e in
+        let p₂ = past (book_out book.version book.b book.t (held_count book.held) (line_count book.lines)) 4 0 _ k p₁.1 in
+        let p₃ = past (torn held_words book.held) 4 0 _ k p₂.1 in
+        let p₄ = past (torn line_words book.lines) 4 0 _ k p₃.1 in
+        let p₅ = past (ltb 0 (first_bad_held book.b book.held)) 6 (first_bad_held book.b book.held) _ k p₄.1 in
         let p₆ = past (ltb 0 line) 7 line _ k p₅.1 in (
           record {
             version = p₁.0;
             inside = p₂.0;
             held_whole = p₃.0;
-            lines-whole = p₄.0;
-            held-good = p₅.0;
-            lines-good = p₆.0;
+            lines_whole = p₄.0;
+            held_good = p₅.0;
+            lines_good = p₆.0;
           },
           cc,
         )
 
     -- the counts of a book that passes are those that were lent
-    pub tested-counts : k ≡ countsOf book
-    tested-counts = passed.1
+    pub tested_counts : k ≡ counts_of book
+    tested_counts = passed.1
 
     -- "An answer of 0": the book is inside every limit
-    pub tested-good : GoodBook k book
-    unfolding bookOut firstBadHeld firstBadLine versionOut
-    tested-good =
+    pub tested_good : GoodBook k book
+    unfolding book_out first_bad_held first_bad_line version_out
+    tested_good =
         let p = passed.0 in
-        let h = heldCount book.held in
-        let n = lineCount book.lines in
-        let out₁ = outZ (pos leastMarks) (pos mostMarks) book.b in
-        let out₂ = toleranceOut book.version book.t in
-        let out₃ = outN leastHeld mostHeld h in
-        let out₄ = outN leastLines mostLines n in
+        let h = held_count book.held in
+        let n = line_count book.lines in
+        let out₁ = out_z (pos least_marks) (pos most_marks) book.b in
+        let out₂ = tolerance_out book.version book.t in
+        let out₃ = out_n least_held most_held h in
+        let out₄ = out_n least_lines most_lines n in
         let o₃ = or_left (out₁ || out₂ || out₃) out₄ p.inside in
         let o₂ = or_left (out₁ || out₂) out₃ o₃ in
-        let marks = between leastMarks mostMarks book.b (or_left out₁ out₂ o₂) in
+        let marks = between least_marks most_marks book.b (or_left out₁ out₂ o₂) in
         let tolerance = or_right out₁ out₂ o₂ in
-        let no-bad-line =
-        none-bad (lineBad book.version book.b book.lines) n
-        (none_first (firstBadLine book.version book.b book.lines) p.lines-good) in
-        subst (λ (k : Book). GoodBook k book) (sym tested-counts) (record {
-          version = (between leastVersion mostVersion book.version p.version).is;
+        let no_bad_line =
+        none_bad (line_bad book.version book.b book.lines) n
+        (none_first (first_bad_line book.version book.b book.lines) p.lines_good) in
+        subst (λ (k : Book). GoodBook k book) (sym tested_counts) (record {
+          version = (between least_version most_version book.version p.version).is;
           marks = marks.is;
-          a-mark = marks.low;
-          few-marks = marks.high;
-          tolerance = (tolerance-inside book.version book.t tolerance).0;
-          by-version = versioned book.lines n book.version book.t p.version tolerance
-              (λ i l. good-class book.version book.b book.lines i (no-bad-line i l));
-          held-good = record {
-            few = inN-high leastHeld mostHeld h (or_right (out₁ || out₂) out₃ o₃);
-            whole = whole heldWords book.held p.held_whole;
-            each = λ i l. good-held (nat_abs book.b) book.held i (subst (λ (z : ℤ). heldBad z book.held i ≡ false) marks.is
-                (none-bad (heldBad book.b book.held) h (none_first (firstBadHeld book.b book.held) p.held-good) i l));
+          a_mark = marks.low;
+          few_marks = marks.high;
+          tolerance = (tolerance_inside book.version book.t tolerance).0;
+          by_version = versioned book.lines n book.version book.t p.version tolerance
+              (λ i l. good_class book.version book.b book.lines i (no_bad_line i l));
+          held_good = record {
+            few = in_n_high least_held most_held h (or_right (out₁ || out₂) out₃ o₃);
+            whole = whole held_words book.held p.held_whole;
+            each = λ i l. good_held (nat_abs book.b) book.held i (subst (λ (z : ℤ). held_bad z book.held i ≡ false) marks.is
+                (none_bad (held_bad book.b book.held) h (none_first (first_bad_held book.b book.held) p.held_good) i l));
           };
-          lines-good = record {
-            few = inN-high leastLines mostLines n (or_right (out₁ || out₂ || out₃) out₄ p.inside);
-            whole = whole lineWords book.lines p.lines-whole;
-            each = λ i l. good-line book.version (nat_abs book.b) book.lines i
-                (subst (λ (z : ℤ). lineBad book.version z book.lines i ≡ false) marks.is (no-bad-line i l));
+          lines_good = record {
+            few = in_n_high least_lines most_lines n (or_right (out₁ || out₂ || out₃) out₄ p.inside);
+            whole = whole line_words book.lines p.lines_whole;
+            each = λ i l. good_line book.version (nat_abs book.b) book.lines i
+                (subst (λ (z : ℤ). line_bad book.version z book.lines i ≡ false) marks.is (no_bad_line i l));
           };
         })
 
@@ -179,7 +179,7 @@ module _ (book : Lent) where
 pub record Numbered (r : Refusal) : Type 0 where
   pub low : 0 < r.number
   pub high : r.number ≤ 7
-  pub near : r.place ≤ mostLines
+  pub near : r.place ≤ most_lines
 
 abbrev pub NumberedIf : Tested → Type 0
 NumberedIf (Good k) = Unit {0}
@@ -192,38 +192,38 @@ numbered true number place rest h n = h refl
 numbered false number place rest h n = n refl
 
 module _ (book : Lent) where
-  few-entries : bookOut book.version book.b book.t (heldCount book.held) (lineCount book.lines) ≡ false
-      → (heldCount book.held ≤ mostHeld) × (lineCount book.lines ≤ mostLines)
-  unfolding bookOut
-  few-entries e =
-      let out₁ = outZ (pos leastMarks) (pos mostMarks) book.b in
-      let out₂ = toleranceOut book.version book.t in
-      let out₃ = outN leastHeld mostHeld (heldCount book.held) in
-      let out₄ = outN leastLines mostLines (lineCount book.lines) in
+  few_entries : book_out book.version book.b book.t (held_count book.held) (line_count book.lines) ≡ false
+      → (held_count book.held ≤ most_held) × (line_count book.lines ≤ most_lines)
+  unfolding book_out
+  few_entries e =
+      let out₁ = out_z (pos least_marks) (pos most_marks) book.b in
+      let out₂ = tolerance_out book.version book.t in
+      let out₃ = out_n least_held most_held (held_count book.held) in
+      let out₄ = out_n least_lines most_lines (line_count book.lines) in
       let o₃ = or_left (out₁ || out₂ || out₃) out₄ e in (
-        inN-high leastHeld mostHeld (heldCount book.held) (or_right (out₁ || out₂) out₃ o₃),
-        inN-high leastLines mostLines
-            (lineCount book.lines) (or_right (out₁ || out₂ || out₃) out₄ e),
+        in_n_high least_held most_held (held_count book.held) (or_right (out₁ || out₂) out₃ o₃),
+        in_n_high least_lines most_lines
+            (line_count book.lines) (or_right (out₁ || out₂ || out₃) out₄ e),
       )
 
   -- a refusal without a place
   placeless : (number : ℕ) → 0 < number → number ≤ 7 → Numbered (record { number = number; place = 0 })
   placeless number low high = record { low = low; high = high; near = omega arith }
 
-  pub tested-numbered : (r : Refusal) → test_of book ≡ Refused r → Numbered r
-  unfolding test_of firstBadHeld firstBadLine
-  tested-numbered r e =
-      let line = firstBadLine book.version book.b book.lines in
+  pub tested_numbered : (r : Refusal) → test_of book ≡ Refused r → Numbered r
+  unfolding test_of first_bad_held first_bad_line
+  tested_numbered r e =
+      let line = first_bad_line book.version book.b book.lines in
       let four = placeless 4 (omega arith) (omega arith) in
       subst NumberedIf e
-      (numbered (versionOut book.version) 3 0 _ (λ _. placeless 3 (omega arith) (omega arith)) (λ _.
-      numbered (bookOut book.version book.b book.t (heldCount book.held) (lineCount book.lines)) 4 0 _ (λ _. four) (λ inside.
-      let few = few-entries inside in
-      let h = first-most (heldBad book.b book.held) (heldCount book.held) in
-      let n = first-most (lineBad book.version book.b book.lines) (lineCount book.lines) in
-      numbered (torn heldWords book.held) 4 0 _ (λ _. four) (λ _.
-      numbered (torn lineWords book.lines) 4 0 _ (λ _. four) (λ _.
-      numbered (ltb 0 (firstBadHeld book.b book.held)) 6 (firstBadHeld book.b book.held) _
+      (numbered (version_out book.version) 3 0 _ (λ _. placeless 3 (omega arith) (omega arith)) (λ _.
+      numbered (book_out book.version book.b book.t (held_count book.held) (line_count book.lines)) 4 0 _ (λ _. four) (λ inside.
+      let few = few_entries inside in
+      let h = first_most (held_bad book.b book.held) (held_count book.held) in
+      let n = first_most (line_bad book.version book.b book.lines) (line_count book.lines) in
+      numbered (torn held_words book.held) 4 0 _ (λ _. four) (λ _.
+      numbered (torn line_words book.lines) 4 0 _ (λ _. four) (λ _.
+      numbered (ltb 0 (first_bad_held book.b book.held)) 6 (first_bad_held book.b book.held) _
       (λ _. record { low = omega arith; high = omega arith; near = omega (arith, few.0, h) }) (λ _.
       numbered (ltb 0 line) 7 line _
       (λ _. record { low = omega arith; high = omega arith; near = omega (arith, few.1, n) }) (λ _. tt)))))))
@@ -231,38 +231,38 @@ module _ (book : Lent) where
   -- ---- the test with something beside the book
 
   -- it passes exactly where that is inside and the book passes
-  pub beside-passes : (outside : Bool) (k : Book) → testBeside outside book ≡ Good k → (outside ≡ false) × (test_of book ≡ Good k)
-  unfolding testBeside
-  beside-passes outside k e =
-      let p₁ = past (versionOut book.version) 3 0 _ k e in
+  pub beside_passes : (outside : Bool) (k : Book) → test_beside outside book ≡ Good k → (outside ≡ false) × (test_of book ≡ Good k)
+  unfolding test_beside
+  beside_passes outside k e =
+      let p₁ = past (version_out book.version) 3 0 _ k e in
       past outside 4 0 _ k p₁.1
 
-  pub beside-inside : (outside : Bool) → outside ≡ false → testBeside outside book ≡ test_of book
-  unfolding testBeside test_of
-  beside-inside outside e = rw e (go (versionOut book.version) refl)
+  pub beside_inside : (outside : Bool) → outside ≡ false → test_beside outside book ≡ test_of book
+  unfolding test_beside test_of
+  beside_inside outside e = rw e (go (version_out book.version) refl)
     where
-      go : (v : Bool) → versionOut book.version ≡ v → cond v (refused 3 0) (test_of book) ≡ test_of book
+      go : (v : Bool) → version_out book.version ≡ v → cond v (refused 3 0) (test_of book) ≡ test_of book
       go true e = rw e
       go false e = refl
 
-  pub beside-numbered : (outside : Bool) (r : Refusal) → testBeside outside book ≡ Refused r → Numbered r
-  unfolding testBeside
-  beside-numbered outside r e =
+  pub beside_numbered : (outside : Bool) (r : Refusal) → test_beside outside book ≡ Refused r → Numbered r
+  unfolding test_beside
+  beside_numbered outside r e =
       subst NumberedIf e
-      (numbered (versionOut book.version) 3 0 _ (λ _. placeless 3 (omega arith) (omega arith)) (λ _.
+      (numbered (version_out book.version) 3 0 _ (λ _. placeless 3 (omega arith) (omega arith)) (λ _.
       numbered outside 4 0 _ (λ _. placeless 4 (omega arith) (omega arith)) (λ _. by (test_of book) refl)))
     where
       by : (x : Tested) → test_of book ≡ x → NumberedIf x
       by (Good k) e = tt
-      by (Refused r) e = tested-numbered r e
+      by (Refused r) e = tested_numbered r e
 
 -- a good book has good lines
-pub good-lines : (k : Book) (book : Lent) → GoodBook k book → GoodLines k book.lines
-good-lines k book g = record {
-  known-version = known-version g.by-version;
-  a-mark = g.a-mark;
-  few-marks = g.few-marks;
-  small-tolerance = small-tolerance g.by-version;
-  classes = classes g.by-version;
-  good = g.lines-good;
+pub good_lines : (k : Book) (book : Lent) → GoodBook k book → GoodLines k book.lines
+good_lines k book g = record {
+  known_version = known_version g.by_version;
+  a_mark = g.a_mark;
+  few_marks = g.few_marks;
+  small_tolerance = small_tolerance g.by_version;
+  classes = classes g.by_version;
+  good = g.lines_good;
 }

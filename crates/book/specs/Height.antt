@@ -1,23 +1,23 @@
 -- Document 01, "held height" and "any height in work".
 -- Assumes nothing.
 use Rattle.std.specs.Prelude.{Bool, cond, ℤ, pos, neg_ℤ}
-use Rattle.laws.specs.Tests.{outZ}
-use Rattle.book.specs.Limits.{mostHeldHeight, mostHeight}
+use Rattle.laws.specs.Tests.{out_z}
+use Rattle.book.specs.Limits.{most_held_height, most_height}
 use Rattle.book.specs.declared.height.MadeHeight.{MadeHeight}
 use Rattle.book.specs.declared.height.MadeHeight.TheVariants.{Good, Refused}
 
-unfoldable pub heldHeightOut : ℤ → Bool
-heldHeightOut z = outZ (neg_ℤ (pos mostHeldHeight)) (pos mostHeldHeight) z
+unfoldable pub held_height_out : ℤ → Bool
+held_height_out z = out_z (neg_ℤ (pos most_held_height)) (pos most_held_height) z
 
-unfoldable pub workHeightOut : ℤ → Bool
-workHeightOut z = outZ (neg_ℤ (pos mostHeight)) (pos mostHeight) z
+unfoldable pub work_height_out : ℤ → Bool
+work_height_out z = out_z (neg_ℤ (pos most_height)) (pos most_height) z
 
 -- the height of a held mark that a number makes: 6 is "height outside" of a held entry
-unfoldable pub heldHeightOf : ℤ → MadeHeight
-unfolding heldHeightOut
-heldHeightOf z = cond (heldHeightOut z) (Refused 6) (Good (record { micrometres = z }))
+unfoldable pub held_height_of : ℤ → MadeHeight
+unfolding held_height_out
+held_height_of z = cond (held_height_out z) (Refused 6) (Good (record { micrometres = z }))
 
 -- the height in work that a number makes: 13 is "a height in work, or lent, outside its limit"
-unfoldable pub workHeightOf : ℤ → MadeHeight
-unfolding workHeightOut
-workHeightOf z = cond (workHeightOut z) (Refused 13) (Good (record { micrometres = z }))
+unfoldable pub work_height_of : ℤ → MadeHeight
+unfolding work_height_out
+work_height_of z = cond (work_height_out z) (Refused 13) (Good (record { micrometres = z }))

@@ -15,5 +15,5 @@ abbrev pub lent : ℤ → ℤ → ℤ → List ℤ → List ℤ → Lent
 lent version b t held lines = record { version = version; b = b; t = t; held = held; lines = lines }
 
 -- the book with other lines, "and nothing else in the book changes"
-abbrev pub withLines : Lent → List ℤ → Lent
-withLines book new = record { version = book.version; b = book.b; t = book.t; held = book.held; lines = new }
+abbrev pub with_lines : Lent → List ℤ → Lent
+with_lines book new = record { version = book.version; b = book.b; t = book.t; held = book.held; lines = new }

@@ -3,62 +3,62 @@
 -- Assumes nothing.
 use Rattle.std.specs.Prelude.{ℕ}
 
-abbrev pub leastVersion : ℕ
-leastVersion = 1
+abbrev pub least_version : ℕ
+least_version = 1
 
-abbrev pub mostVersion : ℕ
-mostVersion = 2
+abbrev pub most_version : ℕ
+most_version = 2
 
-abbrev pub leastMarks : ℕ
-leastMarks = 1
+abbrev pub least_marks : ℕ
+least_marks = 1
 
-abbrev pub mostMarks : ℕ
-mostMarks = 256
+abbrev pub most_marks : ℕ
+most_marks = 256
 
-abbrev pub leastLines : ℕ
-leastLines = 0
+abbrev pub least_lines : ℕ
+least_lines = 0
 
-abbrev pub mostLines : ℕ
-mostLines = 512
+abbrev pub most_lines : ℕ
+most_lines = 512
 
-abbrev pub leastHeld : ℕ
-leastHeld = 0
+abbrev pub least_held : ℕ
+least_held = 0
 
-abbrev pub mostHeld : ℕ
-mostHeld = 256
+abbrev pub most_held : ℕ
+most_held = 256
 
 -- tenths of mm per root km
-abbrev pub leastTolerance : ℕ
-leastTolerance = 1
+abbrev pub least_tolerance : ℕ
+least_tolerance = 1
 
-abbrev pub mostTolerance : ℕ
-mostTolerance = 1000
+abbrev pub most_tolerance : ℕ
+most_tolerance = 1000
 
 -- micrometres, either way
-abbrev pub mostDifference : ℕ
-mostDifference = 100000000
+abbrev pub most_difference : ℕ
+most_difference = 100000000
 
 -- metres
-abbrev pub leastLength : ℕ
-leastLength = 10
+abbrev pub least_length : ℕ
+least_length = 10
 
-abbrev pub mostLength : ℕ
-mostLength = 100000
+abbrev pub most_length : ℕ
+most_length = 100000
 
 -- "The classes are 0 to 4"
-abbrev pub leastClass : ℕ
-leastClass = 0
+abbrev pub least_class : ℕ
+least_class = 0
 
-abbrev pub mostClass : ℕ
-mostClass = 4
+abbrev pub most_class : ℕ
+most_class = 4
 
 -- metres: the allowable misclosure "takes a section shorter than 0.25 km as 0.25 km"
-abbrev pub leastJudged : ℕ
-leastJudged = 250
+abbrev pub least_judged : ℕ
+least_judged = 250
 
 -- micrometres, either way
-abbrev pub mostHeldHeight : ℕ
-mostHeldHeight = 10000000000
+abbrev pub most_held_height : ℕ
+most_held_height = 10000000000
 
-abbrev pub mostHeight : ℕ
-mostHeight = 50000000000
+abbrev pub most_height : ℕ
+most_height = 50000000000

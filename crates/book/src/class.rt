@@ -1,7 +1,7 @@
 // A line's class: whether it is one of its book's version, and the tolerance that it gives. Request 04.
 ghost use Rattle.std.specs.Prelude.{◌≡◌, ◌≤◌};
-ghost use Rattle.book.specs.Limits.{mostTolerance};
-ghost use Rattle.book.specs.Version.{classOut, toleranceOf, Classed};
+ghost use Rattle.book.specs.Limits.{most_tolerance};
+ghost use Rattle.book.specs.Version.{class_out, tolerance_of, Classed};
 
 use crate::Book;
 use crate::line::Line;
@@ -11,7 +11,7 @@ const TOLERANCES: [usize; 5] = [40, 50, 60, 80, 120];
 
 // Whether this is no class of a line in a book of this version.
 pub(crate) fn outside(version: i64, class: i64) -> bool
-    ensures { result ≡ classOut version class }
+    ensures { result ≡ class_out version class }
 {
     if Book::has_classes(version) {
         return signed::outside(class, Line::MIN_CLASS, Line::MAX_CLASS);
@@ -22,8 +22,8 @@ pub(crate) fn outside(version: i64, class: i64) -> bool
 // The tolerance of a line of this class: the table's, or the book's single t where the line has none.
 pub fn tolerance(class: i64, t: usize) -> usize
     requires fact_1 { Classed class }
-    requires fact_2 { t ≤ mostTolerance }
-    ensures { (result ≡ toleranceOf t class) × (result ≤ mostTolerance) }
+    requires fact_2 { t ≤ most_tolerance }
+    ensures { (result ≡ tolerance_of t class) × (result ≤ most_tolerance) }
 {
     if signed::same(class, Line::NO_CLASS) {
         return t;

@@ -1,6 +1,6 @@
 // A height in micrometres, and its two limits: of a held mark, and of any mark in work.
 ghost use Rattle.std.specs.Prelude.{◌≡◌};
-ghost use Rattle.book.specs.Height.{heldHeightOf, workHeightOf};
+ghost use Rattle.book.specs.Height.{held_height_of, work_height_of};
 
 #[derive(Drop)]
 pub struct Height {
@@ -25,7 +25,7 @@ impl Height {
 
     // The height x of a held mark, or refusal 6.
     pub fn held(x: i64) -> MadeHeight
-        ensures { result ≡ heldHeightOf x }
+        ensures { result ≡ held_height_of x }
     {
         if signed::outside(x, Height::MIN_HELD, Height::MAX_HELD) {
             return MadeHeight::Refused(6);
@@ -35,7 +35,7 @@ impl Height {
 
     // The height x of a mark in work, or refusal 13.
     pub fn in_work(x: i64) -> MadeHeight
-        ensures { result ≡ workHeightOf x }
+        ensures { result ≡ work_height_of x }
     {
         if signed::outside(x, Height::MIN_IN_WORK, Height::MAX_IN_WORK) {
             return MadeHeight::Refused(13);

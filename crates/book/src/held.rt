@@ -1,6 +1,6 @@
 // Held entries: two numbers each in a lent slice, and the first that is none.
 ghost use Rattle.std.specs.Prelude.{◌≡◌};
-ghost use Rattle.book.specs.Held.{heldEntryOf, firstBadHeld};
+ghost use Rattle.book.specs.Held.{held_entry_of, first_bad_held};
 
 use crate::height::{Height, MadeHeight};
 
@@ -27,7 +27,7 @@ impl Held {
 
     // The held entry of a book of b marks that two numbers make, or refusal 6.
     pub fn new(b: i64, mark: i64, height: i64) -> MadeHeld
-        ensures { result ≡ heldEntryOf b mark height }
+        ensures { result ≡ held_entry_of b mark height }
     {
         if signed::outside(mark, 1, b) {
             return MadeHeld::Refused(6);
@@ -42,7 +42,7 @@ impl Held {
 // The number of the first bad held entry, or 0. Document 01: "The scan for 6 compares each entry with those before it and stops at the
 // first repeat."
 pub(crate) fn first_bad_held(held: &[i64], b: i64) -> usize
-    ensures { result ≡ firstBadHeld b held.now }
+    ensures { result ≡ first_bad_held b held.now }
 {
     let n = held.len() / Held::WORDS;
     let mut i = 0;

@@ -2,8 +2,8 @@
 // Document 01, "The book" and "Refusal numbers" 3, 4, 6 and 7.
 ghost use Rattle.std.specs.Prelude.{◌≡◌, ◌/◌};
 ghost use Rattle.book.specs.Lent.{lent};
-ghost use Rattle.book.specs.Test.{bookOf, noRefusal, refusal, refused, test_of, testBeside};
-ghost use Rattle.book.specs.Version.{versionOut, hasClasses, toleranceOut};
+ghost use Rattle.book.specs.Test.{book_of, no_refusal, refusal, refused, test_of, test_beside};
+ghost use Rattle.book.specs.Version.{version_out, has_classes, tolerance_out};
 
 pub mod class;
 pub mod height;
@@ -68,21 +68,21 @@ impl Book {
 
     // Whether there are no such books.
     fn outside_version(version: i64) -> bool
-        ensures { result ≡ versionOut version }
+        ensures { result ≡ version_out version }
     {
         signed::outside(version, Book::MIN_VERSION, Book::MAX_VERSION)
     }
 
     // Whether the lines of a book of this version have classes.
     pub fn has_classes(version: i64) -> bool
-        ensures { result ≡ hasClasses version }
+        ensures { result ≡ has_classes version }
     {
         signed::same(version, Book::WITH_CLASSES)
     }
 
     // Whether t is no tolerance of a book of this version: where lines have classes it is 0.
     fn outside_tolerance(version: i64, t: i64) -> bool
-        ensures { result ≡ toleranceOut version t }
+        ensures { result ≡ tolerance_out version t }
     {
         if Book::has_classes(version) {
             return !signed::same(t, 0);
@@ -92,7 +92,7 @@ impl Book {
 
     // The book of this version and of the counts b, t, h and n, or refusal 3 or 4.
     pub fn new(version: i64, b: i64, t: i64, h: usize, n: usize) -> Tested
-        ensures { result ≡ bookOf version b t h n }
+        ensures { result ≡ book_of version b t h n }
     {
         if Book::outside_version(version) {
             return refuse(3, 0);
@@ -123,7 +123,7 @@ impl Refusal {
 
     // Done.
     pub fn none() -> Refusal
-        ensures { result ≡ noRefusal }
+        ensures { result ≡ no_refusal }
     {
         Refusal::new(0, 0)
     }
@@ -175,7 +175,7 @@ pub fn test_beside(
     held: &[i64],
     lines: &[i64],
 ) -> Tested
-    ensures { result ≡ testBeside outside (lent version b t held.now lines.now) }
+    ensures { result ≡ test_beside outside (lent version b t held.now lines.now) }
 {
     if Book::outside_version(version) {
         return refuse(3, 0);

@@ -1,6 +1,6 @@
 // Lines: six numbers each in a lent slice, their limits, and the first that is none.
 ghost use Rattle.std.specs.Prelude.{◌≡◌, cond, length};
-ghost use Rattle.book.specs.Line.{lineWords, differenceOut, lineFault, line_of, entry_of, faultAt, firstBadLine};
+ghost use Rattle.book.specs.Line.{line_words, difference_out, line_fault, line_of, entry_of, fault_at, first_bad_line};
 
 use crate::class;
 
@@ -73,9 +73,9 @@ impl Line {
 
     pub const CLASS_FAULT: usize = 6;
 
-    // Whether d is no difference: of a line, or of a re-run.
+    // Whether d is no difference: of a line, or of a re_run.
     pub fn outside_difference(d: i64) -> bool
-        ensures { result ≡ differenceOut d }
+        ensures { result ≡ difference_out d }
     {
         signed::outside(d, Line::MIN_DIFFERENCE, Line::MAX_DIFFERENCE)
     }
@@ -83,7 +83,7 @@ impl Line {
     // The first fault of five numbers as a line of a book of b marks, or 0. `|` and a choice of numbers, no branch: one fact is left to
     // show.
     fn fault(b: i64, from: i64, to: i64, difference: i64, length: i64, standing: i64) -> usize
-        ensures { result ≡ lineFault b from to difference length standing }
+        ensures { result ≡ line_fault b from to difference length standing }
     {
         let standing_fault = first(signed::outside(standing, 0, 1), Line::STANDING_FAULT, 0);
         let outside_length = signed::outside(length, Line::MIN_LENGTH, Line::MAX_LENGTH);
@@ -119,7 +119,7 @@ impl Line {
 
 // The line that an entry of a lent slice makes.
 pub fn line_of(e: &[i64], b: i64) -> MadeLine
-    requires { length e.now ≡ lineWords }
+    requires { length e.now ≡ line_words }
     ensures { result ≡ entry_of b e.now }
 {
     Line::new(
@@ -134,8 +134,8 @@ pub fn line_of(e: &[i64], b: i64) -> MadeLine
 
 // The first thing that is wrong with the line of an entry in a book of this version and of b marks, 1 to 6, or 0.
 fn fault_of(e: &[i64], version: i64, b: i64) -> usize
-    requires { length e.now ≡ lineWords }
-    ensures { result ≡ faultAt version b e.now 0 }
+    requires { length e.now ≡ line_words }
+    ensures { result ≡ fault_at version b e.now 0 }
 {
     match line_of(e, b) {
         MadeLine::Refused(_, fault) => fault,
@@ -149,7 +149,7 @@ fn fault_of(e: &[i64], version: i64, b: i64) -> usize
 
 // The number of the first line that is none, or 0.
 pub(crate) fn first_bad_line(lines: &[i64], version: i64, b: i64) -> usize
-    ensures { result ≡ firstBadLine version b lines.now }
+    ensures { result ≡ first_bad_line version b lines.now }
 {
     let n = lines.len() / Line::WORDS;
     let mut i = 0;

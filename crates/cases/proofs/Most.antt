@@ -22,10 +22,10 @@ module _ {A : Type 0} (n k : ℕ) (s : List A) (e : n ≡ min k (length s)) wher
           let same : n ≡ k = omega arith in
           rw same more
 
-  pub take-most : take n s ≡ take k s
-  take-most = by_length (λ x. take x s ≡ take k s) refl (λ few. take_all n s (omega arith) ∙ sym (take_all k s few))
+  pub take_most : take n s ≡ take k s
+  take_most = by_length (λ x. take x s ≡ take k s) refl (λ few. take_all n s (omega arith) ∙ sym (take_all k s few))
 
-  pub drop-most : drop n s ≡ drop k s
-  drop-most =
+  pub drop_most : drop n s ≡ drop k s
+  drop_most =
       by_length (λ x. drop x s ≡ drop k s) refl
       (λ few. let all : length s ≤ n = omega arith in drop_of_length-le s all ∙ sym (drop_of_length-le s few))

@@ -1,6 +1,6 @@
 // A case on standard input: 48 bytes of name, some numbers of two bytes each, the last of them the length of its file, and the file.
 ghost use Rattle.std.specs.Prelude.{◌≡◌, ◌≤◌, ◌+◌, length};
-ghost use Rattle.cases.specs.Case.{twoAt, afterCase, name_of, number_of, fileOf};
+ghost use Rattle.cases.specs.Case.{two_at, after_case, name_of, number_of, file_of};
 
 use crate::at_most;
 
@@ -15,7 +15,7 @@ fn wide(x: u8) -> usize
 // The number in two bytes, the high one first.
 pub fn two(s: &[u8], at: usize) -> usize
     requires { at + 2 ≤ length s.now }
-    ensures { (result ≡ twoAt s.now at) × (result ≤ 65535) }
+    ensures { (result ≡ two_at s.now at) × (result ≤ 65535) }
 {
     wide(s[at]) * 256 + wide(s[at + 1])
 }
@@ -24,7 +24,7 @@ pub fn two(s: &[u8], at: usize) -> usize
 pub fn after(input: &[u8], at: usize, numbers: usize) -> usize
     requires fact_1 { at ≤ length input.now }
     requires fact_2 { numbers ≤ 3 }
-    ensures { (result ≡ afterCase input.now at numbers) × (result ≤ length input.now) }
+    ensures { (result ≡ after_case input.now at numbers) × (result ≤ length input.now) }
 {
     let head = NAME_BYTES + 2 * numbers;
     if input.len() - at < head {
@@ -60,7 +60,7 @@ pub fn number(case: &[u8], k: usize) -> usize
 // The file of a case that has so many numbers.
 pub fn file(case: &[u8], numbers: usize) -> &[u8]
     requires { numbers ≤ 3 }
-    ensures { result.now ≡ fileOf case.now numbers }
+    ensures { result.now ≡ file_of case.now numbers }
 {
     let head = at_most(NAME_BYTES + 2 * numbers, case.len());
     &case[head..]

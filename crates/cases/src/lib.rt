@@ -3,8 +3,8 @@
 // many bytes those are.
 ghost use Rattle.std.specs.Prelude.{◌≡◌, ◌≤◌, ◌<◌, ◌+◌, min, length, replicate, [], ◌∷◌};
 ghost use Rattle.text.specs.Put.{Put};
-ghost use Rattle.text.specs.Report.{listedText};
-ghost use Rattle.cases.specs.Cases.{untouched, spoiltLast, side_of, mixedWith, digestOf, spaced, numbersText, shownBytes};
+ghost use Rattle.text.specs.Report.{listed_text};
+ghost use Rattle.cases.specs.Cases.{untouched, spoilt_last, side_of, mixed_with, digest_of, spaced, numbers_text, shown_bytes};
 
 pub mod case;
 
@@ -43,7 +43,7 @@ pub fn clear(s: &mut [i64])
 // Number k of the last entry, of so many numbers, becomes x; without an entry nothing does.
 pub fn spoil_last(entries: &mut [i64], words: usize, k: usize, x: i64)
     requires { k < words }
-    ensures { entries.new ≡ spoiltLast entries.old words k x }
+    ensures { entries.new ≡ spoilt_last entries.old words k x }
 {
     if words <= entries.len() {
         let at = entries.len() - words;
@@ -53,7 +53,7 @@ pub fn spoil_last(entries: &mut [i64], words: usize, k: usize, x: i64)
 
 // One number for a whole buffer.
 pub fn digest(s: &[i64]) -> usize
-    ensures { result ≡ digestOf s.now }
+    ensures { result ≡ digest_of s.now }
 {
     let mut sum = 0usize;
     let mut i = 0;
@@ -71,7 +71,7 @@ fn side(x: i64) -> usize
 }
 
 fn mixed(sum: usize, x: i64) -> usize
-    ensures { result ≡ mixedWith sum x }
+    ensures { result ≡ mixed_with sum x }
 {
     (sum % 1_000_003 * 257 + signed::magnitude(x) % 1_000_003 + side(x)) % 1_000_003
 }
@@ -86,7 +86,7 @@ fn put_spaced(out: &mut [u8], n: usize) -> usize
 
 // The first numbers of a buffer, and its digest.
 fn put_numbers(out: &mut [u8], s: &[i64]) -> usize
-    ensures { Put out.old out.new 0 result (numbersText s.now) }
+    ensures { Put out.old out.new 0 result (numbers_text s.now) }
 {
     let most = at_most(SHOWN, s.len());
     let at = text::put_listed(out, 0, &s[..most]);
@@ -106,7 +106,7 @@ pub fn put(n: usize) -> usize
 
 // Prints a number with its sign after a space. The answer is how many bytes that are.
 pub fn put_signed(x: i64) -> usize
-    ensures { result ≡ length (listedText (x ∷ [])) }
+    ensures { result ≡ length (listed_text (x ∷ [])) }
 {
     let mut out = [0u8; NUMBER_BYTES];
     let end = text::put_line(&mut out[..], 0, x);
@@ -116,7 +116,7 @@ pub fn put_signed(x: i64) -> usize
 
 // Prints the first numbers of a buffer, and its digest, as much of it as there is room for. The answer is how many bytes that are.
 pub fn show_numbers(s: &[i64]) -> usize
-    ensures { result ≡ min (length (numbersText s.now)) shownBytes }
+    ensures { result ≡ min (length (numbers_text s.now)) shown_bytes }
 {
     let mut out = [0u8; SHOWN_BYTES];
     let end = put_numbers(&mut out[..], s);

@@ -9,7 +9,7 @@ use lib.ListN.{length}
 
 -- no number stands twice
 pub data Differ : List ℕ → Type 0 where
-  no-two : Differ []
+  no_two : Differ []
   differs : {x : ℕ} {xs : List ℕ} → ((y : ℕ) → Memᴰ y xs → x ≡ y → ⊥) → Differ xs → Differ (x ∷ xs)
 
 -- the list without x: what is left, and how much that is
@@ -21,7 +21,7 @@ record Left (x : ℕ) (xs : List ℕ) : Type 0 where
   size : length xs ≤ suc (length ys)
 
 without : (x : ℕ) (xs : List ℕ) → Differ xs → Left x xs
-without x [] d = record { ys = []; differ = no-two; of = λ y m. m; out = λ y m e. Memᴰ.not-nil m; size = omega arith }
+without x [] d = record { ys = []; differ = no_two; of = λ y m. m; out = λ y m e. Memᴰ.not-nil m; size = omega arith }
 without x (z ∷ xs) (differs f d) = go (ℕ_discrete z x) (without x xs d)
   where
     go : Dec (z ≡ x) → Left x xs → Left x (z ∷ xs)

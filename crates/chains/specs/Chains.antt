@@ -1,14 +1,14 @@
 -- Half lines and chains of halves: what a chain is and what the chains hold. Assumes nothing.
 use Rattle.std.specs.Prelude.{ℕ, ◌+◌, ◌*◌, ◌-◌, ◌/◌, ◌%◌, ◌≤◌, ◌<◌, ◌≡◌, Bool, true, false, eqb, length, get_or}
 use mathlib.Core.List.{List, [], ◌∷◌, Memᴰ}
-use Rattle.book.specs.Limits.{leastLength, mostLength}
+use Rattle.book.specs.Limits.{least_length, most_length}
 use Rattle.network.specs.Standing.{Line}
 use Rattle.network.specs.Sound.{Rising}
 
 -- ---- limits: no line number and no half number reaches past these
 
-abbrev pub numberLimit : ℕ
-numberLimit = 1024
+abbrev pub number_limit : ℕ
+number_limit = 1024
 
 -- two halves to a line
 abbrev pub halves : ℕ
@@ -29,22 +29,22 @@ flip h = h / 2 * 4 + 1 - h
 abbrev pub mark_of : List ℕ → ℕ → ℕ
 mark_of ends h = get_or ends h 0 % halves
 
-abbrev pub metresOf : List ℕ → ℕ → ℕ
-metresOf ends h = get_or ends h 0 / halves
+abbrev pub metres_of : List ℕ → ℕ → ℕ
+metres_of ends h = get_or ends h 0 / halves
 
 -- length and half in one number, so that one test compares the lengths and then the line numbers
 abbrev pub sum_of : List ℕ → ℕ → ℕ
 sum_of ends h = get_or ends h 0 - get_or ends h 0 % halves + h
 
 -- the line by which mark m came into the tree: its key ends with that half; 0 for a root
-abbrev pub lineIn : List ℕ → ℕ → ℕ
-lineIn best m = get_or best m 0 % halves / 2
+abbrev pub line_in : List ℕ → ℕ → ℕ
+line_in best m = get_or best m 0 % halves / 2
 
 -- each half leads to a mark below n, and is no longer than a line may be
 pub record Bounded (n : ℕ) (ends : List ℕ) : Type 0 where
   pub ends_at : halves ≤ length ends
-  pub mark-ok : (h : ℕ) → h < halves → mark_of ends h < n
-  pub short : (h : ℕ) → h < halves → metresOf ends h ≤ mostLength
+  pub mark_ok : (h : ℕ) → h < halves → mark_of ends h < n
+  pub short : (h : ℕ) → h < halves → metres_of ends h ≤ most_length
 
 -- what ends says of the lines
 abbrev pub Told : List Line → List ℕ → Type 0
@@ -59,7 +59,7 @@ pub data On (next : List ℕ) : ℕ → ℕ → Type 0 where
 
 -- the chain whose first half is i is the halves hs, one after the other, and ends
 pub data Chain (next : List ℕ) : ℕ → List ℕ → Type 0 where
-  no-half : {i : ℕ} → i ≡ 0 → Chain next i []
+  no_half : {i : ℕ} → i ≡ 0 → Chain next i []
   first : {i : ℕ} {hs : List ℕ} → 0 < i → i < halves → Chain next (get_or next i 0) hs → Chain next i (i ∷ hs)
 
 -- there is such a chain, and next has a place for each half
@@ -91,13 +91,13 @@ pub record Drawn (sub : List Line) (n : ℕ) (head next : List ℕ) : Type 0 whe
   pub chains : Chains sub n head next
 
 -- the halves of the lines sub that leave the mark m, line by line
-abbrev pub leftBy : Bool → ℕ → List ℕ → List ℕ
-leftBy true h hs = h ∷ hs
-leftBy false h hs = hs
+abbrev pub left_by : Bool → ℕ → List ℕ → List ℕ
+left_by true h hs = h ∷ hs
+left_by false h hs = hs
 
 unfoldable pub leaving : List Line → ℕ → List ℕ
 leaving [] m = []
-leaving (l ∷ sub) m = leftBy (eqb l.to m) (2 * l.number + 1) (leftBy (eqb l.from m) (2 * l.number) (leaving sub m))
+leaving (l ∷ sub) m = left_by (eqb l.to m) (2 * l.number + 1) (left_by (eqb l.from m) (2 * l.number) (leaving sub m))
 
 -- the chain of each mark below n has them in this order
 pub record InOrder (sub : List Line) (n : ℕ) (head next : List ℕ) : Type 0 where
@@ -108,14 +108,14 @@ pub record InOrder (sub : List Line) (n : ℕ) (head next : List ℕ) : Type 0 w
 -- lines as a book has them, on marks below n
 pub record Sound (n : ℕ) (l : Line) : Type 0 where
   pub from_low : 0 < l.from
-  pub from-high : l.from < n
+  pub from_high : l.from < n
   pub to_low : 0 < l.to
   pub to_high : l.to < n
   pub apart : l.from ≡ l.to → ⊥
-  pub long : leastLength ≤ l.length
-  pub short : l.length ≤ mostLength
+  pub long : least_length ≤ l.length
+  pub short : l.length ≤ most_length
   pub numbered : 0 < l.number
-  pub number : l.number < numberLimit
+  pub number : l.number < number_limit
 
 abbrev pub AllSound : ℕ → List Line → Type 0
 AllSound n sub = (l : Line) → Memᴰ l sub → Sound n l

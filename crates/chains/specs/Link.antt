@@ -2,7 +2,7 @@
 use Rattle.std.specs.Prelude.{ℕ, ◌+◌, ◌*◌, ◌≤◌, ◌<◌, ◌≡◌, ◌⊎◌, length, get_or, set}
 use mathlib.Core.List.{List, Memᴰ}
 use Rattle.network.specs.Standing.{Line}
-use Rattle.chains.specs.Chains.{mark_of, halves, numberLimit}
+use Rattle.chains.specs.Chains.{mark_of, halves, number_limit}
 
 -- room for the chains of the marks below n
 pub record RoomChains (n : ℕ) (head next : List ℕ) : Type 0 where
@@ -16,10 +16,10 @@ pub record Linked (head next head' next' : List ℕ) (m h : ℕ) : Type 0 where
 
 -- by ends, the halves of the line of this number lead to marks below n
 pub record Fits (n : ℕ) (ends : List ℕ) (number : ℕ) : Type 0 where
-  pub number_ok : number < numberLimit
+  pub number_ok : number < number_limit
   pub ends_at : halves ≤ length ends
-  pub from-ok : mark_of ends (number * 2 + 1) < n
-  pub to-ok : mark_of ends (number * 2) < n
+  pub from_ok : mark_of ends (number * 2 + 1) < n
+  pub to_ok : mark_of ends (number * 2) < n
 
 -- both of its halves have joined, each the chain of the mark that it leaves
 pub record Joined (ends head next head' next' : List ℕ) (number : ℕ) : Type 0 where

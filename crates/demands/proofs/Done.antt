@@ -13,157 +13,157 @@ use lib.IntN.{ℤ, pos, nat_abs}
 use borrow.Author.Tests.{not-false, eqb-true, eq-eqb, ltb-false, le-ltb}
 use Rattle.laws.proofs.Tests.{or_left, or_right}
 use Rattle.laws.specs.Range.{Between}
-use Rattle.laws.proofs.Size.{between, size-within}
-use Rattle.laws.proofs.Inside.{between-inside, size-inside}
+use Rattle.laws.proofs.Size.{between, size_within}
+use Rattle.laws.proofs.Inside.{between_inside, size_inside}
 use Rattle.book.specs.Lent.{Lent, lent}
-use Rattle.book.specs.Limits.{leastVersion, mostVersion, mostDifference}
-use Rattle.book.specs.Version.{versionOut}
-use Rattle.book.specs.Held.{heldWords, heldCount}
-use Rattle.book.specs.Line.{lineWords, lineCount, differenceOut}
-use Rattle.book.specs.Test.{torn, bookOut, counts, countsOf, test_of}
+use Rattle.book.specs.Limits.{least_version, most_version, most_difference}
+use Rattle.book.specs.Version.{version_out}
+use Rattle.book.specs.Held.{held_words, held_count}
+use Rattle.book.specs.Line.{line_words, line_count, difference_out}
+use Rattle.book.specs.Test.{torn, book_out, counts, counts_of, test_of}
 use Rattle.book.specs.Good.{GoodBook}
 use Rattle.book.specs.declared.Book.{Book}
 use Rattle.book.specs.declared.Tested.TheVariants.{Good}
-use Rattle.book.proofs.Goods.{tested-good}
-use Rattle.book.proofs.Passing.{good-passes}
-use Rattle.file.specs.Read.{statedLength, statedVersion, statedT, statedB, statedH, statedN, statedCounts, fileLength, held_of, lines_of}
-use Rattle.file.specs.Read.{bookIn, read_of}
-use Rattle.file.proofs.Reading.{held-entries, line-entries}
+use Rattle.book.proofs.Goods.{tested_good}
+use Rattle.book.proofs.Passing.{good_passes}
+use Rattle.file.specs.Read.{stated_length, stated_version, stated_t, stated_b, stated_h, stated_n, stated_counts, file_length, held_of, lines_of}
+use Rattle.file.specs.Read.{book_in, read_of}
+use Rattle.file.proofs.Reading.{held_entries, line_entries}
 use Rattle.loops.specs.Row.{listings}
 use Rattle.loops.specs.Report.{loops_of}
-use Rattle.survey.specs.Survey.{surveyOf}
-use Rattle.lists.specs.Listing.{listingOf, listingsOf}
-use Rattle.lists.specs.NotChecked.{uncheckedOf, notCheckedOf}
-use Rattle.survey.specs.Correction.{rerunOf, withdrawOf}
-use Rattle.demands.specs.Tables.{bookFault, surveyRules, loopListing, listingRules, listingsRules, notCheckedRules, correctionRules}
-use Rattle.demands.specs.Tables.{rerunRules, withdrawRules, fileRules}
+use Rattle.survey.specs.Survey.{survey_of}
+use Rattle.lists.specs.Listing.{listing_of, listings_of}
+use Rattle.lists.specs.NotChecked.{unchecked_of, not_checked_of}
+use Rattle.survey.specs.Correction.{rerun_of, withdraw_of}
+use Rattle.demands.specs.Tables.{book_fault, survey_rules, loop_listing, listing_rules, listings_rules, not_checked_rules, correction_rules}
+use Rattle.demands.specs.Tables.{rerun_rules, withdraw_rules, file_rules}
 use Rattle.demands.specs.Calls.{afresh, Readable}
 use Rattle.demands.specs.Corrections.{Acceptable}
-use Rattle.demands.proofs.Meanings.{line-exactly-if-stands, report-exactly-if-rows}
-use Rattle.demands.proofs.Refusals.{no-other-fault, survey-keeps-to-table, listing-keeps-to-table, listings-keeps-to-table}
-use Rattle.demands.proofs.Refusals.{not-checked-keeps-to-table, reader-keeps-to-table, rerun-keeps-to-table}
-use Rattle.demands.proofs.Refusals.{withdrawal-keeps-to-table}
-use Rattle.demands.proofs.BookRules.{None, none_in, none-and, first-of, rest_of, passes-if, passes-only-if}
-use Rattle.demands.proofs.BookRules.{own-rules, none_beside, beside_none}
+use Rattle.demands.proofs.Meanings.{line_exactly_if_stands, report_exactly_if_rows}
+use Rattle.demands.proofs.Refusals.{no_other_fault, survey_keeps_to_table, listing_keeps_to_table, listings_keeps_to_table}
+use Rattle.demands.proofs.Refusals.{not_checked_keeps_to_table, reader_keeps_to_table, rerun_keeps_to_table}
+use Rattle.demands.proofs.Refusals.{withdrawal_keeps_to_table}
+use Rattle.demands.proofs.BookRules.{None, none_in, none_and, first_of_lem, rest_of, passes_if, passes_only_if}
+use Rattle.demands.proofs.BookRules.{own_rules, none_beside, beside_none}
 
 module _ (book : Lent) where
   -- a survey is done exactly if the book passes the test and its report has room
-  pub survey-done-exactly-if : (out : List ℤ)
-      → ((surveyOf book out).answer.refusal.number ≡ 0) ↔ ((k : Book) × (test_of book ≡ Good k) × (length (afresh book) ≤ length out))
-  unfolding surveyRules
-  survey-done-exactly-if out =
-      let w = (survey-keeps-to-table book out).table.done-exactly-if in (
+  pub survey_done_exactly_if : (out : List ℤ)
+      → ((survey_of book out).answer.refusal.number ≡ 0) ↔ ((k : Book) × (test_of book ≡ Good k) × (length (afresh book) ≤ length out))
+  unfolding survey_rules
+  survey_done_exactly_if out =
+      let w = (survey_keeps_to_table book out).table.done_exactly_if in (
         λ z. let h = w.0 z in (
           _,
-          passes-if book h,
+          passes_if book h,
           ltb-false (length out) (length (afresh book))
-              (first-of (own-rules h)),
+              (first_of_lem (own_rules h)),
         ),
-        λ p. w.1 (passes-only-if book p.0 p.1 (none-and (le-ltb (length out) (length (afresh book)) p.2) none_in)),
+        λ p. w.1 (passes_only_if book p.0 p.1 (none_and (le-ltb (length out) (length (afresh book)) p.2) none_in)),
       )
 
   -- a listing is done exactly if the book passes the test, the loop's number is one of the book's, and the listing has room
-  pub listing-done-exactly-if : (loop : ℤ) (out : List ℤ) → ((listingOf book loop out).answer.refusal.number ≡ 0)
+  pub listing_done_exactly_if : (loop : ℤ) (out : List ℤ) → ((listing_of book loop out).answer.refusal.number ≡ 0)
       ↔ ((k : Book) × (test_of book ≡ Good k) × Between 1 (length (loops_of (nat_abs book.b) book.lines)) loop
-      × (length (loopListing book loop) ≤ length out))
-  unfolding listingRules
-  listing-done-exactly-if loop out =
-      let w = (listing-keeps-to-table book loop out).table.done-exactly-if in (
+      × (length (loop_listing book loop) ≤ length out))
+  unfolding listing_rules
+  listing_done_exactly_if loop out =
+      let w = (listing_keeps_to_table book loop out).table.done_exactly_if in (
         λ z.
             let h = w.0 z in
-            let own = own-rules h in (
+            let own = own_rules h in (
               _,
-              passes-if book h,
-              between 1 (length (loops_of (nat_abs book.b) book.lines)) loop (first-of own),
+              passes_if book h,
+              between 1 (length (loops_of (nat_abs book.b) book.lines)) loop (first_of_lem own),
               ltb-false
-                  (length out) (length (loopListing book loop)) (first-of (rest_of own)),
+                  (length out) (length (loop_listing book loop)) (first_of_lem (rest_of own)),
             ),
-        λ p. w.1 (passes-only-if book p.0 p.1 (none-and (between-inside p.2)
-            (none-and (le-ltb (length out) (length (loopListing book loop)) p.3) none_in))),
+        λ p. w.1 (passes_only_if book p.0 p.1 (none_and (between_inside p.2)
+            (none_and (le-ltb (length out) (length (loop_listing book loop)) p.3) none_in))),
       )
 
   -- the lines of all loops are listed exactly if the book passes the test and they have room
-  pub listings-done-exactly-if : (out : List ℤ) → ((listingsOf book out).answer.refusal.number ≡ 0)
+  pub listings_done_exactly_if : (out : List ℤ) → ((listings_of book out).answer.refusal.number ≡ 0)
       ↔ ((k : Book) × (test_of book ≡ Good k) × (length (listings (loops_of (nat_abs book.b) book.lines)) ≤ length out))
-  unfolding listingsRules
-  listings-done-exactly-if out =
-      let w = (listings-keeps-to-table book out).table.done-exactly-if in
+  unfolding listings_rules
+  listings_done_exactly_if out =
+      let w = (listings_keeps_to_table book out).table.done_exactly_if in
       let all = length (listings (loops_of (nat_abs book.b) book.lines)) in (
-        λ z. let h = w.0 z in (_, passes-if book h, ltb-false (length out) all (first-of (own-rules h))),
-        λ p. w.1 (passes-only-if book p.0 p.1 (none-and (le-ltb (length out) all p.2) none_in)),
+        λ z. let h = w.0 z in (_, passes_if book h, ltb-false (length out) all (first_of_lem (own_rules h))),
+        λ p. w.1 (passes_only_if book p.0 p.1 (none_and (le-ltb (length out) all p.2) none_in)),
       )
 
   -- a not-checked list is done exactly if the book passes the test and the list has room
-  pub not-checked-done-exactly-if : (out : List ℤ)
-      → ((notCheckedOf book out).answer.refusal.number ≡ 0)
-      ↔ ((k : Book) × (test_of book ≡ Good k) × (length (uncheckedOf (nat_abs book.b) book.lines) ≤ length out))
-  unfolding notCheckedRules
-  not-checked-done-exactly-if out =
-      let w = (not-checked-keeps-to-table book out).table.done-exactly-if in (
+  pub not_checked_done_exactly_if : (out : List ℤ)
+      → ((not_checked_of book out).answer.refusal.number ≡ 0)
+      ↔ ((k : Book) × (test_of book ≡ Good k) × (length (unchecked_of (nat_abs book.b) book.lines) ≤ length out))
+  unfolding not_checked_rules
+  not_checked_done_exactly_if out =
+      let w = (not_checked_keeps_to_table book out).table.done_exactly_if in (
         λ z. let h = w.0 z in (
           _,
-          passes-if book h,
-          ltb-false (length out) (length (uncheckedOf (nat_abs book.b) book.lines))
-              (first-of (own-rules h)),
+          passes_if book h,
+          ltb-false (length out) (length (unchecked_of (nat_abs book.b) book.lines))
+              (first_of_lem (own_rules h)),
         ),
-        λ p. w.1 (passes-only-if book p.0 p.1 (none-and
-            (le-ltb (length out) (length (uncheckedOf (nat_abs book.b) book.lines)) p.2) none_in)),
+        λ p. w.1 (passes_only_if book p.0 p.1 (none_and
+            (le-ltb (length out) (length (unchecked_of (nat_abs book.b) book.lines)) p.2) none_in)),
       )
 
   -- what 8 and 9 leave
-  correction-only-if : (report : List ℤ) (number : ℤ) → test_of book ≡ Good (countsOf book) → None (correctionRules book report number)
+  correction_only_if : (report : List ℤ) (number : ℤ) → test_of book ≡ Good (counts_of book) → None (correction_rules book report number)
       → Acceptable book report number
-  correction-only-if report number e h =
-      let l = (line-exactly-if-stands book.lines number).0 (first-of h) in
+  correction_only_if report number e h =
+      let l = (line_exactly_if_stands book.lines number).0 (first_of_lem h) in
       record {
         counts = _;
         passes = e;
         line = l.0;
         stands = l.1;
-        its-report = (report-exactly-if-rows report (afresh book)).0
-            (first-of (rest_of h));
+        its_report = (report_exactly_if_rows report (afresh book)).0
+            (first_of_lem (rest_of h));
       }
 
-  correction-if : (report : List ℤ) (number : ℤ) → Acceptable book report number → None (correctionRules book report number)
-  correction-if report number a =
-      none-and ((line-exactly-if-stands book.lines number).1 (a.line, a.stands))
-      (none-and ((report-exactly-if-rows report (afresh book)).1 a.its-report) none_in)
+  correction_if : (report : List ℤ) (number : ℤ) → Acceptable book report number → None (correction_rules book report number)
+  correction_if report number a =
+      none_and ((line_exactly_if_stands book.lines number).1 (a.line, a.stands))
+      (none_and ((report_exactly_if_rows report (afresh book)).1 a.its_report) none_in)
 
   -- a withdrawal is done exactly if it is acceptable
-  pub withdrawal-done-exactly-if : (report : List ℤ) (number : ℤ)
-      → ((withdrawOf book report number).answer.refusal.number ≡ 0) ↔ Acceptable book report number
-  unfolding withdrawRules
-  withdrawal-done-exactly-if report number =
-      let w = (withdrawal-keeps-to-table book report number).table.done-exactly-if in (
-        λ z. correction-only-if report number (passes-if book (w.0 z)) (own-rules (w.0 z)),
-        λ a. w.1 (passes-only-if book a.counts a.passes (correction-if report number a)),
+  pub withdrawal_done_exactly_if : (report : List ℤ) (number : ℤ)
+      → ((withdraw_of book report number).answer.refusal.number ≡ 0) ↔ Acceptable book report number
+  unfolding withdraw_rules
+  withdrawal_done_exactly_if report number =
+      let w = (withdrawal_keeps_to_table book report number).table.done_exactly_if in (
+        λ z. correction_only_if report number (passes_if book (w.0 z)) (own_rules (w.0 z)),
+        λ a. w.1 (passes_only_if book a.counts a.passes (correction_if report number a)),
       )
 
   -- a re-run is done exactly if it is acceptable and the new difference is inside its limit
-  pub rerun-done-exactly-if : (report : List ℤ) (number difference : ℤ)
-      → ((rerunOf book report number difference).answer.refusal.number ≡ 0)
-      ↔ ((nat_abs difference ≤ mostDifference) × Acceptable book report number)
-  unfolding rerunRules differenceOut
-  rerun-done-exactly-if report number difference =
-      let w = (rerun-keeps-to-table book report number difference).table.done-exactly-if in (
+  pub rerun_done_exactly_if : (report : List ℤ) (number difference : ℤ)
+      → ((rerun_of book report number difference).answer.refusal.number ≡ 0)
+      ↔ ((nat_abs difference ≤ most_difference) × Acceptable book report number)
+  unfolding rerun_rules difference_out
+  rerun_done_exactly_if report number difference =
+      let w = (rerun_keeps_to_table book report number difference).table.done_exactly_if in (
         λ z.
             let h = w.0 z in
-            let p = none_beside (differenceOut difference) book h in (
-              size-within mostDifference difference p.0,
-              correction-only-if report number (passes-if book p.1) (own-rules h),
+            let p = none_beside (difference_out difference) book h in (
+              size_within most_difference difference p.0,
+              correction_only_if report number (passes_if book p.1) (own_rules h),
             ),
         λ p.
             let a = p.1 in
-            let h = passes-only-if book a.counts a.passes (correction-if report number a) in
-            w.1 (beside_none (differenceOut difference) book (size-inside mostDifference difference p.0) h),
+            let h = passes_only_if book a.counts a.passes (correction_if report number a) in
+            w.1 (beside_none (difference_out difference) book (size_inside most_difference difference p.0) h),
       )
 
 -- ---- the file
 
 -- version 1 or 2
-one-or-two : (v : ℕ) → versionOut (pos v) ≡ false → (v ≡ 1) ⊎ (v ≡ 2)
-unfolding versionOut
-one-or-two v e = let w = between leastVersion mostVersion (pos v) e in go (ℕ_discrete v 1) w.low w.high
+one_or_two : (v : ℕ) → version_out (pos v) ≡ false → (v ≡ 1) ⊎ (v ≡ 2)
+unfolding version_out
+one_or_two v e = let w = between least_version most_version (pos v) e in go (ℕ_discrete v 1) w.low w.high
   where
     go : Dec (v ≡ 1) → 1 ≤ v → v ≤ 2 → (v ≡ 1) ⊎ (v ≡ 2)
     go (yes e) low high = inl e
@@ -171,38 +171,38 @@ one-or-two v e = let w = between leastVersion mostVersion (pos v) e in go (ℕ_d
 
 module _ (file : List ℕ) (held lines : List ℤ) where
   abbrev v : ℕ
-  v = statedVersion file
+  v = stated_version file
 
   abbrev b : ℤ
-  b = pos (statedB file)
+  b = pos (stated_b file)
 
   abbrev t : ℤ
-  t = pos (statedT file)
+  t = pos (stated_t file)
 
   abbrev h : ℕ
-  h = statedH file
+  h = stated_h file
 
   abbrev n : ℕ
-  n = statedN file
+  n = stated_n file
 
   abbrev k : Book
-  k = statedCounts file
+  k = stated_counts file
 
   abbrev book : Lent
-  book = bookIn file k
+  book = book_in file k
 
   abbrev GoodWith : ℕ → ℕ → Type 0
   GoodWith x y = GoodBook (counts (pos v) b t x y) book
 
   -- a file is read exactly if it is readable
-  pub read-exactly-if-readable : ((read_of file held lines).answer.refusal.number ≡ 0) ↔ Readable file held lines
-  unfolding fileRules bookFault
-  read-exactly-if-readable = (λ z. to (w.0 z), λ r. w.1 (back r))
+  pub read_exactly_if_readable : ((read_of file held lines).answer.refusal.number ≡ 0) ↔ Readable file held lines
+  unfolding file_rules book_fault
+  read_exactly_if_readable = (λ z. to (w.0 z), λ r. w.1 (back r))
     where
-      w : ((read_of file held lines).answer.refusal.number ≡ 0) ↔ None (fileRules file held lines)
-      w = (reader-keeps-to-table file held lines).table.done-exactly-if
+      w : ((read_of file held lines).answer.refusal.number ≡ 0) ↔ None (file_rules file held lines)
+      w = (reader_keeps_to_table file held lines).table.done_exactly_if
 
-      to : None (fileRules file held lines) → Readable file held lines
+      to : None (file_rules file held lines) → Readable file held lines
       to r₁ =
           let r₂ = rest_of r₁ in
           let r₃ = rest_of r₂ in
@@ -211,44 +211,44 @@ module _ (file : List ℕ) (held lines : List ℤ) where
           let r₆ = rest_of r₅ in
           let r₇ = rest_of r₆ in
           let r₈ = rest_of r₇ in
-          let few-held = ltb (length held) (h * heldWords) in
-          let few-lines = ltb (length lines) (n * lineWords) in
+          let few_held = ltb (length held) (h * held_words) in
+          let few_lines = ltb (length lines) (n * line_words) in
           let passes =
-          passes-if book {more = []} (none-and (first-of r₃) (none-and (no-other-fault file held lines (first-of r₄))
-          (none-and (first-of r₆) (none-and (first-of r₇) none_in)))) in
+          passes_if book {more = []} (none_and (first_of_lem r₃) (none_and (no_other_fault file held lines (first_of_lem r₄))
+          (none_and (first_of_lem r₆) (none_and (first_of_lem r₇) none_in)))) in
           record {
-            long-enough = ltb-false (length file) 13 (first-of r₁);
-            its-length = eqb-true (statedLength file) (length file) (not-false (eqb (statedLength file) (length file)) (first-of r₂));
-            known-version = one-or-two v (first-of r₃);
-            whole = eqb-true (length file) (fileLength v h n) (not-false (eqb (length file) (fileLength v h n)) (first-of r₅));
-            good = subst₂ GoodWith (held-entries file held lines k) (line-entries file held lines k) (tested-good book _ passes);
-            room-for-held = ltb-false (length held) (h * heldWords) (or_left few-held few-lines (first-of r₈));
-            room-for-lines = ltb-false (length lines) (n * lineWords) (or_right few-held few-lines (first-of r₈));
+            long_enough = ltb-false (length file) 13 (first_of_lem r₁);
+            its_length = eqb-true (stated_length file) (length file) (not-false (eqb (stated_length file) (length file)) (first_of_lem r₂));
+            known_version = one_or_two v (first_of_lem r₃);
+            whole = eqb-true (length file) (file_length v h n) (not-false (eqb (length file) (file_length v h n)) (first_of_lem r₅));
+            good = subst₂ GoodWith (held_entries file held lines k) (line_entries file held lines k) (tested_good book _ passes);
+            room_for_held = ltb-false (length held) (h * held_words) (or_left few_held few_lines (first_of_lem r₈));
+            room_for_lines = ltb-false (length lines) (n * line_words) (or_right few_held few_lines (first_of_lem r₈));
           }
 
-      back : Readable file held lines → None (fileRules file held lines)
+      back : Readable file held lines → None (file_rules file held lines)
       back r =
-          let rules = passes-only-if book k (good-passes k book r.good) {more = []} none_in in
+          let rules = passes_only_if book k (good_passes k book r.good) {more = []} none_in in
           let fault =
-          or_left (bookOut (pos v) b t (heldCount (held_of file k)) (lineCount (lines_of file k))) (torn heldWords (held_of file k))
-          (or_left _ (torn lineWords (lines_of file k)) (first-of (rest_of rules))) in
-          none-and (le-ltb (length file) 13 r.long-enough)
-          (none-and (rw (eq-eqb (statedLength file) (length file) r.its-length))
-          (none-and (first-of rules)
-          (none-and (rw (held-entries file held lines k, line-entries file held lines k) at fault)
-          (none-and (rw (eq-eqb (length file) (fileLength v h n) r.whole))
-          (none-and (first-of (rest_of (rest_of rules)))
-          (none-and (first-of (rest_of (rest_of (rest_of rules))))
-          (none-and (rw (
-            le-ltb (length held) (h * heldWords) r.room-for-held,
-            le-ltb (length lines) (n * lineWords)
-                r.room-for-lines,
+          or_left (book_out (pos v) b t (held_count (held_of file k)) (line_count (lines_of file k))) (torn held_words (held_of file k))
+          (or_left _ (torn line_words (lines_of file k)) (first_of_lem (rest_of rules))) in
+          none_and (le-ltb (length file) 13 r.long_enough)
+          (none_and (rw (eq-eqb (stated_length file) (length file) r.its_length))
+          (none_and (first_of_lem rules)
+          (none_and (rw (held_entries file held lines k, line_entries file held lines k) at fault)
+          (none_and (rw (eq-eqb (length file) (file_length v h n) r.whole))
+          (none_and (first_of_lem (rest_of (rest_of rules)))
+          (none_and (first_of_lem (rest_of (rest_of (rest_of rules))))
+          (none_and (rw (
+            le-ltb (length held) (h * held_words) r.room_for_held,
+            le-ltb (length lines) (n * line_words)
+                r.room_for_lines,
           )) none_in)))))))
 
   -- and the book that it leaves in the buffers passes the test of every call
-  pub read-book-passes : let o = read_of file held lines in o.answer.refusal.number ≡ 0
-      → test_of (lent (pos o.answer.version) (pos o.answer.b) (pos o.answer.t) (take (o.answer.h * heldWords) o.held)
-      (take (o.answer.n * lineWords) o.lines))
+  pub read_book_passes : let o = read_of file held lines in o.answer.refusal.number ≡ 0
+      → test_of (lent (pos o.answer.version) (pos o.answer.b) (pos o.answer.t) (take (o.answer.h * held_words) o.held)
+      (take (o.answer.n * line_words) o.lines))
       ≡ Good (record {
         version = o.answer.version;
         marks = o.answer.b;
@@ -256,10 +256,10 @@ module _ (file : List ℕ) (held lines : List ℤ) where
         held = o.answer.h;
         lines = o.answer.n;
       })
-  read-book-passes z =
-      let good = (read-exactly-if-readable.0 z).good in
+  read_book_passes z =
+      let good = (read_exactly_if_readable.0 z).good in
       rw (
-        (reader-keeps-to-table file held lines).finished z,
-        take_at (held_of file k) (drop (h * heldWords) held) (h * heldWords) good.held-good.whole,
-        take_at (lines_of file k) (drop (n * lineWords) lines) (n * lineWords) good.lines-good.whole,
-      ) (good-passes k book good)
+        (reader_keeps_to_table file held lines).finished z,
+        take_at (held_of file k) (drop (h * held_words) held) (h * held_words) good.held_good.whole,
+        take_at (lines_of file k) (drop (n * line_words) lines) (n * line_words) good.lines_good.whole,
+      ) (good_passes k book good)

@@ -11,155 +11,155 @@ use lib.ListN.{length, drop}
 use lib.IntN.{ℤ, pos, nat_abs}
 use borrow.Author.Tests.{eq-eqb}
 use Rattle.book.specs.Lent.{Lent}
-use Rattle.book.specs.Held.{heldWords}
-use Rattle.book.specs.Line.{lineWords, differenceOut}
-use Rattle.book.specs.Version.{versionOut}
-use Rattle.book.specs.Test.{torn, bookOut, refusal}
+use Rattle.book.specs.Held.{held_words}
+use Rattle.book.specs.Line.{line_words, difference_out}
+use Rattle.book.specs.Version.{version_out}
+use Rattle.book.specs.Test.{torn, book_out, refusal}
 use Rattle.book.specs.declared.Book.{Book}
 use Rattle.book.specs.declared.Refusal.{Refusal}
 use Rattle.file.specs.Read as read
-use Rattle.file.specs.Read.{Outcome, answered, statedLength, statedVersion, statedT, statedB, statedH, statedN, statedCounts, fileLength}
-use Rattle.file.specs.Read.{head_of, held_of, lines_of, bookIn, roomOf, body_of, after_head, read_of}
+use Rattle.file.specs.Read.{Outcome, answered, stated_length, stated_version, stated_t, stated_b, stated_h, stated_n, stated_counts, file_length}
+use Rattle.file.specs.Read.{head_of, held_of, lines_of, book_in, room_of, body_of, after_head, read_of}
 use Rattle.file.specs.declared.entry.Kind.TheVariants as kind
 use Rattle.file.specs.declared.Head.TheVariants as head
-use Rattle.file.proofs.Entries.{entries-length, lines-length}
-use Rattle.file.proofs.Reading.{held-entries, line-entries}
+use Rattle.file.proofs.Entries.{entries_length, lines_length}
+use Rattle.file.proofs.Reading.{held_entries, line_entries}
 use Rattle.loops.specs.Row.{listings}
 use Rattle.loops.specs.Report.{loops_of}
 use Rattle.survey.specs.Report as survey
 use Rattle.survey.specs.Report.{counted}
-use Rattle.survey.specs.Survey.{Surveyed, surveyed, surveyGood, surveyOf}
+use Rattle.survey.specs.Survey.{Surveyed, surveyed, survey_good, survey_of}
 use Rattle.lists.specs.Listing as lists
-use Rattle.lists.specs.Listing.{Listing, listing, list_of, listingGood, listingOf, listingsGood, listingsOf}
-use Rattle.lists.specs.NotChecked.{uncheckedOf, notCheckedOf}
-use Rattle.survey.specs.Correction.{Corrected, corrected, correctGood, correctOf, rerunLines, withdrawLines, rerunOf, withdrawOf}
+use Rattle.lists.specs.Listing.{Listing, listing, list_of, listing_good, listing_of, listings_good, listings_of}
+use Rattle.lists.specs.NotChecked.{unchecked_of, not_checked_of}
+use Rattle.survey.specs.Correction.{Corrected, corrected, correct_good, correct_of, rerun_lines, withdraw_lines, rerun_of, withdraw_of}
 use Rattle.demands.specs.Rules.{LowestGiven}
-use Rattle.demands.specs.Calls.{afresh, surveyDone, listDone, correctionDone, readDone, SurveyKeepsToTable, ListingKeepsToTable}
+use Rattle.demands.specs.Calls.{afresh, survey_done, list_done, correction_done, read_done, SurveyKeepsToTable, ListingKeepsToTable}
 use Rattle.demands.specs.Calls.{ListingsKeepsToTable, NotCheckedKeepsToTable, RerunKeepsToTable, WithdrawalKeepsToTable}
 use Rattle.demands.specs.Calls.{ReaderKeepsToTable}
-use Rattle.demands.specs.Tables.{bookFault, heldRule, lineRule, roomRule, roomsRule, surveyRules, loopListing, loopRules}
-use Rattle.demands.specs.Tables.{correctionRules, listingRules, listingsRules, notCheckedRules, rerunRules, withdrawRules}
-use Rattle.demands.specs.Tables.{fileRules}
-use Rattle.demands.proofs.Rules.{byRules, cond-or, keeps-to-table, lowest-is-given}
-use Rattle.demands.proofs.BookRules.{by-the-test, by-the-test-beside}
+use Rattle.demands.specs.Tables.{book_fault, held_rule, line_rule, room_rule, rooms_rule, survey_rules, loop_listing, loop_rules}
+use Rattle.demands.specs.Tables.{correction_rules, listing_rules, listings_rules, not_checked_rules, rerun_rules, withdraw_rules}
+use Rattle.demands.specs.Tables.{file_rules}
+use Rattle.demands.proofs.Rules.{by_rules, cond_or, keeps_to_table, lowest_is_given}
+use Rattle.demands.proofs.BookRules.{by_the_test, by_the_test_beside}
 
 module _ (book : Lent) where
   -- the survey keeps to its table: 3, 4, 6, 7, 10
-  pub survey-keeps-to-table : (out : List ℤ) → SurveyKeepsToTable book out (surveyOf book out)
-  unfolding surveyOf surveyRules byRules counted
-  survey-keeps-to-table out =
-      keeps-to-table (λ r. refl) refl refl
-      (by-the-test book (λ k. surveyGood k book.lines out) (roomRule out (afresh book) ∷ [])
-      (λ r. surveyed (survey.refusedWith r) out) (surveyDone book out) refl)
+  pub survey_keeps_to_table : (out : List ℤ) → SurveyKeepsToTable book out (survey_of book out)
+  unfolding survey_of survey_rules by_rules counted
+  survey_keeps_to_table out =
+      keeps_to_table (λ r. refl) refl refl
+      (by_the_test book (λ k. survey_good k book.lines out) (room_rule out (afresh book) ∷ [])
+      (λ r. surveyed (survey.refused_with r) out) (survey_done book out) refl)
 
   -- the listing of a loop keeps to its table: 3, 4, 6, 7, 8, 10
-  pub listing-keeps-to-table : (number : ℤ) (out : List ℤ) → ListingKeepsToTable book number out (listingOf book number out)
-  unfolding listingOf listingRules loopListing byRules
-  listing-keeps-to-table number out =
-      keeps-to-table (λ r. refl) refl refl
-      (by-the-test book (λ k. listingGood k book.lines number out) (loopRules book number out) (λ r. listing (lists.refusedWith r) out)
-      (listDone (loopListing book number) out) refl)
+  pub listing_keeps_to_table : (number : ℤ) (out : List ℤ) → ListingKeepsToTable book number out (listing_of book number out)
+  unfolding listing_of listing_rules loop_listing by_rules
+  listing_keeps_to_table number out =
+      keeps_to_table (λ r. refl) refl refl
+      (by_the_test book (λ k. listing_good k book.lines number out) (loop_rules book number out) (λ r. listing (lists.refused_with r) out)
+      (list_done (loop_listing book number) out) refl)
 
   -- the listing of all loops keeps to its table: 3, 4, 6, 7, 10
-  pub listings-keeps-to-table : (out : List ℤ) → ListingsKeepsToTable book out (listingsOf book out)
-  unfolding listingsOf listingsRules byRules
-  listings-keeps-to-table out =
-      keeps-to-table (λ r. refl) refl refl
-      (by-the-test book (λ k. listingsGood k book.lines out) (roomRule out (listings (loops_of (nat_abs book.b) book.lines)) ∷ [])
-      (λ r. listing (lists.refusedWith r) out)
-      (listDone (listings (loops_of (nat_abs book.b) book.lines)) out) refl)
+  pub listings_keeps_to_table : (out : List ℤ) → ListingsKeepsToTable book out (listings_of book out)
+  unfolding listings_of listings_rules by_rules
+  listings_keeps_to_table out =
+      keeps_to_table (λ r. refl) refl refl
+      (by_the_test book (λ k. listings_good k book.lines out) (room_rule out (listings (loops_of (nat_abs book.b) book.lines)) ∷ [])
+      (λ r. listing (lists.refused_with r) out)
+      (list_done (listings (loops_of (nat_abs book.b) book.lines)) out) refl)
 
   -- the not-checked list keeps to its table: 3, 4, 6, 7, 10
-  pub not-checked-keeps-to-table : (out : List ℤ) → NotCheckedKeepsToTable book out (notCheckedOf book out)
-  unfolding notCheckedOf notCheckedRules byRules
-  not-checked-keeps-to-table out =
-      keeps-to-table (λ r. refl) refl refl
-      (by-the-test book (λ k. list_of (uncheckedOf k.marks book.lines) out)
-      (roomRule out (uncheckedOf (nat_abs book.b) book.lines) ∷ []) (λ r. listing (lists.refusedWith r) out)
-      (listDone (uncheckedOf (nat_abs book.b) book.lines) out) refl)
+  pub not_checked_keeps_to_table : (out : List ℤ) → NotCheckedKeepsToTable book out (not_checked_of book out)
+  unfolding not_checked_of not_checked_rules by_rules
+  not_checked_keeps_to_table out =
+      keeps_to_table (λ r. refl) refl refl
+      (by_the_test book (λ k. list_of (unchecked_of k.marks book.lines) out)
+      (room_rule out (unchecked_of (nat_abs book.b) book.lines) ∷ []) (λ r. listing (lists.refused_with r) out)
+      (list_done (unchecked_of (nat_abs book.b) book.lines) out) refl)
 
   -- withdrawal keeps to its table: 3, 4, 6, 7, 8, 9
-  pub withdrawal-keeps-to-table : (report : List ℤ) (number : ℤ) → WithdrawalKeepsToTable book report number (withdrawOf book report number)
-  unfolding withdrawOf correctOf withdrawRules byRules counted
-  withdrawal-keeps-to-table report number =
-      keeps-to-table (λ r. refl) refl refl
-      (by-the-test book (λ k. correctGood k book.lines report number (withdrawLines book.lines number))
-      (correctionRules book report number)
-      (λ r. corrected (survey.refusedWith r) book.lines report) (correctionDone book report (withdrawLines book.lines number)) refl)
+  pub withdrawal_keeps_to_table : (report : List ℤ) (number : ℤ) → WithdrawalKeepsToTable book report number (withdraw_of book report number)
+  unfolding withdraw_of correct_of withdraw_rules by_rules counted
+  withdrawal_keeps_to_table report number =
+      keeps_to_table (λ r. refl) refl refl
+      (by_the_test book (λ k. correct_good k book.lines report number (withdraw_lines book.lines number))
+      (correction_rules book report number)
+      (λ r. corrected (survey.refused_with r) book.lines report) (correction_done book report (withdraw_lines book.lines number)) refl)
 
   -- re-run keeps to its table: 3, 4, 6, 7, 8, 9
-  pub rerun-keeps-to-table : (report : List ℤ) (number difference : ℤ)
-      → RerunKeepsToTable book report number difference (rerunOf book report number difference)
-  unfolding rerunOf correctOf rerunRules byRules counted
-  rerun-keeps-to-table report number difference =
-      keeps-to-table (λ r. refl) refl refl
-      (by-the-test-beside (differenceOut difference) book
-      (λ k. correctGood k book.lines report number (rerunLines book.lines number difference))
-      (correctionRules book report number)
-      (λ r. corrected (survey.refusedWith r) book.lines report)
-      (correctionDone book report (rerunLines book.lines number difference)) refl)
+  pub rerun_keeps_to_table : (report : List ℤ) (number difference : ℤ)
+      → RerunKeepsToTable book report number difference (rerun_of book report number difference)
+  unfolding rerun_of correct_of rerun_rules by_rules counted
+  rerun_keeps_to_table report number difference =
+      keeps_to_table (λ r. refl) refl refl
+      (by_the_test_beside (difference_out difference) book
+      (λ k. correct_good k book.lines report number (rerun_lines book.lines number difference))
+      (correction_rules book report number)
+      (λ r. corrected (survey.refused_with r) book.lines report)
+      (correction_done book report (rerun_lines book.lines number difference)) refl)
 
   -- ---- "Where several apply, the lowest number is given": the numbers of each table rise
 
-  pub survey-gives-the-lowest : (out : List ℤ) → LowestGiven (surveyRules book out) (surveyOf book out).answer.refusal
-  unfolding surveyRules
-  survey-gives-the-lowest out = lowest-is-given refl (survey-keeps-to-table out).table
+  pub survey_gives_the_lowest : (out : List ℤ) → LowestGiven (survey_rules book out) (survey_of book out).answer.refusal
+  unfolding survey_rules
+  survey_gives_the_lowest out = lowest_is_given refl (survey_keeps_to_table out).table
 
-  pub listing-gives-the-lowest : (number : ℤ) (out : List ℤ)
-      → LowestGiven (listingRules book number out) (listingOf book number out).answer.refusal
-  unfolding listingRules
-  listing-gives-the-lowest number out = lowest-is-given refl (listing-keeps-to-table number out).table
+  pub listing_gives_the_lowest : (number : ℤ) (out : List ℤ)
+      → LowestGiven (listing_rules book number out) (listing_of book number out).answer.refusal
+  unfolding listing_rules
+  listing_gives_the_lowest number out = lowest_is_given refl (listing_keeps_to_table number out).table
 
-  pub listings-gives-the-lowest : (out : List ℤ) → LowestGiven (listingsRules book out) (listingsOf book out).answer.refusal
-  unfolding listingsRules
-  listings-gives-the-lowest out = lowest-is-given refl (listings-keeps-to-table out).table
+  pub listings_gives_the_lowest : (out : List ℤ) → LowestGiven (listings_rules book out) (listings_of book out).answer.refusal
+  unfolding listings_rules
+  listings_gives_the_lowest out = lowest_is_given refl (listings_keeps_to_table out).table
 
-  pub not-checked-gives-the-lowest : (out : List ℤ) → LowestGiven (notCheckedRules book out) (notCheckedOf book out).answer.refusal
-  unfolding notCheckedRules
-  not-checked-gives-the-lowest out = lowest-is-given refl (not-checked-keeps-to-table out).table
+  pub not_checked_gives_the_lowest : (out : List ℤ) → LowestGiven (not_checked_rules book out) (not_checked_of book out).answer.refusal
+  unfolding not_checked_rules
+  not_checked_gives_the_lowest out = lowest_is_given refl (not_checked_keeps_to_table out).table
 
-  pub withdrawal-gives-the-lowest : (report : List ℤ) (number : ℤ)
-      → LowestGiven (withdrawRules book report number) (withdrawOf book report number).answer.refusal
-  unfolding withdrawRules
-  withdrawal-gives-the-lowest report number = lowest-is-given refl (withdrawal-keeps-to-table report number).table
+  pub withdrawal_gives_the_lowest : (report : List ℤ) (number : ℤ)
+      → LowestGiven (withdraw_rules book report number) (withdraw_of book report number).answer.refusal
+  unfolding withdraw_rules
+  withdrawal_gives_the_lowest report number = lowest_is_given refl (withdrawal_keeps_to_table report number).table
 
-  pub rerun-gives-the-lowest : (report : List ℤ) (number difference : ℤ)
-      → LowestGiven (rerunRules book report number difference) (rerunOf book report number difference).answer.refusal
-  unfolding rerunRules
-  rerun-gives-the-lowest report number difference = lowest-is-given refl (rerun-keeps-to-table report number difference).table
+  pub rerun_gives_the_lowest : (report : List ℤ) (number difference : ℤ)
+      → LowestGiven (rerun_rules book report number difference) (rerun_of book report number difference).answer.refusal
+  unfolding rerun_rules
+  rerun_gives_the_lowest report number difference = lowest_is_given refl (rerun_keeps_to_table report number difference).table
 
   -- ---- "After a refusal the counts are 0 and no lent buffer has changed."
 
   -- a refused survey: no rows, no pieces, and the output as it was
-  pub refused-survey-changes-nothing : (out : List ℤ) → let s = surveyOf book out in (s.answer.refusal.number ≡ 0 → ⊥)
+  pub refused_survey_changes_nothing : (out : List ℤ) → let s = survey_of book out in (s.answer.refusal.number ≡ 0 → ⊥)
       → (s.answer.rows ≡ 0) × (s.answer.pieces ≡ 0) × (s.rows ≡ out)
-  refused-survey-changes-nothing out h = let e = (survey-keeps-to-table out).refused h in
+  refused_survey_changes_nothing out h = let e = (survey_keeps_to_table out).refused h in
       (ap (λ (s : Surveyed). s.answer.rows) e, ap (λ (s : Surveyed). s.answer.pieces) e, ap (λ (s : Surveyed). s.rows) e)
 
   -- a refused listing: no entries, and the output as it was
-  pub refused-listing-changes-nothing : (number : ℤ) (out : List ℤ)
-      → let l = listingOf book number out in (l.answer.refusal.number ≡ 0 → ⊥)
+  pub refused_listing_changes_nothing : (number : ℤ) (out : List ℤ)
+      → let l = listing_of book number out in (l.answer.refusal.number ≡ 0 → ⊥)
       → (l.answer.entries ≡ 0) × (l.out ≡ out)
-  refused-listing-changes-nothing number out h = let e = (listing-keeps-to-table number out).refused h in
+  refused_listing_changes_nothing number out h = let e = (listing_keeps_to_table number out).refused h in
       (ap (λ (l : Listing). l.answer.entries) e, ap (λ (l : Listing). l.out) e)
 
   -- a refused listing of all loops: no entries, and the output as it was
-  pub refused-listings-changes-nothing : (out : List ℤ) → let l = listingsOf book out in (l.answer.refusal.number ≡ 0 → ⊥)
+  pub refused_listings_changes_nothing : (out : List ℤ) → let l = listings_of book out in (l.answer.refusal.number ≡ 0 → ⊥)
       → (l.answer.entries ≡ 0) × (l.out ≡ out)
-  refused-listings-changes-nothing out h = let e = (listings-keeps-to-table out).refused h in
+  refused_listings_changes_nothing out h = let e = (listings_keeps_to_table out).refused h in
       (ap (λ (l : Listing). l.answer.entries) e, ap (λ (l : Listing). l.out) e)
 
   -- a refused not-checked list: no entries, and the output as it was
-  pub refused-not-checked-changes-nothing : (out : List ℤ) → let l = notCheckedOf book out in (l.answer.refusal.number ≡ 0 → ⊥)
+  pub refused_not_checked_changes_nothing : (out : List ℤ) → let l = not_checked_of book out in (l.answer.refusal.number ≡ 0 → ⊥)
       → (l.answer.entries ≡ 0) × (l.out ≡ out)
-  refused-not-checked-changes-nothing out h = let e = (not-checked-keeps-to-table out).refused h in
+  refused_not_checked_changes_nothing out h = let e = (not_checked_keeps_to_table out).refused h in
       (ap (λ (l : Listing). l.answer.entries) e, ap (λ (l : Listing). l.out) e)
 
   -- a refused withdrawal: no rows, no pieces, and lines and report as they were
-  pub refused-withdrawal-changes-nothing : (report : List ℤ) (number : ℤ)
-      → let c = withdrawOf book report number in (c.answer.refusal.number ≡ 0 → ⊥)
+  pub refused_withdrawal_changes_nothing : (report : List ℤ) (number : ℤ)
+      → let c = withdraw_of book report number in (c.answer.refusal.number ≡ 0 → ⊥)
       → (c.answer.rows ≡ 0) × (c.answer.pieces ≡ 0) × (c.lines ≡ book.lines) × (c.report ≡ report)
-  refused-withdrawal-changes-nothing report number h = let e = (withdrawal-keeps-to-table report number).refused h in (
+  refused_withdrawal_changes_nothing report number h = let e = (withdrawal_keeps_to_table report number).refused h in (
     ap (λ (c : Corrected). c.answer.rows) e,
     ap (λ (c : Corrected). c.answer.pieces) e,
     ap (λ (c : Corrected). c.lines) e,
@@ -167,10 +167,10 @@ module _ (book : Lent) where
   )
 
   -- a refused re-run: no rows, no pieces, and lines and report as they were
-  pub refused-rerun-changes-nothing : (report : List ℤ) (number difference : ℤ)
-      → let c = rerunOf book report number difference in (c.answer.refusal.number ≡ 0 → ⊥)
+  pub refused_rerun_changes_nothing : (report : List ℤ) (number difference : ℤ)
+      → let c = rerun_of book report number difference in (c.answer.refusal.number ≡ 0 → ⊥)
       → (c.answer.rows ≡ 0) × (c.answer.pieces ≡ 0) × (c.lines ≡ book.lines) × (c.report ≡ report)
-  refused-rerun-changes-nothing report number difference h = let e = (rerun-keeps-to-table report number difference).refused h in (
+  refused_rerun_changes_nothing report number difference h = let e = (rerun_keeps_to_table report number difference).refused h in (
     ap (λ (c : Corrected). c.answer.rows) e,
     ap (λ (c : Corrected). c.answer.pieces) e,
     ap (λ (c : Corrected). c.lines) e,
@@ -181,65 +181,65 @@ module _ (book : Lent) where
 
 module _ (file : List ℕ) (held lines : List ℤ) where
   -- the entries that are read are whole, and as many as stated: of 4 only the stated counts are left
-  abbrev countsOut : Bool
-  countsOut = bookOut (pos (statedVersion file)) (pos (statedB file)) (pos (statedT file)) (statedH file) (statedN file)
+  abbrev counts_out : Bool
+  counts_out = book_out (pos (stated_version file)) (pos (stated_b file)) (pos (stated_t file)) (stated_h file) (stated_n file)
 
-  pub no-other-fault : countsOut ≡ false → bookFault (bookIn file (statedCounts file)) ≡ false
-  unfolding bookFault torn held_of
-  no-other-fault e =
-      let k = statedCounts file in
-      let counted = ap₂ (bookOut (pos (statedVersion file)) (pos (statedB file)) (pos (statedT file)))
-      (held-entries file held lines k) (line-entries file held lines k) ∙ e in
+  pub no_other_fault : counts_out ≡ false → book_fault (book_in file (stated_counts file)) ≡ false
+  unfolding book_fault torn held_of
+  no_other_fault e =
+      let k = stated_counts file in
+      let counted = ap₂ (book_out (pos (stated_version file)) (pos (stated_b file)) (pos (stated_t file)))
+      (held_entries file held lines k) (line_entries file held lines k) ∙ e in
       rw (
         counted,
-        entries-length kind.Held file 13 (statedH file),
-        lines-length file k,
-        eq-eqb (statedH file * heldWords % heldWords) 0 (omega arith),
-        eq-eqb (statedN file * lineWords % lineWords) 0 (omega arith),
+        entries_length kind.Held file 13 (stated_h file),
+        lines_length file k,
+        eq-eqb (stated_h file * held_words % held_words) 0 (omega arith),
+        eq-eqb (stated_n file * line_words % line_words) 0 (omega arith),
       )
 
   refuse : Refusal → Outcome
-  refuse r = answered held lines (read.refusedWith r)
+  refuse r = answered held lines (read.refused_with r)
 
   -- 10, or the book read
-  room : (k : Book) → roomOf file k held lines
-      ≡ cond (ltb (length held) (k.held * heldWords) || ltb (length lines) (k.lines * lineWords)) (refuse (refusal 10 0)) (record {
+  room : (k : Book) → room_of file k held lines
+      ≡ cond (ltb (length held) (k.held * held_words) || ltb (length lines) (k.lines * line_words)) (refuse (refusal 10 0)) (record {
         answer = read.done k;
-        held = held_of file k ++ drop (k.held * heldWords) held;
-        lines = lines_of file k ++ drop (k.lines * lineWords) lines;
+        held = held_of file k ++ drop (k.held * held_words) held;
+        lines = lines_of file k ++ drop (k.lines * line_words) lines;
       })
-  unfolding roomOf refuse
-  room k = cond-or (ltb (length held) (k.held * heldWords)) (ltb (length lines) (k.lines * lineWords)) _ _
+  unfolding room_of refuse
+  room k = cond_or (ltb (length held) (k.held * held_words)) (ltb (length lines) (k.lines * line_words)) _ _
 
   -- 6 and 7, then 10
-  body : versionOut (pos (statedVersion file)) ≡ false → countsOut ≡ false
-      → body_of file (statedCounts file) held lines
-      ≡ byRules (heldRule (bookIn file (statedCounts file)) ∷ lineRule (bookIn file (statedCounts file)) ∷ roomsRule file held lines
-      ∷ []) refuse (readDone file held lines)
-  unfolding body_of byRules refuse
+  body : version_out (pos (stated_version file)) ≡ false → counts_out ≡ false
+      → body_of file (stated_counts file) held lines
+      ≡ by_rules (held_rule (book_in file (stated_counts file)) ∷ line_rule (book_in file (stated_counts file)) ∷ rooms_rule file held lines
+      ∷ []) refuse (read_done file held lines)
+  unfolding body_of by_rules refuse
   body known e =
-      by-the-test (bookIn file (statedCounts file))
-      (λ _. roomOf file (statedCounts file) held lines) (roomsRule file held lines ∷ []) refuse (readDone file held lines)
-      (room (statedCounts file))
-      ∙ rw (known, no-other-fault e)
+      by_the_test (book_in file (stated_counts file))
+      (λ _. room_of file (stated_counts file) held lines) (rooms_rule file held lines ∷ []) refuse (read_done file held lines)
+      (room (stated_counts file))
+      ∙ rw (known, no_other_fault e)
 
   -- the reader keeps to its table: 1 to 7, 10
-  pub reader-keeps-to-table : ReaderKeepsToTable file held lines (read_of file held lines)
-  unfolding read_of after_head head_of fileRules byRules refuse
-  reader-keeps-to-table =
-      keeps-to-table (λ r. refl) refl refl
-      (go (ltb (length file) 13) (not (eqb (statedLength file) (length file))) (versionOut (pos (statedVersion file))) refl countsOut refl
-      (not (eqb (length file) (fileLength (statedVersion file) (statedH file) (statedN file)))))
+  pub reader_keeps_to_table : ReaderKeepsToTable file held lines (read_of file held lines)
+  unfolding read_of after_head head_of file_rules by_rules refuse
+  reader_keeps_to_table =
+      keeps_to_table (λ r. refl) refl refl
+      (go (ltb (length file) 13) (not (eqb (stated_length file) (length file))) (version_out (pos (stated_version file))) refl counts_out refl
+      (not (eqb (length file) (file_length (stated_version file) (stated_h file) (stated_n file)))))
     where
       k : Book
-      k = statedCounts file
+      k = stated_counts file
 
       rest : Outcome
       rest =
-          byRules (heldRule (bookIn file (statedCounts file)) ∷ lineRule (bookIn file (statedCounts file)) ∷ roomsRule file held lines
-          ∷ []) refuse (readDone file held lines)
+          by_rules (held_rule (book_in file (stated_counts file)) ∷ line_rule (book_in file (stated_counts file)) ∷ rooms_rule file held lines
+          ∷ []) refuse (read_done file held lines)
 
-      go : (x y z : Bool) → versionOut (pos (statedVersion file)) ≡ z → (f : Bool) → countsOut ≡ f → (w : Bool)
+      go : (x y z : Bool) → version_out (pos (stated_version file)) ≡ z → (f : Bool) → counts_out ≡ f → (w : Bool)
           → after_head file held lines (cond x (head.Refused 1)
           (cond y (head.Refused 2) (cond z (head.Refused 3) (cond f (head.Refused 4) (cond w (head.Refused 5) (head.States k))))))
           ≡ cond x (refuse (refusal 1 0)) (cond y (refuse (refusal 2 0))
@@ -251,15 +251,15 @@ module _ (file : List ℕ) (held lines : List ℤ) where
       go false false false v false e true = refl
       go false false false v false e false = body v e
 
-  pub reader-gives-the-lowest : LowestGiven (fileRules file held lines) (read_of file held lines).answer.refusal
-  unfolding fileRules
-  reader-gives-the-lowest = lowest-is-given refl reader-keeps-to-table.table
+  pub reader_gives_the_lowest : LowestGiven (file_rules file held lines) (read_of file held lines).answer.refusal
+  unfolding file_rules
+  reader_gives_the_lowest = lowest_is_given refl reader_keeps_to_table.table
 
   -- a refused file: version, b, t, h and n are 0, and both buffers are as they were
-  pub refused-reader-changes-nothing : let o = read_of file held lines in (o.answer.refusal.number ≡ 0 → ⊥)
+  pub refused_reader_changes_nothing : let o = read_of file held lines in (o.answer.refusal.number ≡ 0 → ⊥)
       → (o.answer.version ≡ 0) × (o.answer.b ≡ 0) × (o.answer.t ≡ 0) × (o.answer.h ≡ 0) × (o.answer.n ≡ 0)
       × (o.held ≡ held) × (o.lines ≡ lines)
-  refused-reader-changes-nothing h = let e = reader-keeps-to-table.refused h in (
+  refused_reader_changes_nothing h = let e = reader_keeps_to_table.refused h in (
     ap (λ (o : Outcome). o.answer.version) e,
     ap (λ (o : Outcome). o.answer.b) e,
     ap (λ (o : Outcome). o.answer.t) e,

@@ -9,19 +9,19 @@ use native.Mathlib.Decide.{ℕ_discrete, dec_lt}
 use native.Mathlib.Omega.{arith}
 use lib.Dec.{ltb}
 use borrow.Author.Tests.{ltb-true}
-use Rattle.book.specs.Test.{noRefusal}
+use Rattle.book.specs.Test.{no_refusal}
 use Rattle.book.specs.declared.Refusal.{Refusal}
 use Rattle.demands.specs.Rules.{Rule, None, First, ByTable, rising, Lowest, LowestGiven, KeepsToTable}
 
 -- two tests for one refusal are one test
-pub cond-or : {A : Type 0} (s t : Bool) (x y : A) → cond s x (cond t x y) ≡ cond (s || t) x y
-cond-or true t x y = refl
-cond-or false t x y = refl
+pub cond_or : {A : Type 0} (s t : Bool) (x y : A) → cond s x (cond t x y) ≡ cond (s || t) x y
+cond_or true t x y = refl
+cond_or false t x y = refl
 
 -- the refusal of the first rule that applies, or, where none does, what is given when done
-unfoldable pub byRules : {A : Type 0} → List Rule → (Refusal → A) → A → A
-byRules [] refuse done = done
-byRules (r ∷ rs) refuse done = cond r.applies (refuse r.gives) (byRules rs refuse done)
+unfoldable pub by_rules : {A : Type 0} → List Rule → (Refusal → A) → A → A
+by_rules [] refuse done = done
+by_rules (r ∷ rs) refuse done = cond r.applies (refuse r.gives) (by_rules rs refuse done)
 
 -- ---- no rule applies
 
@@ -29,12 +29,12 @@ byRules (r ∷ rs) refuse done = cond r.applies (refuse r.gives) (byRules rs ref
 pub none_in : None []
 none_in r i = absurd (Memᴰ.not-nil i)
 
-pub none-and : {q : Rule} {rest : List Rule} → q.applies ≡ false → None rest → None (q ∷ rest)
-none-and e h r (Memᴰ.head z) = ap (λ (x : Rule). x.applies) z ∙ e
-none-and e h r (Memᴰ.tail i) = h r i
+pub none_and : {q : Rule} {rest : List Rule} → q.applies ≡ false → None rest → None (q ∷ rest)
+none_and e h r (Memᴰ.head z) = ap (λ (x : Rule). x.applies) z ∙ e
+none_and e h r (Memᴰ.tail i) = h r i
 
-pub first-of : {q : Rule} {rest : List Rule} → None (q ∷ rest) → q.applies ≡ false
-first-of {q = q} h = h q (Memᴰ.head refl)
+pub first_of_lem : {q : Rule} {rest : List Rule} → None (q ∷ rest) → q.applies ≡ false
+first_of_lem {q = q} h = h q (Memᴰ.head refl)
 
 pub rest_of : {q : Rule} {rest : List Rule} → None (q ∷ rest) → None rest
 rest_of h r i = h r (Memᴰ.tail i)
@@ -46,8 +46,8 @@ among [] after r = Memᴰ.head refl
 among (q ∷ before) after r = Memᴰ.tail (among before after r)
 
 -- the first is one of the rules
-is-rule : {rules : List Rule} {r : Rule} → First rules r → Memᴰ r rules
-is-rule {r = r} f = subst (λ (l : List Rule). Memᴰ r l) (sym f.stands) (among f.before f.after r)
+is_rule : {rules : List Rule} {r : Rule} → First rules r → Memᴰ r rules
+is_rule {r = r} f = subst (λ (l : List Rule). Memᴰ r l) (sym f.stands) (among f.before f.after r)
 
 -- no rule applies, or one is the first that does
 first_or_none : (rules : List Rule) → None rules ⊎ ((r : Rule) × First rules r)
@@ -56,46 +56,46 @@ first_or_none (q ∷ rs) = go q.applies refl (first_or_none rs)
   where
     go : (t : Bool) → q.applies ≡ t → None rs ⊎ ((r : Rule) × First rs r) → None (q ∷ rs) ⊎ ((r : Rule) × First (q ∷ rs) r)
     go true e w = inr (q, record { before = []; after = rs; stands = refl; none_before = none_in; applies = e })
-    go false e (inl n) = inl (none-and e n)
+    go false e (inl n) = inl (none_and e n)
     go false e (inr (r, f)) = inr (
       r,
       record {
         before = q ∷ f.before;
         after = f.after;
         stands = ap (λ (l : List Rule). q ∷ l) f.stands;
-        none_before = none-and e f.none_before;
+        none_before = none_and e f.none_before;
         applies = f.applies;
       },
     )
 
 module _ {A : Type 0} (refuse : Refusal → A) (done : A) where
-  by-none : (rules : List Rule) → None rules → byRules rules refuse done ≡ done
-  unfolding byRules
-  by-none [] n = refl
-  by-none (q ∷ rs) n = rw (first-of n) (by-none rs (rest_of n))
+  by_none : (rules : List Rule) → None rules → by_rules rules refuse done ≡ done
+  unfolding by_rules
+  by_none [] n = refl
+  by_none (q ∷ rs) n = rw (first_of_lem n) (by_none rs (rest_of n))
 
-  by-split : (before after : List Rule) (r : Rule) → None before → r.applies ≡ true
-      → byRules (before ++ r ∷ after) refuse done ≡ refuse r.gives
-  unfolding byRules
-  by-split [] after r n e = rw e
-  by-split (q ∷ before) after r n e = rw (first-of n) (by-split before after r (rest_of n) e)
+  by_split : (before after : List Rule) (r : Rule) → None before → r.applies ≡ true
+      → by_rules (before ++ r ∷ after) refuse done ≡ refuse r.gives
+  unfolding by_rules
+  by_split [] after r n e = rw e
+  by_split (q ∷ before) after r n e = rw (first_of_lem n) (by_split before after r (rest_of n) e)
 
-  by_first : {rules : List Rule} {r : Rule} → First rules r → byRules rules refuse done ≡ refuse r.gives
+  by_first : {rules : List Rule} {r : Rule} → First rules r → by_rules rules refuse done ≡ refuse r.gives
   by_first {r = r} f =
-      ap (λ (l : List Rule). byRules l refuse done) f.stands ∙ by-split f.before f.after r f.none_before f.applies
+      ap (λ (l : List Rule). by_rules l refuse done) f.stands ∙ by_split f.before f.after r f.none_before f.applies
 
 -- there is one first
-one-first : {rules : List Rule} {r q : Rule} → First rules r → First rules q → r.gives ≡ q.gives
-one-first f g = sym (by_first (λ x. x) noRefusal f) ∙ by_first (λ x. x) noRefusal g
+one_first : {rules : List Rule} {r q : Rule} → First rules r → First rules q → r.gives ≡ q.gives
+one_first f g = sym (by_first (λ x. x) no_refusal f) ∙ by_first (λ x. x) no_refusal g
 
 -- every rule of a table has a number
 abbrev pub named : List Rule → Bool
 named [] = true
 named (r ∷ rs) = cond (ltb 0 r.gives.number) (named rs) false
 
-has-number : (rs : List Rule) → named rs ≡ true → (r : Rule) → Memᴰ r rs → 0 < r.gives.number
-has-number [] h r i = absurd (Memᴰ.not-nil i)
-has-number (q ∷ rs) h r i = go (ltb 0 q.gives.number) refl h i (λ m. has-number rs m r)
+has_number : (rs : List Rule) → named rs ≡ true → (r : Rule) → Memᴰ r rs → 0 < r.gives.number
+has_number [] h r i = absurd (Memᴰ.not-nil i)
+has_number (q ∷ rs) h r i = go (ltb 0 q.gives.number) refl h i (λ m. has_number rs m r)
   where
     go : (t : Bool) → ltb 0 q.gives.number ≡ t → cond t (named rs) false ≡ true → Memᴰ r (q ∷ rs)
         → (named rs ≡ true → Memᴰ r rs → 0 < r.gives.number) → 0 < r.gives.number
@@ -104,21 +104,21 @@ has-number (q ∷ rs) h r i = go (ltb 0 q.gives.number) refl h i (λ m. has-numb
     go false e h i ih = absurd (true≢false (sym h))
 
 -- a call that gives the refusal of the first rule that applies, or is done, keeps to the table
-pub keeps-to-table : {A : Type 0} {refusalOf : A → Refusal} {rules : List Rule} {refuse : Refusal → A} {done given : A}
-    → ((r : Refusal) → refusalOf (refuse r) ≡ r) → refusalOf done ≡ noRefusal → named rules ≡ true → given ≡ byRules rules refuse done
-    → KeepsToTable refusalOf rules refuse done given
-keeps-to-table {refusalOf = refusalOf} {rules = rules} {refuse = refuse} {done = done} {given = given} of-refused of-done h e =
+pub keeps_to_table : {A : Type 0} {refusal_of : A → Refusal} {rules : List Rule} {refuse : Refusal → A} {done given : A}
+    → ((r : Refusal) → refusal_of (refuse r) ≡ r) → refusal_of done ≡ no_refusal → named rules ≡ true → given ≡ by_rules rules refuse done
+    → KeepsToTable refusal_of rules refuse done given
+keeps_to_table {refusal_of = refusal_of} {rules = rules} {refuse = refuse} {done = done} {given = given} of_refused of_done h e =
     go (first_or_none rules)
   where
-    go : None rules ⊎ ((r : Rule) × First rules r) → KeepsToTable refusalOf rules refuse done given
+    go : None rules ⊎ ((r : Rule) × First rules r) → KeepsToTable refusal_of rules refuse done given
     go (inl n) =
-        let is : given ≡ done = e ∙ by-none refuse done rules n in
-        let its : refusalOf given ≡ noRefusal = ap refusalOf is ∙ of-done in
-        let zero : (refusalOf given).number ≡ 0 = ap (λ (x : Refusal). x.number) its in
+        let is : given ≡ done = e ∙ by_none refuse done rules n in
+        let its : refusal_of given ≡ no_refusal = ap refusal_of is ∙ of_done in
+        let zero : (refusal_of given).number ≡ 0 = ap (λ (x : Refusal). x.number) its in
         record {
           table = record {
-            done-exactly-if = (λ z. n, λ m. zero);
-            first-is-given = λ r f. absurd (true≢false (sym f.applies ∙ n r (is-rule f)));
+            done_exactly_if = (λ z. n, λ m. zero);
+            first_is_given = λ r f. absurd (true≢false (sym f.applies ∙ n r (is_rule f)));
             no_other = inl its;
           };
           refused = λ d. absurd (d zero);
@@ -126,13 +126,13 @@ keeps-to-table {refusalOf = refusalOf} {rules = rules} {refuse = refuse} {done =
         }
     go (inr (r, f)) =
         let is : given ≡ refuse r.gives = e ∙ by_first refuse done f in
-        let its : refusalOf given ≡ r.gives = ap refusalOf is ∙ of-refused r.gives in
-        let some : 0 < r.gives.number = has-number rules h r (is-rule f) in
-        let number : (refusalOf given).number ≡ r.gives.number = ap (λ (x : Refusal). x.number) its in
+        let its : refusal_of given ≡ r.gives = ap refusal_of is ∙ of_refused r.gives in
+        let some : 0 < r.gives.number = has_number rules h r (is_rule f) in
+        let number : (refusal_of given).number ≡ r.gives.number = ap (λ (x : Refusal). x.number) its in
         record {
           table = record {
-            done-exactly-if = (λ z. absurd (omega (arith, some, number, z)), λ n. absurd (true≢false (sym f.applies ∙ n r (is-rule f))));
-            first-is-given = λ q g. its ∙ one-first f g;
+            done_exactly_if = (λ z. absurd (omega (arith, some, number, z)), λ n. absurd (true≢false (sym f.applies ∙ n r (is_rule f))));
+            first_is_given = λ q g. its ∙ one_first f g;
             no_other = inr (r, f, its);
           };
           refused = λ d. is ∙ ap refuse (sym its);
@@ -140,29 +140,29 @@ keeps-to-table {refusalOf = refusalOf} {rules = rules} {refuse = refuse} {done =
         }
 
 -- the table settles the answer: two answers that keep to it are equal
-pub table-settles-answer : {A : Type 0} {refusalOf : A → Refusal} {rules : List Rule} {refuse : Refusal → A} {done a c : A}
-    → KeepsToTable refusalOf rules refuse done a → KeepsToTable refusalOf rules refuse done c → a ≡ c
-table-settles-answer {refusalOf = refusalOf} {rules = rules} {refuse = refuse} {a = a} {c = c} x y =
-    go (ℕ_discrete (refusalOf a).number 0) x.table.no_other
+pub table_settles_answer : {A : Type 0} {refusal_of : A → Refusal} {rules : List Rule} {refuse : Refusal → A} {done a c : A}
+    → KeepsToTable refusal_of rules refuse done a → KeepsToTable refusal_of rules refuse done c → a ≡ c
+table_settles_answer {refusal_of = refusal_of} {rules = rules} {refuse = refuse} {a = a} {c = c} x y =
+    go (ℕ_discrete (refusal_of a).number 0) x.table.no_other
   where
-    go : Dec ((refusalOf a).number ≡ 0) → (refusalOf a ≡ noRefusal) ⊎ ((r : Rule) × First rules r × (refusalOf a ≡ r.gives)) → a ≡ c
-    go (yes z) w = x.finished z ∙ sym (y.finished (y.table.done-exactly-if.1 (x.table.done-exactly-if.0 z)))
+    go : Dec ((refusal_of a).number ≡ 0) → (refusal_of a ≡ no_refusal) ⊎ ((r : Rule) × First rules r × (refusal_of a ≡ r.gives)) → a ≡ c
+    go (yes z) w = x.finished z ∙ sym (y.finished (y.table.done_exactly_if.1 (x.table.done_exactly_if.0 z)))
     go (no d) (inl e) = absurd (d (ap (λ (r : Refusal). r.number) e))
     go (no d) (inr (r, f, e)) =
-        let same : refusalOf a ≡ refusalOf c = e ∙ sym (y.table.first-is-given r f) in
+        let same : refusal_of a ≡ refusal_of c = e ∙ sym (y.table.first_is_given r f) in
         x.refused d ∙ ap refuse same ∙ sym (y.refused (λ z. d (ap (λ (r : Refusal). r.number) same ∙ z)))
 
 -- ---- the lowest
 
 -- a table's numbers rise from above low
 data Numbered : ℕ → List Rule → Type 0 where
-  all-numbered : {low : ℕ} → Numbered low []
+  all_numbered : {low : ℕ} → Numbered low []
   numbered : {low : ℕ} {r : Rule} {rs : List Rule} → low < r.gives.number → Numbered r.gives.number rs → Numbered low (r ∷ rs)
 
 -- they do, where the test says so
-are-numbered : (low : ℕ) (rs : List Rule) → rising low rs ≡ true → Numbered low rs
-are-numbered low [] h = all-numbered
-are-numbered low (r ∷ rs) h = go (ltb low r.gives.number) refl h (are-numbered r.gives.number rs)
+are_numbered : (low : ℕ) (rs : List Rule) → rising low rs ≡ true → Numbered low rs
+are_numbered low [] h = all_numbered
+are_numbered low (r ∷ rs) h = go (ltb low r.gives.number) refl h (are_numbered r.gives.number rs)
   where
     go : (t : Bool) → ltb low r.gives.number ≡ t → cond t (rising r.gives.number rs) false ≡ true
         → (rising r.gives.number rs ≡ true → Numbered r.gives.number rs) → Numbered low (r ∷ rs)
@@ -172,72 +172,72 @@ are-numbered low (r ∷ rs) h = go (ltb low r.gives.number) refl h (are-numbered
 above : {low : ℕ} {rs : List Rule} → Numbered low rs → (r : Rule) → Memᴰ r rs → low < r.gives.number
 above (numbered h n) r (Memᴰ.head e) = omega (arith, h, ap (λ (q : Rule). q.gives.number) e)
 above (numbered h n) r (Memᴰ.tail i) = omega (arith, h, above n r i)
-above all-numbered r i = absurd (Memᴰ.not-nil i)
+above all_numbered r i = absurd (Memᴰ.not-nil i)
 
 -- each number stands once
-once-each : {low : ℕ} {rs : List Rule} → Numbered low rs → (q r : Rule) → Memᴰ q rs → Memᴰ r rs
+once_each : {low : ℕ} {rs : List Rule} → Numbered low rs → (q r : Rule) → Memᴰ q rs → Memᴰ r rs
     → q.gives.number ≡ r.gives.number → q ≡ r
-once-each (numbered h n) q r (Memᴰ.head e) (Memᴰ.head f) z = e ∙ sym f
-once-each (numbered h n) q r (Memᴰ.head e) (Memᴰ.tail j) z =
+once_each (numbered h n) q r (Memᴰ.head e) (Memᴰ.head f) z = e ∙ sym f
+once_each (numbered h n) q r (Memᴰ.head e) (Memᴰ.tail j) z =
     absurd (omega (arith, above n r j, z, ap (λ (x : Rule). x.gives.number) e))
-once-each (numbered h n) q r (Memᴰ.tail i) (Memᴰ.head f) z =
+once_each (numbered h n) q r (Memᴰ.tail i) (Memᴰ.head f) z =
     absurd (omega (arith, above n q i, z, ap (λ (x : Rule). x.gives.number) f))
-once-each (numbered h n) q r (Memᴰ.tail i) (Memᴰ.tail j) z = once-each n q r i j z
-once-each all-numbered q r i j z = absurd (Memᴰ.not-nil i)
+once_each (numbered h n) q r (Memᴰ.tail i) (Memᴰ.tail j) z = once_each n q r i j z
+once_each all_numbered q r i j z = absurd (Memᴰ.not-nil i)
 
 -- a rule with a lower number stands before
-lower-before : {low : ℕ} (before after : List Rule) (r q : Rule) → Numbered low (before ++ r ∷ after) → Memᴰ q (before ++ r ∷ after)
+lower_before : {low : ℕ} (before after : List Rule) (r q : Rule) → Numbered low (before ++ r ∷ after) → Memᴰ q (before ++ r ∷ after)
     → q.gives.number < r.gives.number → Memᴰ q before
-lower-before [] after r q (numbered h n) (Memᴰ.head e) l = absurd (omega (arith, l, ap (λ (x : Rule). x.gives.number) e))
-lower-before [] after r q (numbered h n) (Memᴰ.tail i) l = absurd (omega (arith, l, above n q i))
-lower-before (p ∷ before) after r q (numbered h n) (Memᴰ.head e) l = Memᴰ.head e
-lower-before (p ∷ before) after r q (numbered h n) (Memᴰ.tail i) l = Memᴰ.tail (lower-before before after r q n i l)
+lower_before [] after r q (numbered h n) (Memᴰ.head e) l = absurd (omega (arith, l, ap (λ (x : Rule). x.gives.number) e))
+lower_before [] after r q (numbered h n) (Memᴰ.tail i) l = absurd (omega (arith, l, above n q i))
+lower_before (p ∷ before) after r q (numbered h n) (Memᴰ.head e) l = Memᴰ.head e
+lower_before (p ∷ before) after r q (numbered h n) (Memᴰ.tail i) l = Memᴰ.tail (lower_before before after r q n i l)
 
-first-is-lowest : {rules : List Rule} → Numbered 0 rules → (r : Rule) → First rules r → Lowest rules r
-first-is-lowest n r f = record {
+first_is_lowest : {rules : List Rule} → Numbered 0 rules → (r : Rule) → First rules r → Lowest rules r
+first_is_lowest n r f = record {
   applies = f.applies;
-  none-lower = λ q i l. f.none_before q (lower-before f.before f.after r q (subst (λ (x : List Rule). Numbered 0 x) f.stands n)
+  none_lower = λ q i l. f.none_before q (lower_before f.before f.after r q (subst (λ (x : List Rule). Numbered 0 x) f.stands n)
       (subst (λ (x : List Rule). Memᴰ q x) f.stands i) l);
 }
 
 -- of a table whose numbers rise the lowest number is given
-pub lowest-is-given : {rules : List Rule} {given : Refusal} → rising 0 rules ≡ true → ByTable rules given → LowestGiven rules given
-lowest-is-given {rules = rules} {given = given} h t = go t.no_other
+pub lowest_is_given : {rules : List Rule} {given : Refusal} → rising 0 rules ≡ true → ByTable rules given → LowestGiven rules given
+lowest_is_given {rules = rules} {given = given} h t = go t.no_other
   where
     n : Numbered 0 rules
-    n = are-numbered 0 rules h
+    n = are_numbered 0 rules h
 
-    go : (given ≡ noRefusal) ⊎ ((r : Rule) × First rules r × (given ≡ r.gives)) → LowestGiven rules given
+    go : (given ≡ no_refusal) ⊎ ((r : Rule) × First rules r × (given ≡ r.gives)) → LowestGiven rules given
     go (inl e) =
         let x : given.number ≡ 0 = ap (λ (r : Refusal). r.number) e in
-        let f = t.done-exactly-if.0 x in
+        let f = t.done_exactly_if.0 x in
         record {
-          done-exactly-if = t.done-exactly-if;
-          given-exactly-if = λ r i. (λ e. absurd (omega (arith, above n r i, e, x)), λ w. absurd (true≢false (sym w.applies ∙ f r i)));
+          done_exactly_if = t.done_exactly_if;
+          given_exactly_if = λ r i. (λ e. absurd (omega (arith, above n r i, e, x)), λ w. absurd (true≢false (sym w.applies ∙ f r i)));
           no_other = inl x;
-          done-place = λ z. ap (λ (r : Refusal). r.place) e;
-          its-place = λ r i e. absurd (omega (arith, above n r i, e, x));
+          done_place = λ z. ap (λ (r : Refusal). r.place) e;
+          its_place = λ r i e. absurd (omega (arith, above n r i, e, x));
         }
     go (inr (s, f, e)) =
-        let i = is-rule f in
-        let w = first-is-lowest n s f in
+        let i = is_rule f in
+        let w = first_is_lowest n s f in
         let x : given.number ≡ s.gives.number = ap (λ (r : Refusal). r.number) e in
         let y : given.place ≡ s.gives.place = ap (λ (r : Refusal). r.place) e in
         record {
-          done-exactly-if = t.done-exactly-if;
-          given-exactly-if = λ r j. (
-            λ z. subst (λ (q : Rule). Lowest rules q) (once-each n s r i j (sym x ∙ z)) w,
+          done_exactly_if = t.done_exactly_if;
+          given_exactly_if = λ r j. (
+            λ z. subst (λ (q : Rule). Lowest rules q) (once_each n s r i j (sym x ∙ z)) w,
             λ v. x ∙ same s i w r j v (dec_lt r.gives.number s.gives.number) (dec_lt s.gives.number r.gives.number),
           );
           no_other = inr (s, i, x);
-          done-place = λ z. absurd (omega (arith, above n s i, z, x));
-          its-place = λ r j z. y ∙ ap (λ (q : Rule). q.gives.place) (once-each n s r i j (sym x ∙ z));
+          done_place = λ z. absurd (omega (arith, above n s i, z, x));
+          its_place = λ r j z. y ∙ ap (λ (q : Rule). q.gives.place) (once_each n s r i j (sym x ∙ z));
         }
       where
         -- two rules that are the lowest have one number
         same : (s : Rule) → Memᴰ s rules → Lowest rules s → (r : Rule) → Memᴰ r rules → Lowest rules r
             → Dec (r.gives.number < s.gives.number)
             → Dec (s.gives.number < r.gives.number) → s.gives.number ≡ r.gives.number
-        same s i w r j v (yes l) b = absurd (true≢false (sym v.applies ∙ w.none-lower r j l))
-        same s i w r j v (no a) (yes l) = absurd (true≢false (sym w.applies ∙ v.none-lower s i l))
+        same s i w r j v (yes l) b = absurd (true≢false (sym v.applies ∙ w.none_lower r j l))
+        same s i w r j v (no a) (yes l) = absurd (true≢false (sym w.applies ∙ v.none_lower s i l))
         same s i w r j v (no a) (no b) = omega arith

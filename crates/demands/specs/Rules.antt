@@ -3,7 +3,7 @@
 -- Assumes nothing.
 use Rattle.std.specs.Prelude.{◌≡◌, ◌⊎◌, ◌↔◌, Bool, true, false, cond, ℕ, ◌<◌, ltb}
 use mathlib.Core.List.{List, [], ◌∷◌, ◌++◌, Memᴰ}
-use Rattle.book.specs.Test.{refusal, noRefusal}
+use Rattle.book.specs.Test.{refusal, no_refusal}
 use Rattle.book.specs.declared.Refusal.{Refusal}
 
 -- one rule: whether its condition holds, and the refusal that it gives
@@ -29,9 +29,9 @@ pub record First (rules : List Rule) (r : Rule) : Type 0 where
 
 -- the refusal that is given is the table's: that of the first rule that applies, or none
 pub record ByTable (rules : List Rule) (given : Refusal) : Type 0 where
-  pub done-exactly-if : (given.number ≡ 0) ↔ None rules
-  pub first-is-given : (r : Rule) → First rules r → given ≡ r.gives
-  pub no_other : (given ≡ noRefusal) ⊎ ((r : Rule) × First rules r × (given ≡ r.gives))
+  pub done_exactly_if : (given.number ≡ 0) ↔ None rules
+  pub first_is_given : (r : Rule) → First rules r → given ≡ r.gives
+  pub no_other : (given ≡ no_refusal) ⊎ ((r : Rule) × First rules r × (given ≡ r.gives))
 
 -- the numbers of a table rise, from above low
 abbrev pub rising : ℕ → List Rule → Bool
@@ -41,19 +41,19 @@ rising low (r ∷ rs) = cond (ltb low r.gives.number) (rising r.gives.number rs)
 -- r applies, and no rule with a lower number does
 pub record Lowest (rules : List Rule) (r : Rule) : Type 0 where
   pub applies : r.applies ≡ true
-  pub none-lower : (q : Rule) → Memᴰ q rules → q.gives.number < r.gives.number → q.applies ≡ false
+  pub none_lower : (q : Rule) → Memᴰ q rules → q.gives.number < r.gives.number → q.applies ≡ false
 
 -- "Where several apply, the lowest number is given"
 pub record LowestGiven (rules : List Rule) (given : Refusal) : Type 0 where
-  pub done-exactly-if : (given.number ≡ 0) ↔ None rules
-  pub given-exactly-if : (r : Rule) → Memᴰ r rules → (given.number ≡ r.gives.number) ↔ Lowest rules r
+  pub done_exactly_if : (given.number ≡ 0) ↔ None rules
+  pub given_exactly_if : (r : Rule) → Memᴰ r rules → (given.number ≡ r.gives.number) ↔ Lowest rules r
   pub no_other : (given.number ≡ 0) ⊎ ((r : Rule) × Memᴰ r rules × (given.number ≡ r.gives.number))
-  pub done-place : given.number ≡ 0 → given.place ≡ 0
-  pub its-place : (r : Rule) → Memᴰ r rules → given.number ≡ r.gives.number → given.place ≡ r.gives.place
+  pub done_place : given.number ≡ 0 → given.place ≡ 0
+  pub its_place : (r : Rule) → Memᴰ r rules → given.number ≡ r.gives.number → given.place ≡ r.gives.place
 
 -- what a call has given keeps to the table: `refuse r` is the refusal r with all counts 0 and every lent buffer as it was, `done` is the
 -- whole answer. "After a refusal the counts are 0 and no lent buffer has changed."
-pub record KeepsToTable {A : Type 0} (refusalOf : A → Refusal) (rules : List Rule) (refuse : Refusal → A) (done given : A) : Type 0 where
-  pub table : ByTable rules (refusalOf given)
-  pub refused : ((refusalOf given).number ≡ 0 → ⊥) → given ≡ refuse (refusalOf given)
-  pub finished : (refusalOf given).number ≡ 0 → given ≡ done
+pub record KeepsToTable {A : Type 0} (refusal_of : A → Refusal) (rules : List Rule) (refuse : Refusal → A) (done given : A) : Type 0 where
+  pub table : ByTable rules (refusal_of given)
+  pub refused : ((refusal_of given).number ≡ 0 → ⊥) → given ≡ refuse (refusal_of given)
+  pub finished : (refusal_of given).number ≡ 0 → given ≡ done

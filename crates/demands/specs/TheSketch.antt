@@ -1,7 +1,7 @@
 -- What a re-run leaves of the junction sketch, as a plain statement. What the sketch is: crates/links/specs.
 -- Assumes nothing.
 use Rattle.std.specs.Prelude.{◌≡◌, List, [], ◌∷◌, map}
-use Rattle.network.specs.Path.{wayLength}
+use Rattle.network.specs.Path.{way_length}
 use Rattle.loops.specs.Row.{listed}
 use Rattle.links.specs.Link.{Link}
 use Rattle.links.specs.Sketch.{Sketch}
@@ -10,8 +10,8 @@ use Rattle.links.specs.Sketch.{Sketch}
 pub record SameButDifference (before after : Link) : Type 0 where
   pub first : after.first ≡ before.first
   pub last : after.last ≡ before.last
-  pub lines-and-sense : map listed after.way ≡ map listed before.way
-  pub long : wayLength after.way ≡ wayLength before.way
+  pub lines_and_sense : map listed after.way ≡ map listed before.way
+  pub long : way_length after.way ≡ way_length before.way
 
 -- ".. and order": one to one, in the same places
 pub data AllSame : List Link → List Link → Type 0 where

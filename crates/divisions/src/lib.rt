@@ -1,14 +1,14 @@
 // The two divisions of the adjustment: a line's weight, and how far a mark moves. Document 01, "Adjustment".
 ghost use Rattle.std.specs.Prelude.{◌≡◌, ◌<◌, ◌^◌, nat_abs};
-ghost use Rattle.divisions.specs.Weight.{weightOf};
-ghost use Rattle.divisions.specs.Nearest.{nearestSize, nearest};
+ghost use Rattle.divisions.specs.Weight.{weight_of};
+ghost use Rattle.divisions.specs.Nearest.{nearest_size, nearest};
 
 mod quotient;
 
 // A line's weight: the one division of the weights.
 pub fn weight(length: usize) -> usize
     requires { 0 < length }
-    ensures { result ≡ weightOf length }
+    ensures { result ≡ weight_of length }
 {
     // Twice a longer one may not fit.
     if 1000000 < length {
@@ -37,7 +37,7 @@ fn nearest_size(a: usize, d: usize) -> usize
     requires fact_1 { 0 < d }
     requires fact_2 { d < 2 ^ 62 }
     requires fact_3 { a < 2 ^ 63 }
-    ensures { result ≡ nearestSize a d }
+    ensures { result ≡ nearest_size a d }
 {
     let divided = quotient::divide(a, d);
     if d < 2 * divided.remainder {

@@ -1,7 +1,7 @@
 // What is read of a tested book: the marks and the difference of the line at a place.
 ghost use Rattle.std.specs.Prelude.{◌≡◌, ◌≤◌, ◌<◌, nat_abs};
-ghost use Rattle.book.specs.Limits.{mostDifference};
-ghost use Rattle.book.specs.Line.{fromAt, to_at, differenceAt};
+ghost use Rattle.book.specs.Limits.{most_difference};
+ghost use Rattle.book.specs.Line.{from_at, to_at, difference_at};
 ghost use Rattle.fields.specs.Places.{Place};
 
 use book::line::Line;
@@ -9,7 +9,7 @@ use book::line::Line;
 // The marks of the line at place i, and its difference.
 pub fn from_mark(lines: &[i64], b: usize, n: usize, i: usize) -> usize
     requires { Place lines.now b n i }
-    ensures { (result ≡ nat_abs (fromAt lines.now i)) × (0 < result) × (result ≤ b) }
+    ensures { (result ≡ nat_abs (from_at lines.now i)) × (0 < result) × (result ≤ b) }
 {
     signed::index(lines[i * Line::WORDS + Line::FROM])
 }
@@ -23,7 +23,7 @@ pub fn to_mark(lines: &[i64], b: usize, n: usize, i: usize) -> usize
 
 pub fn difference_of(lines: &[i64], b: usize, n: usize, i: usize) -> i64
     requires { Place lines.now b n i }
-    ensures { (result ≡ differenceAt lines.now i) × (nat_abs result ≤ mostDifference) }
+    ensures { (result ≡ difference_at lines.now i) × (nat_abs result ≤ most_difference) }
 {
     lines[i * Line::WORDS + Line::DIFFERENCE]
 }

@@ -13,17 +13,17 @@ use mir.Val.{to_z}
 use Rattle.file.specs.Wire.{be}
 
 -- j bytes and the k bytes after them
-pub be-join : (j k : ℕ) (s : List ℕ) (a : ℕ) → be (j + k) s a ≡ be j s a * 256 ^ k + be k s (a + j)
+pub be_join : (j k : ℕ) (s : List ℕ) (a : ℕ) → be (j + k) s a ≡ be j s a * 256 ^ k + be k s (a + j)
 unfolding be
-be-join j zero s a = rw (add-zero j) (omega arith)
-be-join j (suc k) s a =
-    let h = be-join j k s a in
+be_join j zero s a = rw (add-zero j) (omega arith)
+be_join j (suc k) s a =
+    let h = be_join j k s a in
     let e : get_or s (a + (j + k)) 0 ≡ get_or s (a + j + k) 0 = rw (add_assoc a j k) in
     rw (add-suc j k, pow-suc 256 k) (omega arith)
 
-pub minus-one-less : (m : ℕ) → negsuc 0 -ℤ pos m ≡ negsuc m
-minus-one-less zero = refl
-minus-one-less (suc m) = ap (λ (k : ℕ). negsuc (suc k)) (omega arith)
+pub minus_one_less : (m : ℕ) → negsuc 0 -ℤ pos m ≡ negsuc m
+minus_one_less zero = refl
+minus_one_less (suc m) = ap (λ (k : ℕ). negsuc (suc k)) (omega arith)
 
 -- bits with the highest one set
 pub high32 : (x : ℕ) → 2147483648 ≤ x → to_z w32 x ≡ negsuc (4294967296 - suc x)

@@ -9,31 +9,31 @@ use native.Mathlib.Omega.{arith}
 use lib.Dec.{ltb}
 use lib.ListN.{length, drop}
 use lib.IntN.{ℤ}
-use Rattle.book.specs.Limits.{mostLines}
-use Rattle.book.specs.Held.{heldWords, heldCount}
-use Rattle.book.specs.Line.{lineWords, lineCount}
+use Rattle.book.specs.Limits.{most_lines}
+use Rattle.book.specs.Held.{held_words, held_count}
+use Rattle.book.specs.Line.{line_words, line_count}
 use Rattle.book.specs.Test.{refusal, test_of}
 use Rattle.book.specs.Good.{GoodBook}
 use Rattle.book.proofs.IfGood.{either_way}
-use Rattle.book.proofs.Goods.{tested-good, tested-counts, tested-numbered}
+use Rattle.book.proofs.Goods.{tested_good, tested_counts, tested_numbered}
 use Rattle.book.specs.declared.Book.{Book}
 use Rattle.book.specs.declared.Refusal.{Refusal}
 use Rattle.book.specs.declared.Tested.TheVariants.{Good, Refused}
-use Rattle.file.specs.Read.{Outcome, answered, refusedWith, done, held_of, lines_of, bookIn, head_of, roomOf, body_of, after_head, read_of}
+use Rattle.file.specs.Read.{Outcome, answered, refused_with, done, held_of, lines_of, book_in, head_of, room_of, body_of, after_head, read_of}
 use Rattle.file.specs.Owed.{BookRead, FileRefused}
 use Rattle.file.specs.declared.Head as head
 use Rattle.file.specs.declared.Head.{Head}
 use Rattle.file.specs.declared.entry.Kind.TheVariants.{Held}
-use Rattle.file.proofs.Entries.{entries-length, lines-length}
-use Rattle.file.proofs.Heads.{head-numbered}
+use Rattle.file.proofs.Entries.{entries_length, lines_length}
+use Rattle.file.proofs.Heads.{head_numbered}
 
 module _ (file : List ℕ) (held lines : List ℤ) where
   -- read, or refused with a number
   abbrev pub ReadOrRefused : Outcome → Type 0
   ReadOrRefused o = BookRead file held lines o ⊎ FileRefused held lines o
 
-  refuses : (number place : ℕ) → 0 < number → number ≤ 10 → place ≤ mostLines
-      → ReadOrRefused (answered held lines (refusedWith (refusal number place)))
+  refuses : (number place : ℕ) → 0 < number → number ≤ 10 → place ≤ most_lines
+      → ReadOrRefused (answered held lines (refused_with (refusal number place)))
   refuses number place low high near =
       inr (record {
         number = number;
@@ -43,61 +43,61 @@ module _ (file : List ℕ) (held lines : List ℤ) where
         near = near;
         answer = refl;
         held_kept = refl;
-        lines-kept
+        lines_kept
             = refl;
       })
 
   GoodFile : Book → Type 0
-  GoodFile k = GoodBook k (bookIn file k)
+  GoodFile k = GoodBook k (book_in file k)
 
   -- as many entries as were read
-  pub held-entries : (k : Book) → heldCount (held_of file k) ≡ k.held
+  pub held_entries : (k : Book) → held_count (held_of file k) ≡ k.held
   unfolding held_of
-  held-entries k = let l = entries-length Held file 13 k.held in omega arith
+  held_entries k = let l = entries_length Held file 13 k.held in omega arith
 
-  pub line-entries : (k : Book) → lineCount (lines_of file k) ≡ k.lines
-  line-entries k = let l = lines-length file k in omega arith
+  pub line_entries : (k : Book) → line_count (lines_of file k) ≡ k.lines
+  line_entries k = let l = lines_length file k in omega arith
 
-  room-or-ten : (k : Book) → GoodFile k → ReadOrRefused (roomOf file k held lines)
-  unfolding roomOf GoodFile
-  room-or-ten k good = go (ltb (length held) (k.held * heldWords)) (ltb (length lines) (k.lines * lineWords))
+  room_or_ten : (k : Book) → GoodFile k → ReadOrRefused (room_of file k held lines)
+  unfolding room_of GoodFile
+  room_or_ten k good = go (ltb (length held) (k.held * held_words)) (ltb (length lines) (k.lines * line_words))
     where
       go : (s t : Bool)
-          → ReadOrRefused (cond s (answered held lines (refusedWith (refusal 10 0)))
-          (cond t (answered held lines (refusedWith (refusal 10 0))) (record {
+          → ReadOrRefused (cond s (answered held lines (refused_with (refusal 10 0)))
+          (cond t (answered held lines (refused_with (refusal 10 0))) (record {
             answer = done k;
-            held = held_of file k ++ drop (k.held * heldWords) held;
-            lines = lines_of file k ++ drop (k.lines * lineWords) lines;
+            held = held_of file k ++ drop (k.held * held_words) held;
+            lines = lines_of file k ++ drop (k.lines * line_words) lines;
           })))
       go true t = refuses 10 0 (omega arith) (omega arith) (omega arith)
       go false true = refuses 10 0 (omega arith) (omega arith) (omega arith)
-      go false false = inl (record { book = k; answer = refl; good = good; held-now = refl; lines_now = refl })
+      go false false = inl (record { book = k; answer = refl; good = good; held_now = refl; lines_now = refl })
 
   body : (k : Book) → ReadOrRefused (body_of file k held lines)
   unfolding body_of GoodFile
-  body k = either_way (test_of (bookIn file k)) _ _ ReadOrRefused bad good
+  body k = either_way (test_of (book_in file k)) _ _ ReadOrRefused bad good
     where
-      bad : (r : Refusal) → test_of (bookIn file k) ≡ Refused r → ReadOrRefused (answered held lines (refusedWith r))
-      bad r e = let w = tested-numbered (bookIn file k) r e in refuses r.number r.place w.low (omega (arith, w.high)) w.near
+      bad : (r : Refusal) → test_of (book_in file k) ≡ Refused r → ReadOrRefused (answered held lines (refused_with r))
+      bad r e = let w = tested_numbered (book_in file k) r e in refuses r.number r.place w.low (omega (arith, w.high)) w.near
 
-      good : (j : Book) → test_of (bookIn file k) ≡ Good j → ReadOrRefused (roomOf file k held lines)
+      good : (j : Book) → test_of (book_in file k) ≡ Good j → ReadOrRefused (room_of file k held lines)
       good j e =
-          let same : j ≡ k = tested-counts (bookIn file k) j e ∙ rw (held-entries k, line-entries k) in
-          room-or-ten k (subst (λ (x : Book). GoodBook x (bookIn file k)) same (tested-good (bookIn file k) j e))
+          let same : j ≡ k = tested_counts (book_in file k) j e ∙ rw (held_entries k, line_entries k) in
+          room_or_ten k (subst (λ (x : Book). GoodBook x (book_in file k)) same (tested_good (book_in file k) j e))
 
   -- every file is read as a book inside the limits, or refused
-  pub read-or-refused : ReadOrRefused (read_of file held lines)
+  pub read_or_refused : ReadOrRefused (read_of file held lines)
   unfolding read_of after_head
-  read-or-refused = go (head_of file) refl
+  read_or_refused = go (head_of file) refl
     where
       go : (o : Head) → head_of file ≡ o → ReadOrRefused (after_head file held lines o)
       go (head.TheVariants.Refused number) e =
-          let w = head-numbered file number e in refuses number 0 w.0 (omega (arith, w.1)) (omega arith)
+          let w = head_numbered file number e in refuses number 0 w.0 (omega (arith, w.1)) (omega arith)
       go (head.TheVariants.States k) e = body k
 
   -- the answer 0 says which
-  pub zero-is-read : (read_of file held lines).answer.refusal.number ≡ 0 → BookRead file held lines (read_of file held lines)
-  zero-is-read z = go read-or-refused
+  pub zero_is_read : (read_of file held lines).answer.refusal.number ≡ 0 → BookRead file held lines (read_of file held lines)
+  zero_is_read z = go read_or_refused
     where
       go : ReadOrRefused (read_of file held lines) → BookRead file held lines (read_of file held lines)
       go (inl r) = r

@@ -1,9 +1,9 @@
 // The entries of a book file. Document 01: "Each entry is read as a part of the file that begins in its middle."
 ghost use Rattle.std.specs.Prelude.{◌≡◌, ◌++◌, ◌+◌, ◌*◌, ◌≤◌, ◌<◌, ◌^◌, length, drop};
-ghost use Rattle.book.specs.Held.{heldWords};
-ghost use Rattle.book.specs.Line.{lineWords};
+ghost use Rattle.book.specs.Held.{held_words};
+ghost use Rattle.book.specs.Line.{line_words};
 ghost use Rattle.file.specs.declared.entry.Kind.TheVariants.{ClassedLine};
-ghost use Rattle.file.specs.Entry.{entryBytes, entryWords, heldNumbers, lineNumbers, lineKind, numbers, entries};
+ghost use Rattle.file.specs.Entry.{entry_bytes, entry_words, held_numbers, line_numbers, line_kind, numbers, entries};
 
 use crate::wire;
 use book::Book;
@@ -28,7 +28,7 @@ impl Kind {
     // What the lines of a file of this version are.
     pub fn of_lines(version: usize) -> Kind
         requires { version < 2 ^ 63 }
-        ensures { result ≡ lineKind version }
+        ensures { result ≡ line_kind version }
     {
         if Book::has_classes(signed::signed_count(version)) {
             return Kind::ClassedLine;
@@ -38,7 +38,7 @@ impl Kind {
 
     // Bytes of an entry in the file.
     pub fn bytes(self) -> usize
-        ensures { result ≡ entryBytes self }
+        ensures { result ≡ entry_bytes self }
     {
         match self {
             Kind::Held => Kind::HELD_BYTES,
@@ -49,7 +49,7 @@ impl Kind {
 
     // Numbers of an entry in memory.
     pub fn words(self) -> usize
-        ensures { result ≡ entryWords self }
+        ensures { result ≡ entry_words self }
     {
         match self {
             Kind::Held => Held::WORDS,
@@ -61,8 +61,8 @@ impl Kind {
 
 // A held entry: mark 2 bytes, height 8 signed.
 fn read_held(e: &[u8], out: &mut [i64])
-    requires { (length e.now ≡ 10) × (length out.old ≡ heldWords) }
-    ensures { out.new ≡ heldNumbers e.now }
+    requires { (length e.now ≡ 10) × (length out.old ≡ held_words) }
+    ensures { out.new ≡ held_numbers e.now }
 {
     let mark = wire::plain(wire::be2(e, 0));
     let height = wire::signed8(wire::be8(e, 2));
@@ -72,8 +72,8 @@ fn read_held(e: &[u8], out: &mut [i64])
 
 // A line: from 2 bytes, to 2, difference 4 signed, length 4.
 fn read_line(e: &[u8], standing: i64, class: i64, out: &mut [i64])
-    requires { (12 ≤ length e.now) × (length out.old ≡ lineWords) }
-    ensures { out.new ≡ lineNumbers standing class e.now }
+    requires { (12 ≤ length e.now) × (length out.old ≡ line_words) }
+    ensures { out.new ≡ line_numbers standing class e.now }
 {
     let from = wire::plain(wire::be2(e, 0));
     let to = wire::plain(wire::be2(e, 2));
@@ -89,7 +89,7 @@ fn read_line(e: &[u8], standing: i64, class: i64, out: &mut [i64])
 
 // After them class 1 byte, standing 1.
 fn read_classed_line(e: &[u8], out: &mut [i64])
-    requires { (length e.now ≡ 14) × (length out.old ≡ lineWords) }
+    requires { (length e.now ≡ 14) × (length out.old ≡ line_words) }
     ensures { out.new ≡ numbers ClassedLine e.now }
 {
     let class = wire::plain(wire::be1(e, 12));
@@ -99,7 +99,7 @@ fn read_classed_line(e: &[u8], out: &mut [i64])
 
 // One entry: its part of the file, and the places that it fills.
 fn read_entry(kind: Kind, e: &[u8], out: &mut [i64])
-    requires { (length e.now ≡ entryBytes kind) × (length out.old ≡ entryWords kind) }
+    requires { (length e.now ≡ entry_bytes kind) × (length out.old ≡ entry_words kind) }
     ensures { out.new ≡ numbers kind e.now }
 {
     match kind {
@@ -111,8 +111,8 @@ fn read_entry(kind: Kind, e: &[u8], out: &mut [i64])
 
 // The n entries from place a of the file on.
 pub(crate) fn read_entries(kind: Kind, file: &[u8], a: usize, n: usize, out: &mut [i64])
-    requires { (a + n * entryBytes kind ≤ length file.now) × (n * entryWords kind ≤ length out.old) }
-    ensures { out.new ≡ entries kind file.now a n ++ drop (n * entryWords kind) out.old }
+    requires { (a + n * entry_bytes kind ≤ length file.now) × (n * entry_words kind ≤ length out.old) }
+    ensures { out.new ≡ entries kind file.now a n ++ drop (n * entry_words kind) out.old }
 {
     let bytes = kind.bytes();
     let words = kind.words();

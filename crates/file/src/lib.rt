@@ -1,9 +1,9 @@
 // The reader of book files: bytes into held entries and lines, or the first refusal of document 01's table.
 // It takes any part of a longer input as its file.
 ghost use Rattle.std.specs.Prelude.{◌≡◌, ◌≤◌, length};
-ghost use Rattle.book.specs.Limits.{mostVersion, mostHeld, mostLines};
+ghost use Rattle.book.specs.Limits.{most_version, most_held, most_lines};
 ghost use Rattle.book.specs.Test.{refusal, test_of};
-ghost use Rattle.file.specs.Read.{Stated, length_of, head_of, answered, refusedWith, bookIn, body_of, roomOf, read_of};
+ghost use Rattle.file.specs.Read.{Stated, length_of, head_of, answered, refused_with, book_in, body_of, room_of, read_of};
 
 pub mod entry;
 mod wire;
@@ -47,13 +47,13 @@ pub const H_AT: usize = 9;
 pub const N_AT: usize = 11;
 
 fn refuse(number: usize, place: usize) -> ReadAnswer
-    ensures { result ≡ refusedWith (refusal number place) }
+    ensures { result ≡ refused_with (refusal number place) }
 {
     refused(Refusal::new(number, place))
 }
 
 fn refused(refusal: Refusal) -> ReadAnswer
-    ensures { result ≡ refusedWith refusal }
+    ensures { result ≡ refused_with refusal }
 {
     ReadAnswer {
         refusal,
@@ -67,7 +67,7 @@ fn refused(refusal: Refusal) -> ReadAnswer
 
 // How many bytes the file of such a book has.
 pub fn length_of(book: Book) -> usize
-    requires { (book.version ≤ mostVersion) × (book.held ≤ mostHeld) × (book.lines ≤ mostLines) }
+    requires { (book.version ≤ most_version) × (book.held ≤ most_held) × (book.lines ≤ most_lines) }
     ensures { result ≡ length_of book }
 {
     let line_bytes = Kind::of_lines(book.version).bytes();
@@ -104,7 +104,7 @@ fn head_of(file: &[u8]) -> Head
 // Refusals 6 and 7: the entries are read where nobody sees them, and tested as every call tests a lent book.
 fn tested(file: &[u8], book: Book) -> Tested
     requires { Stated (length file.now) book }
-    ensures { result ≡ test_of (bookIn file.now book) }
+    ensures { result ≡ test_of (book_in file.now book) }
 {
     let h = book.held;
     let n = book.lines;
@@ -130,7 +130,7 @@ fn tested(file: &[u8], book: Book) -> Tested
 fn fill(file: &[u8], book: Book, held: &mut [i64], lines: &mut [i64]) -> ReadAnswer
     requires { Stated (length file.now) book }
     ensures { answered held.new lines.new result
-        ≡ roomOf file.now book held.old lines.old }
+        ≡ room_of file.now book held.old lines.old }
 {
     let h = book.held;
     let n = book.lines;

@@ -14,11 +14,11 @@ pub record MovedTo (l₀ l : List ℕ) (i : ℕ) : Type 0 where
   pub moved : (k : ℕ) → k < i → get_or l k 0 ≡ get_or l₀ (suc k) 0
   pub rest : (k : ℕ) → i ≤ k → get_or l k 0 ≡ get_or l₀ k 0
 
-pub moved-start : (l : List ℕ) → MovedTo l l 0
-moved-start l = record { as_long = refl; moved = λ k h. absurd (omega arith); rest = λ k h. refl }
+pub moved_start : (l : List ℕ) → MovedTo l l 0
+moved_start l = record { as_long = refl; moved = λ k h. absurd (omega arith); rest = λ k h. refl }
 
-pub moved-next : (l₀ l : List ℕ) (i : ℕ) → i + 1 < length l₀ → MovedTo l₀ l i → MovedTo l₀ (set l i (get_or l (i + 1) 0)) (i + 1)
-moved-next l₀ l i h t = record { as_long = simp length-set t.as_long; moved = moved; rest = rest }
+pub moved_next : (l₀ l : List ℕ) (i : ℕ) → i + 1 < length l₀ → MovedTo l₀ l i → MovedTo l₀ (set l i (get_or l (i + 1) 0)) (i + 1)
+moved_next l₀ l i h t = record { as_long = simp length-set t.as_long; moved = moved; rest = rest }
   where
     moved : (k : ℕ) → k < i + 1 → get_or (set l i (get_or l (i + 1) 0)) k 0 ≡ get_or l₀ (suc k) 0
     moved k b = go (ℕ_discrete k i)
@@ -33,10 +33,10 @@ moved-next l₀ l i h t = record { as_long = simp length-set t.as_long; moved = 
     rest : (k : ℕ) → i + 1 ≤ k → get_or (set l i (get_or l (i + 1) 0)) k 0 ≡ get_or l₀ k 0
     rest k b = get_or-set_other l i k (get_or l (i + 1) 0) 0 (λ z. absurd (omega arith)) ∙ t.rest k (omega arith)
 
-pub moved-end : (l₀ l : List ℕ) (last i : ℕ) → suc last ≡ length l₀ → last ≡ i → MovedTo l₀ l i
+pub moved_end : (l₀ l : List ℕ) (last i : ℕ) → suc last ≡ length l₀ → last ≡ i → MovedTo l₀ l i
     → set l last (get_or l₀ 0 0) ≡ rotated 1 l₀
-moved-end [] l last i h e t = absurd (omega arith)
-moved-end (a ∷ l₀) l last i h e t =
+moved_end [] l last i h e t = absurd (omega arith)
+moved_end (a ∷ l₀) l last i h e t =
     ext_get_or 0 (set l last a) (l₀ ++ (a ∷ [])) (simp (length-set, length-append) (omega (arith, t.as_long))) each
   where
     each : (k : ℕ) → k < length (set l last a) → get_or (set l last a) k 0 ≡ get_or (l₀ ++ (a ∷ [])) k 0

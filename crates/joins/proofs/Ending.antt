@@ -5,17 +5,17 @@ use mathlib.Core.Path.{◌≡◌, refl, sym, ◌∙◌, ap, subst}
 use mathlib.Core.Logic.{◌⊎◌, inl, inr}
 use mathlib.Core.List.{List}
 use lib.ListN.{length}
-use Rattle.book.specs.Limits.{mostLines}
+use Rattle.book.specs.Limits.{most_lines}
 use Rattle.network.specs.Standing.{Line}
 use Rattle.links.specs.Sketch.{Sketch, step, steps}
 use Rattle.links.specs.Steps.{NoneLeft}
 use Rattle.links.specs.Stage.{Stage}
 use Rattle.links.proofs.OneStep.{Next, step_is, none_made}
 use Rattle.links.proofs.OneSketch.{one_less, stays}
-use Rattle.links.proofs.Stages.{stage-step}
+use Rattle.links.proofs.Stages.{stage_step}
 use Rattle.joins.specs.Step.{Tabled, Room, StageIn, Stepped, StepsTaken}
 use Rattle.joins.specs.declared.Counts.{Counts}
-use Rattle.joins.proofs.Taking.{rows-enough}
+use Rattle.joins.proofs.Taking.{rows_enough}
 
 -- the sketch has come from s₀ to where it is now, and the steps from here end where those from there do
 pub record Going (b : ℕ) (lines : List Line) (s₀ : Sketch) (rows runs : List ℕ) (c : Counts) : Type 0 where
@@ -31,20 +31,20 @@ pub going_start : (b : ℕ) (rows runs : List ℕ) (c : Counts) → AllGoing b r
 going_start b rows runs c = record { of = λ lines s st t. record { sketch = s; stage = st; tabled = t; leads = refl } }
 
 -- as many marks, by another count
-pub stage-same : {n n' : ℕ} {rows runs : List ℕ} {c : Counts} → n ≡ n' → StageIn (n' - 1) rows runs c → StageIn (n - 1) rows runs c
-stage-same {rows = rows} {runs = runs} {c = c} e = subst (λ (k : ℕ). StageIn (k - 1) rows runs c) (sym e)
+pub stage_same : {n n' : ℕ} {rows runs : List ℕ} {c : Counts} → n ≡ n' → StageIn (n' - 1) rows runs c → StageIn (n - 1) rows runs c
+stage_same {rows = rows} {runs = runs} {c = c} e = subst (λ (k : ℕ). StageIn (k - 1) rows runs c) (sym e)
 
 pub stepped_same : {n n' : ℕ} → n ≡ n' → (c : Counts) (rows runs rows' runs' : List ℕ) (c' : Counts)
     → Stepped (n - 1) c rows runs rows' runs' c' → Stepped (n' - 1) c rows runs rows' runs' c'
 stepped_same e c rows runs rows' runs' c' = subst (λ (k : ℕ). Stepped (k - 1) c rows runs rows' runs' c') e
 
 -- room for what is in the tables
-pub room_of : {s : Sketch} {rows runs : List ℕ} {c : Counts} → Tabled s rows runs c → length rows ≤ mostLines → Room rows c
-room_of t few = record { few = few; enough = rows-enough t }
+pub room_of : {s : Sketch} {rows runs : List ℕ} {c : Counts} → Tabled s rows runs c → length rows ≤ most_lines → Room rows c
+room_of t few = record { few = few; enough = rows_enough t }
 
 module _ {b : ℕ} {rows₀ runs₀ : List ℕ} {c₀ : Counts} {rows runs : List ℕ} {c : Counts} (g : AllGoing b rows₀ runs₀ c₀ rows runs c) where
-  pub stage-in : StageIn b rows₀ runs₀ c₀ → StageIn b rows runs c
-  stage-in e = let x = g.of e.lines e.sketch e.stage e.tabled in
+  pub stage_in : StageIn b rows₀ runs₀ c₀ → StageIn b rows runs c
+  stage_in e = let x = g.of e.lines e.sketch e.stage e.tabled in
       record { lines = e.lines; sketch = x.sketch; stage = x.stage; tabled = x.tabled }
 
 module _ {b : ℕ} {rows₀ runs₀ : List ℕ} {c₀ : Counts} {rows runs : List ℕ} {c : Counts} (g : AllGoing b rows₀ runs₀ c₀ rows runs c)
@@ -67,24 +67,24 @@ module _ {b : ℕ} {rows₀ runs₀ : List ℕ} {c₀ : Counts} {rows runs : Lis
           go : Next b x.sketch (step b x.sketch) ⊎ NoneLeft b x.sketch → Going b lines s₀ rows' runs' c'
           go (inl n) = record {
             sketch = step b x.sketch;
-            stage = stage-step x.stage;
+            stage = stage_step x.stage;
             tabled = u;
             leads = one_more n ∙ x.leads;
           }
           go (inr none) =
-              absurd (d (x.tabled.links-are ∙ ap (λ (z : Sketch). length z.links) (sym (none_made b x.sketch none))
-              ∙ sym u.links-are))
+              absurd (d (x.tabled.links_are ∙ ap (λ (z : Sketch). length z.links) (sym (none_made b x.sketch none))
+              ∙ sym u.links_are))
 
   -- and the links are one fewer
   pub fewer : StageIn b rows₀ runs₀ c₀ → (c.links ≡ c'.links → ⊥) → c'.links < c.links
-  fewer e d = let x = stage-in g e in go x (f x.lines x.sketch x.stage x.tabled) (step_is b x.sketch x.stage.rises)
+  fewer e d = let x = stage_in g e in go x (f x.lines x.sketch x.stage x.tabled) (step_is b x.sketch x.stage.rises)
     where
       go : (x : StageIn b rows runs c) → Tabled (step b x.sketch) rows' runs' c'
           → Next b x.sketch (step b x.sketch) ⊎ NoneLeft b x.sketch → c'.links < c.links
-      go x u (inl n) = omega (arith, one_less n, x.tabled.links-are, u.links-are)
+      go x u (inl n) = omega (arith, one_less n, x.tabled.links_are, u.links_are)
       go x u (inr none) =
-          absurd (d (x.tabled.links-are ∙ ap (λ (z : Sketch). length z.links) (sym (none_made b x.sketch none))
-          ∙ sym u.links-are))
+          absurd (d (x.tabled.links_are ∙ ap (λ (z : Sketch). length z.links) (sym (none_made b x.sketch none))
+          ∙ sym u.links_are))
 
   -- none was
   pub going_end : c.links ≡ c'.links → StepsTaken b c₀ rows₀ runs₀ rows' runs' c'
@@ -97,7 +97,7 @@ module _ {b : ℕ} {rows₀ runs₀ : List ℕ} {c₀ : Counts} {rows runs : Lis
           u = f lines x.sketch x.stage x.tabled
 
           go : Next b x.sketch (step b x.sketch) ⊎ NoneLeft b x.sketch → Tabled (steps b (length s₀.links) s₀) rows' runs' c'
-          go (inl n) = absurd (omega (arith, one_less n, x.tabled.links-are, u.links-are))
+          go (inl n) = absurd (omega (arith, one_less n, x.tabled.links_are, u.links_are))
           go (inr none) =
               subst (λ (z : Sketch). Tabled z rows' runs' c')
               (none_made b x.sketch none ∙ sym (stays b (length x.sketch.links) x.sketch none) ∙ x.leads) u

@@ -4,8 +4,8 @@ use native.Mathlib.Omega.{arith}
 use mathlib.Core.Path.{◌≡◌, refl, sym, ◌∙◌, ap, subst}
 use mathlib.Core.List.{List, [], ◌∷◌, ◌++◌, map, append_assoc, append-nil}
 use lib.ListN.{length, length-append, length-map}
-use Rattle.book.specs.Limits.{mostLines}
-use Rattle.links.specs.Link.{Link, lowerFirst}
+use Rattle.book.specs.Limits.{most_lines}
+use Rattle.links.specs.Link.{Link, lower_first}
 use Rattle.links.specs.Sketch.{Sketch, sketch, finished}
 use Rattle.joins.specs.Tables.{Holds, LinkAt, Becomes}
 use Rattle.joins.specs.Step.{Tabled, SketchIn, Finished}
@@ -14,7 +14,7 @@ use Rattle.joins.proofs.Moves.{link_at}
 
 -- a link from its lower mark, as a function
 abbrev lower : Link → Link
-lower x = lowerFirst x
+lower x = lower_first x
 
 -- the first i links of s are read from their lower marks
 pub record LoweredTo (s : Sketch) (i : ℕ) (rows runs : List ℕ) : Type 0 where
@@ -28,8 +28,8 @@ pub record LoweredTo (s : Sketch) (i : ℕ) (rows runs : List ℕ) : Type 0 wher
 pub record AllLowered (links : ℕ) (rows₀ runs₀ : List ℕ) (i : ℕ) (rows runs : List ℕ) : Type 0 where
   pub of : (c : Counts) → c.links ≡ links → (s : Sketch) → Tabled s rows₀ runs₀ c → LoweredTo s i rows runs
 
-pub lowered-start : (links : ℕ) (rows runs : List ℕ) → AllLowered links rows runs 0 rows runs
-lowered-start links rows runs = record {
+pub lowered_start : (links : ℕ) (rows runs : List ℕ) → AllLowered links rows runs 0 rows runs
+lowered_start links rows runs = record {
   of = λ c e s t. record {
     done = [];
     left = s.links;
@@ -62,18 +62,18 @@ module _ {links : ℕ} {rows₀ runs₀ : List ℕ} {i : ℕ} {rows runs : List 
         where
           by : (left : List Link) → s.links ≡ x.done ++ left → Holds (map lower x.done ++ (left ++ (s.spurs ++ s.loops))) rows runs
               → Turn s
-          by [] are held = absurd (omega (arith, t.links-are, ap length are, length-append x.done [], x.at))
+          by [] are held = absurd (omega (arith, t.links_are, ap length are, length-append x.done [], x.at))
           by (y ∷ ys) are held = record { before = x.done; its = y; after = ys; are = are; at = x.at; held = held }
 
-  pub lower-asked : (c : Counts) → c.links ≡ links → SketchIn rows₀ runs₀ c → length rows ≤ mostLines → LinkAt i rows runs
-  lower-asked c n e few =
+  pub lower_asked : (c : Counts) → c.links ≡ links → SketchIn rows₀ runs₀ c → length rows ≤ most_lines → LinkAt i rows runs
+  lower_asked c n e few =
       let x = turn c n e.sketch e.tabled in
       link_at (map lower x.before) x.its (x.after ++ (e.sketch.spurs ++ e.sketch.loops)) rows runs i
       (length-map x.before lower ∙ x.at) x.held few
 
-  pub lowered-next : (rows' runs' : List ℕ) → Becomes (λ x. lowerFirst x) i rows runs rows' runs'
+  pub lowered_next : (rows' runs' : List ℕ) → Becomes (λ x. lower_first x) i rows runs rows' runs'
       → AllLowered links rows₀ runs₀ (i + 1) rows' runs'
-  lowered-next rows' runs' b = record { of = λ c n s t. next s (turn c n s t) }
+  lowered_next rows' runs' b = record { of = λ c n s t. next s (turn c n s t) }
     where
       next : (s : Sketch) → Turn s → LoweredTo s (i + 1) rows' runs'
       next s x = record {
@@ -87,22 +87,22 @@ module _ {links : ℕ} {rows₀ runs₀ : List ℕ} {i : ℕ} {rows runs : List 
             (b (map lower x.before) x.its (x.after ++ (s.spurs ++ s.loops)) (length-map x.before lower ∙ x.at) x.held);
       }
 
-pub lowered-end : (c : Counts) {rows₀ runs₀ : List ℕ} {i : ℕ} {rows runs : List ℕ} → AllLowered c.links rows₀ runs₀ i rows runs
+pub lowered_end : (c : Counts) {rows₀ runs₀ : List ℕ} {i : ℕ} {rows runs : List ℕ} → AllLowered c.links rows₀ runs₀ i rows runs
     → c.links ≤ i → Finished c rows₀ runs₀ rows runs
 unfolding finished
-lowered-end c {i = i} {rows = rows} {runs = runs} w h s t = by (w.of c refl s t).left (w.of c refl s t) refl
+lowered_end c {i = i} {rows = rows} {runs = runs} w h s t = by (w.of c refl s t).left (w.of c refl s t) refl
   where
     by : (left : List Link) (x : LoweredTo s i rows runs) → x.left ≡ left → Tabled (finished s) rows runs c
     by (y ∷ ys) x e =
-        absurd (omega (arith, t.links-are, ap length x.are, length-append x.done x.left, ap length e, x.at))
+        absurd (omega (arith, t.links_are, ap length x.are, length-append x.done x.left, ap length e, x.at))
     by [] x e = record {
       held = subst (λ (l : List Link). Holds l rows runs)
           (ap (λ (l : List Link). map lower x.done ++ (l ++ (s.spurs ++ s.loops))) e
           ∙ ap (λ (l : List Link). map lower l ++ (s.spurs ++ s.loops)) (sym all)
           ∙ sym (append_assoc (map lower s.links) s.spurs s.loops)) x.held;
-      links-are = t.links-are ∙ sym (length-map s.links lower);
-      spurs-are = t.spurs-are;
-      loops-are = t.loops-are;
+      links_are = t.links_are ∙ sym (length-map s.links lower);
+      spurs_are = t.spurs_are;
+      loops_are = t.loops_are;
     }
       where
         all : s.links ≡ x.done

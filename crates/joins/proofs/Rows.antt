@@ -5,45 +5,45 @@ use mathlib.Core.Path.{◌≡◌, refl, sym, ◌∙◌, ap, ap₂}
 use mathlib.Core.List.{List, [], ◌∷◌, map, Memᴰ}
 use lib.ListN.{length, length-append}
 use Rattle.network.specs.Codes.{codes}
-use Rattle.links.specs.Link.{Link, closesOnItself}
-use Rattle.links.specs.Ends.{ends_at, hasEnd}
-use Rattle.joins.specs.Row.{first_of, last_of, count_of, linkRow, Small, rowEnds, rowHasEnd, rowCloses, row_lines}
-use Rattle.joins.specs.Code.{codesIn}
-use Rattle.joins.proofs.Codes.{codes-length}
+use Rattle.links.specs.Link.{Link, closes_on_itself}
+use Rattle.links.specs.Ends.{ends_at, has_end}
+use Rattle.joins.specs.Row.{first_of, last_of, count_of, link_row, Small, row_ends, row_has_end, row_closes, row_lines}
+use Rattle.joins.specs.Code.{codes_in}
+use Rattle.joins.proofs.Codes.{codes_length}
 
 module _ (x : Link) (s : Small x) where
-  pub first-of : first_of (linkRow x) ≡ x.first
-  unfolding linkRow
-  first-of = omega (arith, s.first, s.last, s.count)
+  pub first_of_lem : first_of (link_row x) ≡ x.first
+  unfolding link_row
+  first_of_lem = omega (arith, s.first, s.last, s.count)
 
-  pub last-of : last_of (linkRow x) ≡ x.last
-  unfolding linkRow
-  last-of = omega (arith, s.first, s.last, s.count)
+  pub last_of_lem : last_of (link_row x) ≡ x.last
+  unfolding link_row
+  last_of_lem = omega (arith, s.first, s.last, s.count)
 
-  pub count-of : count_of (linkRow x) ≡ length x.way
-  unfolding linkRow
-  count-of = omega (arith, s.first, s.last, s.count)
+  pub count_of_lem : count_of (link_row x) ≡ length x.way
+  unfolding link_row
+  count_of_lem = omega (arith, s.first, s.last, s.count)
 
-  pub has-end-of : (m : ℕ) → rowHasEnd m (linkRow x) ≡ hasEnd m x
-  unfolding rowHasEnd
-  has-end-of m = rw (first-of, last-of)
+  pub has_end_of : (m : ℕ) → row_has_end m (link_row x) ≡ has_end m x
+  unfolding row_has_end
+  has_end_of m = rw (first_of_lem, last_of_lem)
 
-  pub closes-of : rowCloses (linkRow x) ≡ closesOnItself x
-  unfolding rowCloses
-  closes-of = rw (first-of, last-of)
+  pub closes_of : row_closes (link_row x) ≡ closes_on_itself x
+  unfolding row_closes
+  closes_of = rw (first_of_lem, last_of_lem)
 
-pub ends_of : (m : ℕ) (xs : List Link) → ((x : Link) → Memᴰ x xs → Small x) → rowEnds m (map linkRow xs) ≡ ends_at m xs
-unfolding rowEnds ends_at
+pub ends_of : (m : ℕ) (xs : List Link) → ((x : Link) → Memᴰ x xs → Small x) → row_ends m (map link_row xs) ≡ ends_at m xs
+unfolding row_ends ends_at
 ends_of m [] s = refl
 ends_of m (x ∷ xs) s =
     let k = s x (Memᴰ.head refl) in
-    rw (first-of x k, last-of x k, ends_of m xs (λ y i. s y (Memᴰ.tail i)))
+    rw (first_of_lem x k, last_of_lem x k, ends_of m xs (λ y i. s y (Memᴰ.tail i)))
 
 -- the rows have as many lines as the runs
-pub lines_of : (xs : List Link) → ((x : Link) → Memᴰ x xs → Small x) → row_lines (map linkRow xs) ≡ length (codesIn xs)
-unfolding row_lines codesIn
+pub lines_of : (xs : List Link) → ((x : Link) → Memᴰ x xs → Small x) → row_lines (map link_row xs) ≡ length (codes_in xs)
+unfolding row_lines codes_in
 lines_of [] s = refl
 lines_of (x ∷ xs) s =
-    ap₂ (λ (a b : ℕ). a + b) (count-of x (s x (Memᴰ.head refl)) ∙ sym (codes-length x.way))
+    ap₂ (λ (a b : ℕ). a + b) (count_of_lem x (s x (Memᴰ.head refl)) ∙ sym (codes_length x.way))
     (lines_of xs (λ y i. s y (Memᴰ.tail i)))
-    ∙ sym (length-append (codes x.way) (codesIn xs))
+    ∙ sym (length-append (codes x.way) (codes_in xs))

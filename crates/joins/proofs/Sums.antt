@@ -6,7 +6,7 @@ use mathlib.Core.Path.{◌≡◌, ap}
 use mathlib.Core.List.{List, [], ◌∷◌}
 use lib.ListN.{length, get_or, drop, drop_of_length-le}
 use lib.Seq.{drop-cons}
-use Rattle.joins.specs.Row.{rowLimit, count_of, row_lines}
+use Rattle.joins.specs.Row.{row_limit, count_of, row_lines}
 
 -- one row more
 pub lines_next : (rows : List ℕ) (sum i : ℕ) → i < length rows → sum + row_lines (drop i rows) ≡ row_lines rows
@@ -20,7 +20,7 @@ unfolding row_lines
 lines_end rows sum i h e = let d = ap row_lines (drop_of_length-le rows h) in omega arith
 
 -- a row has fewer lines than its limit
-pub lines-few : (rows : List ℕ) → row_lines rows ≤ length rows * rowLimit
+pub lines_few : (rows : List ℕ) → row_lines rows ≤ length rows * row_limit
 unfolding row_lines
-lines-few [] = omega arith
-lines-few (row ∷ rows) = omega (arith, lines-few rows)
+lines_few [] = omega arith
+lines_few (row ∷ rows) = omega (arith, lines_few rows)

@@ -4,56 +4,56 @@ use mathlib.Core.Path.{◌≡◌, sym, ap, ap₂, subst}
 use mathlib.Core.List.{List}
 use lib.IntN.{ℤ}
 use lib.ListN.{length, length-map}
-use Rattle.book.specs.Limits.{mostLines}
+use Rattle.book.specs.Limits.{most_lines}
 use Rattle.book.specs.Good.{GoodLines}
 use Rattle.book.specs.declared.Book.{Book}
 use Rattle.network.specs.Standing.{standing}
-use Rattle.loops.proofs.Sounding.{lines-sound}
-use Rattle.links.specs.Link.{ownLink}
-use Rattle.links.specs.Sketch.{Sketch, sketchOf, start_of, steps, finished}
+use Rattle.loops.proofs.Sounding.{lines_sound}
+use Rattle.links.specs.Link.{own_link}
+use Rattle.links.specs.Sketch.{Sketch, sketch_of, start_of, steps, finished}
 use Rattle.links.specs.Stage.{Stage}
-use Rattle.links.proofs.Stages.{stage-start}
+use Rattle.links.proofs.Stages.{stage_start}
 use Rattle.joins.specs.Step.{Tabled, Room, StageIn, StepsTaken, SketchIn, Finished}
 use Rattle.joins.specs.declared.Counts.{Counts}
-use Rattle.joins.proofs.Taking.{rows-enough}
+use Rattle.joins.proofs.Taking.{rows_enough}
 
 module _ (k : Book) (lines : List ℤ) (g : GoodLines k lines) {rows runs : List ℕ} {c : Counts}
     (t : Tabled (start_of (standing lines)) rows runs c) where
   stage : Stage k.marks (standing lines) (start_of (standing lines))
-  stage = stage-start (lines-sound k lines g)
+  stage = stage_start (lines_sound k lines g)
 
   stage_at : (n : ℕ) → n ≡ k.marks → Stage n (standing lines) (start_of (standing lines))
   stage_at n e = subst (λ (b : ℕ). Stage b (standing lines) (start_of (standing lines))) (sym e) stage
 
-  pub start-in : (n : ℕ) → n ≡ k.marks → StageIn n rows runs c
-  start-in n e = record {
+  pub start_in : (n : ℕ) → n ≡ k.marks → StageIn n rows runs c
+  start_in n e = record {
     lines = standing lines;
     sketch = start_of (standing lines);
     stage = stage_at n e;
     tabled = t;
   }
 
-  pub enough : length rows ≤ mostLines → Room rows c
-  enough few = record { few = few; enough = rows-enough t }
+  pub enough : length rows ≤ most_lines → Room rows c
+  enough few = record { few = few; enough = rows_enough t }
 
   -- the steps, and each link from its lower junction
   module _ (n : ℕ) (e : n ≡ k.marks) (rows₁ runs₁ : List ℕ) (c₁ : Counts) (taken : StepsTaken n c rows runs rows₁ runs₁ c₁) where
     left : Sketch
     left = steps n (length (start_of (standing lines)).links) (start_of (standing lines))
 
-    tabled-left : Tabled left rows₁ runs₁ c₁
+    tabled_left : Tabled left rows₁ runs₁ c₁
     unfolding left
-    tabled-left = taken (standing lines) (start_of (standing lines)) (stage_at n e) t
+    tabled_left = taken (standing lines) (start_of (standing lines)) (stage_at n e) t
 
     pub left_in : SketchIn rows₁ runs₁ c₁
-    left_in = record { sketch = left; tabled = tabled-left }
+    left_in = record { sketch = left; tabled = tabled_left }
 
-    pub left-enough : length rows₁ ≤ mostLines → Room rows₁ c₁
-    left-enough few = record { few = few; enough = rows-enough tabled-left }
+    pub left_enough : length rows₁ ≤ most_lines → Room rows₁ c₁
+    left_enough few = record { few = few; enough = rows_enough tabled_left }
 
     pub sketched : (rows₂ runs₂ : List ℕ) → Finished c₁ rows₁ runs₁ rows₂ runs₂
-        → Tabled (sketchOf k.marks (standing lines)) rows₂ runs₂ c₁
-    unfolding sketchOf start_of left
+        → Tabled (sketch_of k.marks (standing lines)) rows₂ runs₂ c₁
+    unfolding sketch_of start_of left
     sketched rows₂ runs₂ f =
         subst (λ (s : Sketch). Tabled (finished s) rows₂ runs₂ c₁)
-        (ap₂ (λ (b m : ℕ). steps b m (start_of (standing lines))) e (length-map (standing lines) ownLink)) (f left tabled-left)
+        (ap₂ (λ (b m : ℕ). steps b m (start_of (standing lines))) e (length-map (standing lines) own_link)) (f left tabled_left)

@@ -4,32 +4,32 @@ use Rattle.network.specs.Piece.{bit}
 use Rattle.links.specs.Link.{Link}
 
 -- more than any mark, and more than any count of lines
-abbrev pub rowLimit : ℕ
-rowLimit = 1024
+abbrev pub row_limit : ℕ
+row_limit = 1024
 
 -- first mark, last mark and count of lines
 abbrev pub row_of : ℕ → ℕ → ℕ → ℕ
-row_of first last count = (first * rowLimit + last) * rowLimit + count
+row_of first last count = (first * row_limit + last) * row_limit + count
 
 -- read back
 abbrev pub first_of : ℕ → ℕ
-first_of row = row / rowLimit / rowLimit
+first_of row = row / row_limit / row_limit
 
 abbrev pub last_of : ℕ → ℕ
-last_of row = row / rowLimit % rowLimit
+last_of row = row / row_limit % row_limit
 
 abbrev pub count_of : ℕ → ℕ
-count_of row = row % rowLimit
+count_of row = row % row_limit
 
 -- the row of a link
-unfoldable pub linkRow : Link → ℕ
-linkRow x = row_of x.first x.last (length x.way)
+unfoldable pub link_row : Link → ℕ
+link_row x = row_of x.first x.last (length x.way)
 
 -- a link whose numbers have room in a row
 pub record Small (x : Link) : Type 0 where
-  pub first : x.first < rowLimit
-  pub last : x.last < rowLimit
-  pub count : length x.way < rowLimit
+  pub first : x.first < row_limit
+  pub last : x.last < row_limit
+  pub count : length x.way < row_limit
 
 -- each row is of marks below n
 abbrev pub Between : List ℕ → ℕ → Type 0
@@ -38,19 +38,19 @@ Between rows n = (i : ℕ) → i < length rows → (first_of (get_or rows i 0) <
 -- ---- what is asked of rows
 
 -- how many ends at mark m the rows have
-unfoldable pub rowEnds : ℕ → List ℕ → ℕ
-rowEnds m [] = zero
-rowEnds m (row ∷ rows) = bit (eqb (first_of row) m) + bit (eqb (last_of row) m) + rowEnds m rows
+unfoldable pub row_ends : ℕ → List ℕ → ℕ
+row_ends m [] = zero
+row_ends m (row ∷ rows) = bit (eqb (first_of row) m) + bit (eqb (last_of row) m) + row_ends m rows
 
 -- one end more at mark m
-abbrev pub oneMore : List ℕ → ℕ → List ℕ
-oneMore ends m = set ends m (get_or ends m 0 + 1)
+abbrev pub one_more : List ℕ → ℕ → List ℕ
+one_more ends m = set ends m (get_or ends m 0 + 1)
 
-unfoldable pub rowHasEnd : ℕ → ℕ → Bool
-rowHasEnd m row = eqb (first_of row) m || eqb (last_of row) m
+unfoldable pub row_has_end : ℕ → ℕ → Bool
+row_has_end m row = eqb (first_of row) m || eqb (last_of row) m
 
-unfoldable pub rowCloses : ℕ → Bool
-rowCloses row = eqb (first_of row) (last_of row)
+unfoldable pub row_closes : ℕ → Bool
+row_closes row = eqb (first_of row) (last_of row)
 
 -- how many lines the rows have in all
 unfoldable pub row_lines : List ℕ → ℕ

@@ -2,24 +2,24 @@
 use Rattle.std.specs.Prelude.{ℕ, suc, ◌+◌, ◌-◌, ◌≤◌, ◌<◌, ◌≡◌, length, get_or, take}
 use mathlib.Core.List.{List, [], ◌∷◌, ◌++◌, map, Memᴰ}
 use borrow.Rule.Slice.PartMut.{mid_of}
-use Rattle.book.specs.Limits.{mostLines}
+use Rattle.book.specs.Limits.{most_lines}
 use Rattle.links.specs.Link.{Link, joined}
-use Rattle.joins.specs.Row.{rowLimit, first_of, count_of, row_lines, linkRow, Small}
-use Rattle.joins.specs.Code.{codesIn}
+use Rattle.joins.specs.Row.{row_limit, first_of, count_of, row_lines, link_row, Small}
+use Rattle.joins.specs.Code.{codes_in}
 
 -- the tables begin with the rows and with the runs of the links
 pub record Holds (xs : List Link) (rows runs : List ℕ) : Type 0 where
   pub small : (x : Link) → Memᴰ x xs → Small x
   pub rows_behind : List ℕ
-  pub rows_are : rows ≡ map linkRow xs ++ rows_behind
-  pub runs-behind : List ℕ
-  pub runs-are : runs ≡ codesIn xs ++ runs-behind
+  pub rows_are : rows ≡ map link_row xs ++ rows_behind
+  pub runs_behind : List ℕ
+  pub runs_are : runs ≡ codes_in xs ++ runs_behind
 
 -- the tables have a link at place i, whose run has its place
 pub record LinkAt (i : ℕ) (rows runs : List ℕ) : Type 0 where
-  pub few : length rows ≤ mostLines
+  pub few : length rows ≤ most_lines
   pub there : i < length rows
-  pub marked : first_of (get_or rows i 0) < rowLimit
+  pub marked : first_of (get_or rows i 0) < row_limit
   pub room : row_lines (take i rows) + count_of (get_or rows i 0) ≤ length runs
 
 -- the link at place i becomes what f makes of it, and every other stays
@@ -30,10 +30,10 @@ Becomes f i rows runs rows' runs' =
 
 -- the tables have a link at place i and others behind it up to the place end, whose runs have their places
 pub record Behind (i end : ℕ) (rows runs : List ℕ) : Type 0 where
-  pub few : length rows ≤ mostLines
+  pub few : length rows ≤ most_lines
   pub there : i < end
   pub most : end ≤ length rows
-  pub its-lines : count_of (get_or rows i 0) ≤ row_lines (mid_of i (end - i) rows)
+  pub its_lines : count_of (get_or rows i 0) ≤ row_lines (mid_of i (end - i) rows)
   pub room : row_lines (take i rows) + row_lines (mid_of i (end - i) rows) ≤ length runs
 
 -- it goes behind them
@@ -45,12 +45,12 @@ GoesBehind i end rows runs rows' runs' =
 -- the tables have two links, at the places i and j, and others up to the place end; their runs have their places, and a row has room for
 -- both
 pub record Two (i j end : ℕ) (rows runs : List ℕ) : Type 0 where
-  pub few : length rows ≤ mostLines
+  pub few : length rows ≤ most_lines
   pub in_order : i < j
   pub there : j < end
   pub most : end ≤ length rows
-  pub marked : first_of (get_or rows i 0) < rowLimit
-  pub both : count_of (get_or rows i 0) + count_of (get_or rows j 0) < rowLimit
+  pub marked : first_of (get_or rows i 0) < row_limit
+  pub both : count_of (get_or rows i 0) + count_of (get_or rows j 0) < row_limit
   pub room : row_lines (take (i + 1) rows) + row_lines (mid_of (i + 1) (j - (i + 1)) rows) + count_of (get_or rows j 0) ≤ length runs
 
 -- they become one, in the place of the first

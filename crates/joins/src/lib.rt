@@ -2,10 +2,10 @@
 // then the self-closing loops that came off. A run has the codes of the link's lines, one after the other; no run moves but to stand behind
 // others, so that the runs always have each standing line once.
 ghost use Rattle.std.specs.Prelude.{◌≡◌, ◌-◌, ◌<◌, ◌≤◌, length};
-ghost use Rattle.book.specs.Limits.{mostMarks, mostLines};
+ghost use Rattle.book.specs.Limits.{most_marks, most_lines};
 ghost use Rattle.book.specs.Good.{GoodLines};
 ghost use Rattle.network.specs.Standing.{standing};
-ghost use Rattle.links.specs.Sketch.{sketchOf};
+ghost use Rattle.links.specs.Sketch.{sketch_of};
 ghost use Rattle.joins.specs.Step.{Tabled, Room, StageIn, StepsTaken, SketchIn, Finished};
 
 mod ends;
@@ -30,7 +30,7 @@ pub struct Counts {
 // Steps until none is left.
 fn take_steps(rows: &mut [u64], runs: &mut [u16], ends: &mut [u64], begun: Counts) -> Counts
     requires fact_1 { Room rows.old begun }
-    requires fact_2 { length runs.old ≤ mostLines }
+    requires fact_2 { length runs.old ≤ most_lines }
     requires fact_3 { 0 < length ends.old }
     requires fact_4 { StageIn (length ends.old - 1) rows.old runs.old begun }
     ensures { StepsTaken (length ends.old - 1) begun rows.old runs.old
@@ -69,10 +69,10 @@ fn sketch_in(
     ends: &mut [u64],
 ) -> Counts
     requires fact_1 { GoodLines book lines.now }
-    requires fact_2 { length rows.old ≡ mostLines }
-    requires fact_3 { length runs.old ≡ mostLines }
-    requires fact_4 { mostMarks < length ends.old }
-    ensures { Tabled (sketchOf book.marks (standing lines.now)) rows.new runs.new result }
+    requires fact_2 { length rows.old ≡ most_lines }
+    requires fact_3 { length runs.old ≡ most_lines }
+    requires fact_4 { most_marks < length ends.old }
+    ensures { Tabled (sketch_of book.marks (standing lines.now)) rows.new runs.new result }
 {
     let n = book.marks + 1;
     let begun = start::own_links(book, lines, rows, runs);
@@ -83,8 +83,8 @@ fn sketch_in(
 
 // The junction sketch of a tested book: its links, spurs and self-closing loops in the lent tables, and how many there are of each.
 pub fn sketch_lines(book: Book, lines: &[i64], rows: &mut [u64], runs: &mut [u16]) -> Counts
-    requires { (GoodLines book lines.now) × ((length rows.old ≡ mostLines) × (length runs.old ≡ mostLines)) }
-    ensures { Tabled (sketchOf book.marks (standing lines.now)) rows.new runs.new result }
+    requires { (GoodLines book lines.now) × ((length rows.old ≡ most_lines) × (length runs.old ≡ most_lines)) }
+    ensures { Tabled (sketch_of book.marks (standing lines.now)) rows.new runs.new result }
 {
     let mut ends = [0u64; Book::MAX_MARKS as usize + 1];
     sketch_in(book, lines, rows, runs, &mut ends[..])

@@ -1,6 +1,6 @@
 // What is done to one link, by its place: its row and its run stay together.
 ghost use Rattle.std.specs.Prelude.{◌<◌, get_or};
-ghost use Rattle.links.specs.Link.{turned, readFrom, readTo, lowerFirst, begun};
+ghost use Rattle.links.specs.Link.{turned, read_from, read_to, lower_first, begun};
 ghost use Rattle.joins.specs.Row.{count_of};
 ghost use Rattle.joins.specs.Tables.{LinkAt, Becomes, Behind, GoesBehind};
 
@@ -21,7 +21,7 @@ pub(crate) fn turn(rows: &mut [u64], runs: &mut [u16], i: usize)
 // The link, which has an end at mark m, is read from m.
 pub(crate) fn read_from(rows: &mut [u64], runs: &mut [u16], i: usize, m: usize)
     requires { LinkAt i rows.old runs.old }
-    ensures { Becomes (λ x. readFrom m x) i rows.old runs.old rows.new runs.new }
+    ensures { Becomes (λ x. read_from m x) i rows.old runs.old rows.new runs.new }
 {
     if row::first(rows[i]) != m {
         turn(rows, runs, i);
@@ -31,7 +31,7 @@ pub(crate) fn read_from(rows: &mut [u64], runs: &mut [u16], i: usize, m: usize)
 // The link, which has an end at mark m, is read to m.
 pub(crate) fn read_to(rows: &mut [u64], runs: &mut [u16], i: usize, m: usize)
     requires { LinkAt i rows.old runs.old }
-    ensures { Becomes (λ x. readTo m x) i rows.old runs.old rows.new runs.new }
+    ensures { Becomes (λ x. read_to m x) i rows.old runs.old rows.new runs.new }
 {
     if row::last(rows[i]) != m {
         turn(rows, runs, i);
@@ -41,7 +41,7 @@ pub(crate) fn read_to(rows: &mut [u64], runs: &mut [u16], i: usize, m: usize)
 // The link is read from its lower mark.
 pub(crate) fn lower_first(rows: &mut [u64], runs: &mut [u16], i: usize)
     requires { LinkAt i rows.old runs.old }
-    ensures { Becomes (λ x. lowerFirst x) i rows.old runs.old rows.new runs.new }
+    ensures { Becomes (λ x. lower_first x) i rows.old runs.old rows.new runs.new }
 {
     if row::last(rows[i]) < row::first(rows[i]) {
         turn(rows, runs, i);

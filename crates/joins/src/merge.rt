@@ -1,6 +1,6 @@
 // Two links become one.
 ghost use Rattle.std.specs.Prelude.{◌≤◌, length};
-ghost use Rattle.book.specs.Limits.{mostLines};
+ghost use Rattle.book.specs.Limits.{most_lines};
 ghost use Rattle.joins.specs.Tables.{Two, BecomeOne};
 ghost use Rattle.joins.specs.Step.{Room, TwoIn, Merged};
 
@@ -24,7 +24,7 @@ fn join(rows: &mut [u64], runs: &mut [u16], i: usize, j: usize, end: usize)
 // The two links with an end at mark m become one.
 pub(crate) fn at(rows: &mut [u64], runs: &mut [u16], m: usize, counts: Counts) -> Counts
     requires fact_1 { Room rows.old counts }
-    requires fact_2 { length runs.old ≤ mostLines }
+    requires fact_2 { length runs.old ≤ most_lines }
     requires fact_3 { TwoIn m rows.old runs.old counts }
     ensures { Merged m counts rows.old runs.old rows.new runs.new result }
 {

@@ -1,14 +1,14 @@
 // A link in one number: its first mark, its last mark and its count of lines.
 ghost use Rattle.std.specs.Prelude.{◌≡◌, ◌<◌, ◌≤◌, length};
-ghost use Rattle.book.specs.Limits.{mostLines};
-ghost use Rattle.joins.specs.Row.{rowLimit, row_of, first_of, last_of, count_of, rowHasEnd, rowCloses, row_lines};
+ghost use Rattle.book.specs.Limits.{most_lines};
+ghost use Rattle.joins.specs.Row.{row_limit, row_of, first_of, last_of, count_of, row_has_end, row_closes, row_lines};
 ghost use Rattle.joins.specs.Code.{rotated};
 
 // More than any mark, and more than any count of lines.
 const LIMIT: u64 = 1024;
 
 pub(crate) fn new(first: usize, last: usize, count: usize) -> u64
-    requires { (first < rowLimit) × (last < rowLimit) × (count < rowLimit) }
+    requires { (first < row_limit) × (last < row_limit) × (count < row_limit) }
     ensures { result ≡ row_of first last count }
 {
     ((first as u64) * LIMIT + last as u64) * LIMIT + count as u64
@@ -34,7 +34,7 @@ pub fn count(row: u64) -> usize
 
 // Whether the link has an end at mark m.
 pub(crate) fn has_end(row: u64, m: usize) -> bool
-    ensures { result ≡ rowHasEnd m row }
+    ensures { result ≡ row_has_end m row }
 {
     if first(row) == m {
         true
@@ -45,14 +45,14 @@ pub(crate) fn has_end(row: u64, m: usize) -> bool
 
 // Whether the link is from a mark to itself.
 pub(crate) fn closes(row: u64) -> bool
-    ensures { result ≡ rowCloses row }
+    ensures { result ≡ row_closes row }
 {
     first(row) == last(row)
 }
 
 // The lines of these links in all.
 pub fn lines(rows: &[u64]) -> usize
-    requires { length rows.now ≤ mostLines }
+    requires { length rows.now ≤ most_lines }
     ensures { result ≡ row_lines rows.now }
 {
     let mut sum = 0;

@@ -2,19 +2,19 @@
 ghost use Rattle.std.specs.Prelude.{◌≡◌, List, [], ◌<◌, ◌≤◌, length};
 ghost use Rattle.network.specs.Codes.{codes};
 ghost use Rattle.network.specs.Walk.{Pass};
-ghost use Rattle.links.specs.Link.{lowestLine, begunWith};
-ghost use Rattle.joins.specs.Code.{flipCode, turnedCodes, rotated, LowestAt};
+ghost use Rattle.links.specs.Link.{lowest_line, begun_with};
+ghost use Rattle.joins.specs.Code.{flip_code, turned_codes, rotated, LowestAt};
 
 // The same line in the other sense.
 fn flip(code: u16) -> u16
-    ensures { result ≡ flipCode code }
+    ensures { result ≡ flip_code code }
 {
     code / 2 * 2 + (1 - code % 2)
 }
 
 // The run the other way.
 pub(crate) fn turn(run: &mut [u16])
-    ensures { run.new ≡ turnedCodes run.old }
+    ensures { run.new ≡ turned_codes run.old }
 {
     let n = run.len();
     let mut i = 0;
@@ -56,7 +56,7 @@ fn lowest(run: &[u16]) -> usize
 // "begun with its lowest line, positive"
 pub(crate) fn begin_lowest(run: &mut [u16])
     requires { 0 < length run.old }
-    ensures { (w : List Pass) → run.old ≡ codes w → run.new ≡ codes (begunWith (lowestLine w) [] w) }
+    ensures { (w : List Pass) → run.old ≡ codes w → run.new ≡ codes (begun_with (lowest_line w) [] w) }
 {
     let k = lowest(run);
     if run[k] % 2 == 0 {

@@ -1,6 +1,6 @@
 // "Every standing line begins as a link of its own."
 ghost use Rattle.std.specs.Prelude.{◌≤◌, ◌<◌, length};
-ghost use Rattle.book.specs.Limits.{mostLines};
+ghost use Rattle.book.specs.Limits.{most_lines};
 ghost use Rattle.book.specs.Good.{GoodLines};
 ghost use Rattle.network.specs.Standing.{standing};
 ghost use Rattle.links.specs.Sketch.{start_of};
@@ -13,8 +13,8 @@ use book::line::Line;
 // The own links of the standing lines, by rising number.
 pub(crate) fn own_links(book: Book, lines: &[i64], rows: &mut [u64], runs: &mut [u16]) -> Counts
     requires fact_1 { GoodLines book lines.now }
-    requires fact_2 { mostLines ≤ length rows.old }
-    requires fact_3 { mostLines ≤ length runs.old }
+    requires fact_2 { most_lines ≤ length rows.old }
+    requires fact_3 { most_lines ≤ length runs.old }
     ensures { Tabled (start_of (standing lines.now)) rows.new runs.new result }
 {
     let b = book.marks;

@@ -1,6 +1,6 @@
 // "each step takes the first there is"
 ghost use Rattle.std.specs.Prelude.{◌-◌, ◌≤◌, ◌<◌, length};
-ghost use Rattle.book.specs.Limits.{mostLines};
+ghost use Rattle.book.specs.Limits.{most_lines};
 ghost use Rattle.joins.specs.Step.{Room, StageIn, Stepped};
 
 use crate::{Counts, ends, merge, off};
@@ -9,7 +9,7 @@ use crate::{Counts, ends, merge, off};
 // stay.
 pub(crate) fn step(rows: &mut [u64], runs: &mut [u16], ends: &mut [u64], counts: Counts) -> Counts
     requires fact_1 { Room rows.old counts }
-    requires fact_2 { length runs.old ≤ mostLines }
+    requires fact_2 { length runs.old ≤ most_lines }
     requires fact_3 { 0 < length ends.old }
     requires fact_4 { StageIn (length ends.old - 1) rows.old runs.old counts }
     ensures { Stepped (length ends.old - 1) counts rows.old runs.old

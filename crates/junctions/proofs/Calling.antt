@@ -11,56 +11,56 @@ use lib.ListN.{length, take, drop, length-append, length-map, length-drop}
 use lib.Seq.{take_at, drop_at, take_all}
 use borrow.Author.Tests.{ltb-false}
 use borrow.Rule.Slice.PartMut.{mid_of}
-use Rattle.book.specs.Limits.{mostLines}
+use Rattle.book.specs.Limits.{most_lines}
 use Rattle.book.specs.Test.{refusal}
 use Rattle.book.specs.Good.{GoodLines}
 use Rattle.book.specs.declared.Book.{Book}
 use Rattle.network.specs.Standing.{standing}
 use Rattle.network.specs.Codes.{codes}
-use Rattle.network.proofs.Standing.{few-standing}
-use Rattle.book.proofs.Places.{count-of}
+use Rattle.network.proofs.Standing.{few_standing}
+use Rattle.book.proofs.Places.{count_of_lem}
 use Rattle.loops.specs.Row.{listed, listings}
-use Rattle.loops.proofs.Sounding.{lines-sound, line-limits}
+use Rattle.loops.proofs.Sounding.{lines_sound, line_limits}
 use Rattle.links.specs.Link.{Link}
-use Rattle.links.specs.Sketch.{Sketch, inAll, run_of, sketchOf}
-use Rattle.links.specs.Shape.{linesIn}
+use Rattle.links.specs.Sketch.{Sketch, in_all, run_of, sketch_of}
+use Rattle.links.specs.Shape.{lines_in}
 use Rattle.links.proofs.EachLine.{as_many}
-use Rattle.links.proofs.Shapes.{all-over}
-use Rattle.lists.specs.Run.{listedBy, Coded}
-use Rattle.lists.proofs.Runs.{codes-listed, map-append, codes-small, append-coded}
-use Rattle.joins.specs.Row.{linkRow, row_lines}
-use Rattle.joins.specs.Code.{codesIn}
+use Rattle.links.proofs.Shapes.{all_over}
+use Rattle.lists.specs.Run.{listed_by, Coded}
+use Rattle.lists.proofs.Runs.{codes_listed, map-append, codes_small, append_coded}
+use Rattle.joins.specs.Row.{link_row, row_lines}
+use Rattle.joins.specs.Code.{codes_in}
 use Rattle.joins.specs.Step.{Tabled}
 use Rattle.joins.specs.declared.Counts.{Counts}
-use Rattle.joins.proofs.Codes.{codes-in-append, codes-length}
+use Rattle.joins.proofs.Codes.{codes_in_append, codes_length}
 use Rattle.joins.proofs.Rows.{lines_of}
 use Rattle.joins.proofs.Parts.{mid_at}
 use Rattle.joins.proofs.Tables.{rows_of, rows_append}
-use Rattle.junctions.specs.Call.{Lists, lists, drawing, refusedWith, lists_of, anyShort, allInFirstPlaces, drawnInto}
-use Rattle.junctions.specs.Entries.{OverLines, ListIn, SomeIn, Wrote, SketchOver, SomeSketch, shortBy, Roomy}
-use Rattle.junctions.proofs.Writing.{entries-length}
+use Rattle.junctions.specs.Call.{Lists, lists, drawing, refused_with, lists_of, any_short, all_in_first_places, drawn_into}
+use Rattle.junctions.specs.Entries.{OverLines, ListIn, SomeIn, Wrote, SketchOver, SomeSketch, short_by, Roomy}
+use Rattle.junctions.proofs.Writing.{entries_length}
 
 -- ---- the run of a whole sketch
 
-codes-in-listed : (xs : List Link) → map listedBy (codesIn xs) ≡ listings (map (λ (x : Link). x.way) xs)
-unfolding codesIn listings
-codes-in-listed [] = refl
-codes-in-listed (x ∷ xs) =
-    map-append (codes x.way) (codesIn xs) ∙ ap₂ (λ (a b : List ℤ). a ++ b) (codes-listed x.way) (codes-in-listed xs)
+codes_in_listed : (xs : List Link) → map listed_by (codes_in xs) ≡ listings (map (λ (x : Link). x.way) xs)
+unfolding codes_in listings
+codes_in_listed [] = refl
+codes_in_listed (x ∷ xs) =
+    map-append (codes x.way) (codes_in xs) ∙ ap₂ (λ (a b : List ℤ). a ++ b) (codes_listed x.way) (codes_in_listed xs)
 
-pub run-listed : (s : Sketch) → map listedBy (codesIn (inAll s)) ≡ run_of s
+pub run_listed : (s : Sketch) → map listed_by (codes_in (in_all s)) ≡ run_of s
 unfolding run_of
-run-listed s = codes-in-listed (inAll s)
+run_listed s = codes_in_listed (in_all s)
 
-pub run_length : (s : Sketch) → length (codesIn (inAll s)) ≡ length (run_of s)
-run_length s = sym (length-map (codesIn (inAll s)) listedBy) ∙ ap length (run-listed s)
+pub run_length : (s : Sketch) → length (codes_in (in_all s)) ≡ length (run_of s)
+run_length s = sym (length-map (codes_in (in_all s)) listed_by) ∙ ap length (run_listed s)
 
 -- every code is small
-coded : (ls : List ℤ) (xs : List Link) → ((x : Link) → Memᴰ x xs → OverLines ls x) → Coded (codesIn xs)
-unfolding codesIn
+coded : (ls : List ℤ) (xs : List Link) → ((x : Link) → Memᴰ x xs → OverLines ls x) → Coded (codes_in xs)
+unfolding codes_in
 coded ls [] f = λ i h. absurd (omega arith)
 coded ls (x ∷ xs) f =
-    append-coded (codes x.way) (codesIn xs) (codes-small x.way (f x (Memᴰ.head refl)).numbered)
+    append_coded (codes x.way) (codes_in xs) (codes_small x.way (f x (Memᴰ.head refl)).numbered)
     (coded ls xs (λ y m. f y (Memᴰ.tail m)))
 
 -- ---- the tables, list by list
@@ -73,179 +73,179 @@ module _ {ls : List ℤ} {s : Sketch} {rows runs : List ℕ} {c : Counts} (o : S
   rows_four =
       t.held.rows_are ∙ rw (rows_append (s.links ++ s.spurs) s.loops, rows_append s.links s.spurs) (simp append_assoc)
 
-  runs-four : runs ≡ codesIn s.links ++ (codesIn s.spurs ++ (codesIn s.loops ++ t.held.runs-behind))
-  runs-four =
-      t.held.runs-are ∙ rw (codes-in-append (s.links ++ s.spurs) s.loops, codes-in-append s.links s.spurs) (simp append_assoc)
+  runs_four : runs ≡ codes_in s.links ++ (codes_in s.spurs ++ (codes_in s.loops ++ t.held.runs_behind))
+  runs_four =
+      t.held.runs_are ∙ rw (codes_in_append (s.links ++ s.spurs) s.loops, codes_in_append s.links s.spurs) (simp append_assoc)
 
-  pub links-count : length (rows_of s.links) ≡ c.links
-  links-count = length-map s.links linkRow ∙ sym t.links-are
+  pub links_count : length (rows_of s.links) ≡ c.links
+  links_count = length-map s.links link_row ∙ sym t.links_are
 
-  pub spurs-count : length (rows_of s.spurs) ≡ c.spurs
-  spurs-count = length-map s.spurs linkRow ∙ sym t.spurs-are
+  pub spurs_count : length (rows_of s.spurs) ≡ c.spurs
+  spurs_count = length-map s.spurs link_row ∙ sym t.spurs_are
 
-  pub loops-count : length (rows_of s.loops) ≡ c.loops
-  loops-count = length-map s.loops linkRow ∙ sym t.loops-are
+  pub loops_count : length (rows_of s.loops) ≡ c.loops
+  loops_count = length-map s.loops link_row ∙ sym t.loops_are
 
   -- all have their rows
   pub enough : c.links + c.spurs + c.loops ≤ length rows
   enough =
       omega (
         arith,
-        links-count,
-        spurs-count,
-        loops-count,
+        links_count,
+        spurs_count,
+        loops_count,
         ap length rows_four,
         length-append (rows_of s.links) (rows_of s.spurs ++ (rows_of s.loops ++ t.held.rows_behind)),
         length-append (rows_of s.spurs) (rows_of s.loops ++ t.held.rows_behind),
         length-append (rows_of s.loops) t.held.rows_behind,
       )
 
-  all-rows : take (c.links + c.spurs + c.loops) rows ≡ rows_of (inAll s)
-  all-rows =
+  all_rows : take (c.links + c.spurs + c.loops) rows ≡ rows_of (in_all s)
+  all_rows =
       ap (take (c.links + c.spurs + c.loops)) t.held.rows_are
-      ∙ take_at (rows_of (inAll s)) t.held.rows_behind (c.links + c.spurs + c.loops)
+      ∙ take_at (rows_of (in_all s)) t.held.rows_behind (c.links + c.spurs + c.loops)
       (ap length
       (rows_append (s.links ++ s.spurs) s.loops ∙ ap (λ (l : List ℕ). l ++ rows_of s.loops) (rows_append s.links s.spurs))
       ∙ length-append (rows_of s.links ++ rows_of s.spurs) (rows_of s.loops)
-      ∙ omega (arith, links-count, spurs-count, loops-count, length-append (rows_of s.links) (rows_of s.spurs)))
+      ∙ omega (arith, links_count, spurs_count, loops_count, length-append (rows_of s.links) (rows_of s.spurs)))
 
   -- how many lines there are
-  pub lines-all : row_lines (take (c.links + c.spurs + c.loops) rows) ≡ length (codesIn (inAll s))
-  lines-all = ap row_lines all-rows ∙ lines_of (inAll s) (λ x i. (o.over x i).small)
+  pub lines_all : row_lines (take (c.links + c.spurs + c.loops) rows) ≡ length (codes_in (in_all s))
+  lines_all = ap row_lines all_rows ∙ lines_of (in_all s) (λ x i. (o.over x i).small)
 
-  codes-three : length (codesIn (inAll s)) ≡ length (codesIn s.links) + length (codesIn s.spurs) + length (codesIn s.loops)
-  codes-three =
-      ap length (codes-in-append (s.links ++ s.spurs) s.loops) ∙ length-append (codesIn (s.links ++ s.spurs)) (codesIn s.loops)
-      ∙ omega (arith, ap length (codes-in-append s.links s.spurs), length-append (codesIn s.links) (codesIn s.spurs))
+  codes_three : length (codes_in (in_all s)) ≡ length (codes_in s.links) + length (codes_in s.spurs) + length (codes_in s.loops)
+  codes_three =
+      ap length (codes_in_append (s.links ++ s.spurs) s.loops) ∙ length-append (codes_in (s.links ++ s.spurs)) (codes_in s.loops)
+      ∙ omega (arith, ap length (codes_in_append s.links s.spurs), length-append (codes_in s.links) (codes_in s.spurs))
 
-  runs-long : length runs
-      ≡ length (codesIn s.links) + (length (codesIn s.spurs) + (length (codesIn s.loops) + length t.held.runs-behind))
-  runs-long =
-      ap length runs-four ∙ simp length-append
+  runs_long : length runs
+      ≡ length (codes_in s.links) + (length (codes_in s.spurs) + (length (codes_in s.loops) + length t.held.runs_behind))
+  runs_long =
+      ap length runs_four ∙ simp length-append
 
-  pub run_fits : length (codesIn (inAll s)) ≤ length runs
-  run_fits = omega (arith, codes-three, runs-long)
+  pub run_fits : length (codes_in (in_all s)) ≤ length runs
+  run_fits = omega (arith, codes_three, runs_long)
 
   -- the links
-  pub links-in : ListIn ls s.links (take c.links rows) runs
-  links-in = record {
+  pub links_in : ListIn ls s.links (take c.links rows) runs
+  links_in = record {
     each = λ x i. o.over x (Memᴰ.append_left s.loops (Memᴰ.append_left s.spurs i));
     rows_are = ap (take c.links) rows_four
-        ∙ take_at (rows_of s.links) (rows_of s.spurs ++ (rows_of s.loops ++ t.held.rows_behind)) c.links links-count;
-    runs-behind = codesIn s.spurs ++ (codesIn s.loops ++ t.held.runs-behind);
-    runs-are = runs-four;
+        ∙ take_at (rows_of s.links) (rows_of s.spurs ++ (rows_of s.loops ++ t.held.rows_behind)) c.links links_count;
+    runs_behind = codes_in s.spurs ++ (codes_in s.loops ++ t.held.runs_behind);
+    runs_are = runs_four;
   }
 
   -- the spurs, behind the runs of the links
-  module _ (a : ℕ) (is-a : a ≡ length (codesIn s.links)) where
+  module _ (a : ℕ) (is_a : a ≡ length (codes_in s.links)) where
     pub links_end : a ≤ length runs
-    links_end = omega (arith, runs-long)
+    links_end = omega (arith, runs_long)
 
-    pub spurs-in : ListIn ls s.spurs (mid_of c.links (c.links + c.spurs - c.links) rows) (mid_of a (length runs - a) runs)
-    spurs-in = record {
+    pub spurs_in : ListIn ls s.spurs (mid_of c.links (c.links + c.spurs - c.links) rows) (mid_of a (length runs - a) runs)
+    spurs_in = record {
       each = λ x i. o.over x (Memᴰ.append_left s.loops (Memᴰ.append_right s.links i));
       rows_are = mid_at (rows_of s.links) (rows_of s.spurs) (rows_of s.loops ++ t.held.rows_behind) rows rows_four c.links
-          (c.links + c.spurs - c.links) links-count (spurs-count ∙ omega arith);
-      runs-behind = codesIn s.loops ++ t.held.runs-behind;
-      runs-are = take_all (length runs - a) (drop a runs) (omega (arith, length-drop a runs)) ∙ ap (drop a) runs-four
-          ∙ drop_at (codesIn s.links) (codesIn s.spurs ++ (codesIn s.loops ++ t.held.runs-behind)) a (sym is-a);
+          (c.links + c.spurs - c.links) links_count (spurs_count ∙ omega arith);
+      runs_behind = codes_in s.loops ++ t.held.runs_behind;
+      runs_are = take_all (length runs - a) (drop a runs) (omega (arith, length-drop a runs)) ∙ ap (drop a) runs_four
+          ∙ drop_at (codes_in s.links) (codes_in s.spurs ++ (codes_in s.loops ++ t.held.runs_behind)) a (sym is_a);
     }
 
     -- the loops, behind those of the spurs
-    module _ (b : ℕ) (is_b : b ≡ length (codesIn s.spurs)) where
-      pub spurs-end : a + b ≤ length runs
-      spurs-end = omega (arith, runs-long)
+    module _ (b : ℕ) (is_b : b ≡ length (codes_in s.spurs)) where
+      pub spurs_end : a + b ≤ length runs
+      spurs_end = omega (arith, runs_long)
 
-      pub loops-in : ListIn ls s.loops (mid_of (c.links + c.spurs) (c.links + c.spurs + c.loops - (c.links + c.spurs)) rows)
+      pub loops_in : ListIn ls s.loops (mid_of (c.links + c.spurs) (c.links + c.spurs + c.loops - (c.links + c.spurs)) rows)
           (mid_of (a + b) (length runs - (a + b)) runs)
-      loops-in = record {
+      loops_in = record {
         each = λ x i. o.over x (Memᴰ.append_right (s.links ++ s.spurs) i);
         rows_are = mid_at (rows_of s.links ++ rows_of s.spurs) (rows_of s.loops) t.held.rows_behind rows
             (rows_four ∙ sym (append_assoc (rows_of s.links) (rows_of s.spurs) (rows_of s.loops ++ t.held.rows_behind)))
             (c.links + c.spurs) (c.links + c.spurs + c.loops - (c.links + c.spurs))
-            (length-append (rows_of s.links) (rows_of s.spurs) ∙ omega (arith, links-count, spurs-count)) (loops-count ∙ omega arith);
-        runs-behind = t.held.runs-behind;
-        runs-are = take_all (length runs - (a + b)) (drop (a + b) runs) (omega (arith, length-drop (a + b) runs))
-            ∙ ap (drop (a + b)) (runs-four
-            ∙ sym (append_assoc (codesIn s.links) (codesIn s.spurs) (codesIn s.loops ++ t.held.runs-behind)))
-            ∙ drop_at (codesIn s.links ++ codesIn s.spurs) (codesIn s.loops ++ t.held.runs-behind) (a + b)
-            (length-append (codesIn s.links) (codesIn s.spurs) ∙ omega arith);
+            (length-append (rows_of s.links) (rows_of s.spurs) ∙ omega (arith, links_count, spurs_count)) (loops_count ∙ omega arith);
+        runs_behind = t.held.runs_behind;
+        runs_are = take_all (length runs - (a + b)) (drop (a + b) runs) (omega (arith, length-drop (a + b) runs))
+            ∙ ap (drop (a + b)) (runs_four
+            ∙ sym (append_assoc (codes_in s.links) (codes_in s.spurs) (codes_in s.loops ++ t.held.runs_behind)))
+            ∙ drop_at (codes_in s.links ++ codes_in s.spurs) (codes_in s.loops ++ t.held.runs_behind) (a + b)
+            (length-append (codes_in s.links) (codes_in s.spurs) ∙ omega arith);
       }
 
   -- the run of all
-  run-all : (n : ℕ) → n ≡ row_lines (take (c.links + c.spurs + c.loops) rows) → take n runs ≡ codesIn (inAll s)
-  run-all n e =
-      ap (take n) t.held.runs-are ∙ take_at (codesIn (inAll s)) t.held.runs-behind n (sym (e ∙ lines-all))
+  run_all : (n : ℕ) → n ≡ row_lines (take (c.links + c.spurs + c.loops) rows) → take n runs ≡ codes_in (in_all s)
+  run_all n e =
+      ap (take n) t.held.runs_are ∙ take_at (codes_in (in_all s)) t.held.runs_behind n (sym (e ∙ lines_all))
 
-  pub run-coded : (n : ℕ) → n ≡ row_lines (take (c.links + c.spurs + c.loops) rows) → Coded (take n runs)
-  run-coded n e = subst Coded (sym (run-all n e)) (coded ls (inAll s) o.over)
+  pub run_coded : (n : ℕ) → n ≡ row_lines (take (c.links + c.spurs + c.loops) rows) → Coded (take n runs)
+  run_coded n e = subst Coded (sym (run_all n e)) (coded ls (in_all s) o.over)
 
   -- ---- whether an output is too short, and what is then answered
 
-  module _ (n : ℕ) (is-n : n ≡ row_lines (take (c.links + c.spurs + c.loops) rows)) (out : Lists) where
-    n-is : n ≡ length (run_of s)
-    n-is = is-n ∙ lines-all ∙ run_length s
+  module _ (n : ℕ) (is_n : n ≡ row_lines (take (c.links + c.spurs + c.loops) rows)) (out : Lists) where
+    n_is : n ≡ length (run_of s)
+    n_is = is_n ∙ lines_all ∙ run_length s
 
-    pub short-is : shortBy c n out ≡ anyShort (lists_of s) out
-    unfolding shortBy
-    short-is =
+    pub short_is : short_by c n out ≡ any_short (lists_of s) out
+    unfolding short_by
+    short_is =
         rw (
-          entries-length s.links,
-          entries-length s.spurs,
-          entries-length s.loops,
-          ← t.links-are,
-          ← t.spurs-are,
-          ← t.loops-are,
-          ← n-is,
+          entries_length s.links,
+          entries_length s.spurs,
+          entries_length s.loops,
+          ← t.links_are,
+          ← t.spurs_are,
+          ← t.loops_are,
+          ← n_is,
         )
 
-    pub ten-is : shortBy c n out ≡ true → drawing (refusedWith (refusal 10 0)) out ≡ drawnInto s out
-    unfolding drawnInto
-    ten-is e = rw (← short-is, e)
+    pub ten_is : short_by c n out ≡ true → drawing (refused_with (refusal 10 0)) out ≡ drawn_into s out
+    unfolding drawn_into
+    ten_is e = rw (← short_is, e)
 
     -- the lists, written over the outputs
     pub written_is : (links spurs loops run : List ℤ) (a b d : ℕ) → Wrote s.links out.links links a
         → Wrote s.spurs out.spurs spurs b → Wrote s.loops out.loops loops d
-        → run ≡ map listedBy (take n runs) ++ drop (length (take n runs)) out.run
-        → lists links spurs loops run ≡ allInFirstPlaces (lists_of s) out
+        → run ≡ map listed_by (take n runs) ++ drop (length (take n runs)) out.run
+        → lists links spurs loops run ≡ all_in_first_places (lists_of s) out
     written_is links spurs loops run a b d wl ws wo wr =
-        rw (wl.written, ws.written, wo.written, its-run, entries-length s.links, entries-length s.spurs, entries-length s.loops)
+        rw (wl.written, ws.written, wo.written, its_run, entries_length s.links, entries_length s.spurs, entries_length s.loops)
       where
-        its-run : run ≡ run_of s ++ drop (length (run_of s)) out.run
-        its-run =
-            wr ∙ ap₂ (λ (l : List ℤ) (m : ℕ). l ++ drop m out.run) (ap (map listedBy) (run-all n is-n) ∙ run-listed s)
-            (ap length (run-all n is-n) ∙ run_length s)
+        its_run : run ≡ run_of s ++ drop (length (run_of s)) out.run
+        its_run =
+            wr ∙ ap₂ (λ (l : List ℤ) (m : ℕ). l ++ drop m out.run) (ap (map listed_by) (run_all n is_n) ∙ run_listed s)
+            (ap length (run_all n is_n) ∙ run_length s)
 
-    pub drawn-is : shortBy c n out ≡ false → (now : Lists) → now ≡ allInFirstPlaces (lists_of s) out
-        → drawing (record { refusal = refusal 0 0; links = c.links; spurs = c.spurs; loops = c.loops; run = n }) now ≡ drawnInto s out
-    unfolding drawnInto
-    drawn-is e now w = rw (← short-is, e, t.links-are, t.spurs-are, t.loops-are, n-is, w)
+    pub drawn_is : short_by c n out ≡ false → (now : Lists) → now ≡ all_in_first_places (lists_of s) out
+        → drawing (record { refusal = refusal 0 0; links = c.links; spurs = c.spurs; loops = c.loops; run = n }) now ≡ drawn_into s out
+    unfolding drawn_into
+    drawn_is e now w = rw (← short_is, e, t.links_are, t.spurs_are, t.loops_are, n_is, w)
 
 -- ---- what is asked for each list
 
 module _ {ls : List ℤ} {rows runs : List ℕ} {c : Counts} (e : SomeSketch ls rows runs c) where
-  pub links-asked : SomeIn ls (take c.links rows) runs
-  links-asked = record {
-    few = omega (arith, ap length (links-in e.held).rows_are, links-count e.held, enough e.held, e.rows_few);
+  pub links_asked : SomeIn ls (take c.links rows) runs
+  links_asked = record {
+    few = omega (arith, ap length (links_in e.held).rows_are, links_count e.held, enough e.held, e.rows_few);
     links = e.sketch.links;
-    listed = links-in e.held;
+    listed = links_in e.held;
   }
 
-  pub spurs-asked : (a : ℕ) → a ≡ length (codesIn e.sketch.links)
+  pub spurs_asked : (a : ℕ) → a ≡ length (codes_in e.sketch.links)
       → SomeIn ls (mid_of c.links (c.links + c.spurs - c.links) rows) (mid_of a (length runs - a) runs)
-  spurs-asked a is-a = record {
-    few = omega (arith, ap length (spurs-in e.held a is-a).rows_are, spurs-count e.held, enough e.held, e.rows_few);
+  spurs_asked a is_a = record {
+    few = omega (arith, ap length (spurs_in e.held a is_a).rows_are, spurs_count e.held, enough e.held, e.rows_few);
     links = e.sketch.spurs;
-    listed = spurs-in e.held a is-a;
+    listed = spurs_in e.held a is_a;
   }
 
-  pub loops-asked : (a : ℕ) → a ≡ length (codesIn e.sketch.links) → (b : ℕ) → b ≡ length (codesIn e.sketch.spurs)
+  pub loops_asked : (a : ℕ) → a ≡ length (codes_in e.sketch.links) → (b : ℕ) → b ≡ length (codes_in e.sketch.spurs)
       → SomeIn ls (mid_of (c.links + c.spurs) (c.links + c.spurs + c.loops - (c.links + c.spurs)) rows)
       (mid_of (a + b) (length runs - (a + b)) runs)
-  loops-asked a is-a b is_b = record {
-    few = omega (arith, ap length (loops-in e.held a is-a b is_b).rows_are, loops-count e.held, enough e.held, e.rows_few);
+  loops_asked a is_a b is_b = record {
+    few = omega (arith, ap length (loops_in e.held a is_a b is_b).rows_are, loops_count e.held, enough e.held, e.rows_few);
     links = e.sketch.loops;
-    listed = loops-in e.held a is-a b is_b;
+    listed = loops_in e.held a is_a b is_b;
   }
 
 -- ---- room, where no output is too short
@@ -254,8 +254,8 @@ or-false : (a b : Bool) → (a || b) ≡ false → (a ≡ false) × (b ≡ false
 or-false true b e = absurd (true≢false e)
 or-false false b e = (refl, e)
 
-pub roomy : (c : Counts) (n : ℕ) (out : Lists) → shortBy c n out ≡ false → Roomy c n out
-unfolding shortBy
+pub roomy : (c : Counts) (n : ℕ) (out : Lists) → short_by c n out ≡ false → Roomy c n out
+unfolding short_by
 roomy c n out e =
     let x = or-false _ _ e in
     let y = or-false _ _ x.0 in
@@ -270,40 +270,40 @@ roomy c n out e =
 -- ---- a tested book
 
 module _ (k : Book) (ls : List ℤ) (g : GoodLines k ls) {rows runs : List ℕ} {c : Counts}
-    (t : Tabled (sketchOf k.marks (standing ls)) rows runs c) where
+    (t : Tabled (sketch_of k.marks (standing ls)) rows runs c) where
   abbrev its : Sketch
-  its = sketchOf k.marks (standing ls)
+  its = sketch_of k.marks (standing ls)
 
-  lines-few : length (standing ls) ≤ mostLines
-  lines-few = omega (arith, few-standing ls, count-of ls k.lines g.good.whole, g.good.few)
+  lines_few : length (standing ls) ≤ most_lines
+  lines_few = omega (arith, few_standing ls, count_of_lem ls k.lines g.good.whole, g.good.few)
 
-  codes-lines : (xs : List Link) → length (codesIn xs) ≡ linesIn xs
-  unfolding codesIn linesIn
-  codes-lines [] = refl
-  codes-lines (x ∷ xs) = length-append (codes x.way) (codesIn xs) ∙ ap₂ (λ (a b : ℕ). a + b) (codes-length x.way) (codes-lines xs)
+  codes_lines : (xs : List Link) → length (codes_in xs) ≡ lines_in xs
+  unfolding codes_in lines_in
+  codes_lines [] = refl
+  codes_lines (x ∷ xs) = length-append (codes x.way) (codes_in xs) ∙ ap₂ (λ (a b : ℕ). a + b) (codes_length x.way) (codes_lines xs)
 
-  all-few : length (codesIn (inAll its)) ≤ mostLines
-  all-few = omega (arith, codes-lines (inAll its), as_many k.marks (standing ls) (lines-sound k ls g), lines-few)
+  all_few : length (codes_in (in_all its)) ≤ most_lines
+  all_few = omega (arith, codes_lines (in_all its), as_many k.marks (standing ls) (lines_sound k ls g), lines_few)
 
   -- no link has more lines than all together
-  one-few : (xs : List Link) (x : Link) → Memᴰ x xs → length x.way ≤ length (codesIn xs)
-  unfolding codesIn
-  one-few (y ∷ ys) x (Memᴰ.head e) =
-      omega (arith, ap (λ (z : Link). length z.way) e, length-append (codes y.way) (codesIn ys), codes-length y.way)
-  one-few (y ∷ ys) x (Memᴰ.tail i) = omega (arith, one-few ys x i, length-append (codes y.way) (codesIn ys))
+  one_few : (xs : List Link) (x : Link) → Memᴰ x xs → length x.way ≤ length (codes_in xs)
+  unfolding codes_in
+  one_few (y ∷ ys) x (Memᴰ.head e) =
+      omega (arith, ap (λ (z : Link). length z.way) e, length-append (codes y.way) (codes_in ys), codes_length y.way)
+  one_few (y ∷ ys) x (Memᴰ.tail i) = omega (arith, one_few ys x i, length-append (codes y.way) (codes_in ys))
 
-  pub sketch-over : SketchOver ls its rows runs c
-  sketch-over = record { tabled = t; over = over-lines; few = all-few }
+  pub sketch_over : SketchOver ls its rows runs c
+  sketch_over = record { tabled = t; over = over_lines; few = all_few }
     where
-      over-lines : (x : Link) → Memᴰ x (inAll its) → OverLines ls x
-      over-lines x i =
-          let stand = all-over k.marks (standing ls) (lines-sound k ls g) x i in
+      over_lines : (x : Link) → Memᴰ x (in_all its) → OverLines ls x
+      over_lines x i =
+          let stand = all_over k.marks (standing ls) (lines_sound k ls g) x i in
           record {
             small = t.held.small x i;
-            few = omega (arith, one-few (inAll its) x i, all-few);
+            few = omega (arith, one_few (in_all its) x i, all_few);
             stand = stand;
-            numbered = λ p m. (line-limits k ls g p.line (stand p m)).number;
+            numbered = λ p m. (line_limits k ls g p.line (stand p m)).number;
           }
 
-  pub some-sketch : length rows ≤ mostLines → SomeSketch ls rows runs c
-  some-sketch few = record { rows_few = few; sketch = its; held = sketch-over }
+  pub some_sketch : length rows ≤ most_lines → SomeSketch ls rows runs c
+  some_sketch few = record { rows_few = few; sketch = its; held = sketch_over }

@@ -2,21 +2,21 @@
 -- Assumes nothing.
 use Rattle.std.specs.Prelude.{Bool, ◌||◌, cond, List, ◌++◌, ℕ, ltb, length, drop, ℤ}
 use Rattle.book.specs.Lent.{Lent}
-use Rattle.book.specs.Test.{refusal, noRefusal, test_of, ifGood}
+use Rattle.book.specs.Test.{refusal, no_refusal, test_of, if_good}
 use Rattle.book.specs.declared.Refusal.{Refusal}
 use Rattle.book.specs.declared.Book.{Book}
 use Rattle.network.specs.Standing.{standing}
-use Rattle.links.specs.Sketch.{Sketch, sketchOf, entries, run_of}
+use Rattle.links.specs.Sketch.{Sketch, sketch_of, entries, run_of}
 use Rattle.junctions.specs.declared.Sketched.{Sketched}
 
 -- "number, place, links, spurs, loops, run (how many numbers)"
-abbrev pub refusedWith : Refusal → Sketched
-refusedWith r = record { refusal = r; links = 0; spurs = 0; loops = 0; run = 0 }
+abbrev pub refused_with : Refusal → Sketched
+refused_with r = record { refusal = r; links = 0; spurs = 0; loops = 0; run = 0 }
 
 abbrev pub drawn : Sketch → Sketched
 drawn s =
     record {
-      refusal = noRefusal;
+      refusal = no_refusal;
       links = length s.links;
       spurs = length s.spurs;
       loops = length s.loops;
@@ -49,38 +49,38 @@ lists_of s = lists (entries s.links) (entries s.spurs) (entries s.loops) (run_of
 abbrev pub short : List ℤ → List ℤ → Bool
 short list out = ltb (length out) (length list)
 
-abbrev pub anyShort : Lists → Lists → Bool
-anyShort l out =
+abbrev pub any_short : Lists → Lists → Bool
+any_short l out =
     short l.links out.links || short l.spurs out.spurs || short l.loops out.loops || short l.run out.run
 
 -- "Places past the answers stay"
-abbrev pub inFirstPlaces : List ℤ → List ℤ → List ℤ
-inFirstPlaces list out = list ++ drop (length list) out
+abbrev pub in_first_places : List ℤ → List ℤ → List ℤ
+in_first_places list out = list ++ drop (length list) out
 
-abbrev pub allInFirstPlaces : Lists → Lists → Lists
-allInFirstPlaces l out =
-    lists (inFirstPlaces l.links out.links) (inFirstPlaces l.spurs out.spurs)
-    (inFirstPlaces l.loops out.loops) (inFirstPlaces l.run out.run)
+abbrev pub all_in_first_places : Lists → Lists → Lists
+all_in_first_places l out =
+    lists (in_first_places l.links out.links) (in_first_places l.spurs out.spurs)
+    (in_first_places l.loops out.loops) (in_first_places l.run out.run)
 
 -- the junction sketch of a lent book of b marks
-unfoldable pub sketchIn : ℕ → List ℤ → Sketch
-unfolding sketchOf standing
-sketchIn b lines = sketchOf b (standing lines)
+unfoldable pub sketch_in : ℕ → List ℤ → Sketch
+unfolding sketch_of standing
+sketch_in b lines = sketch_of b (standing lines)
 
 -- the lists of a sketch, written into the outputs: 10, "then nothing is written"; or all four
-unfoldable pub drawnInto : Sketch → Lists → Drawing
+unfoldable pub drawn_into : Sketch → Lists → Drawing
 unfolding entries run_of
-drawnInto s out =
-    cond (anyShort (lists_of s) out) (drawing (refusedWith (refusal 10 0)) out)
-    (drawing (drawn s) (allInFirstPlaces (lists_of s) out))
+drawn_into s out =
+    cond (any_short (lists_of s) out) (drawing (refused_with (refusal 10 0)) out)
+    (drawing (drawn s) (all_in_first_places (lists_of s) out))
 
 -- of a tested book
-unfoldable pub sketchGood : Book → List ℤ → Lists → Drawing
-unfolding sketchIn drawnInto
-sketchGood k lines out = drawnInto (sketchIn k.marks lines) out
+unfoldable pub sketch_good : Book → List ℤ → Lists → Drawing
+unfolding sketch_in drawn_into
+sketch_good k lines out = drawn_into (sketch_in k.marks lines) out
 
-unfoldable pub sketchCall : Lent → Lists → Drawing
-unfolding sketchGood test_of
-sketchCall book out =
-    ifGood (test_of book) (λ r. drawing (refusedWith r) out)
-    (λ k. sketchGood k book.lines out)
+unfoldable pub sketch_call : Lent → Lists → Drawing
+unfolding sketch_good test_of
+sketch_call book out =
+    if_good (test_of book) (λ r. drawing (refused_with r) out)
+    (λ k. sketch_good k book.lines out)

@@ -1,19 +1,19 @@
 // The five numbers of a link, and those of a list of links.
 ghost use Rattle.std.specs.Prelude.{◌≡◌, List, ◌*◌, ◌<◌, ◌≤◌, ltb, length};
-ghost use Rattle.book.specs.Limits.{mostLines};
+ghost use Rattle.book.specs.Limits.{most_lines};
 ghost use Rattle.links.specs.Link.{Link};
-ghost use Rattle.links.specs.Sketch.{entryWords};
+ghost use Rattle.links.specs.Sketch.{entry_words};
 ghost use Rattle.rows.specs.Sums.{Measured, LinesIn};
-ghost use Rattle.joins.specs.Row.{rowLimit, first_of, last_of};
-ghost use Rattle.junctions.specs.Entries.{entryBy, ListIn, SomeIn, Wrote};
+ghost use Rattle.joins.specs.Row.{row_limit, first_of, last_of};
+ghost use Rattle.junctions.specs.Entries.{entry_by, ListIn, SomeIn, Wrote};
 
 use crate::{ENTRY_COUNT, ENTRY_DIFFERENCE, ENTRY_FIRST, ENTRY_LAST, ENTRY_LENGTH, ENTRY_WORDS};
 use joins::row;
 
 // Whether an output has no room for so many entries.
 pub(crate) fn is_short(out: &[i64], count: usize) -> bool
-    requires { count ≤ mostLines }
-    ensures { result ≡ ltb (length out.now) (count * entryWords) }
+    requires { count ≤ most_lines }
+    ensures { result ≡ ltb (length out.now) (count * entry_words) }
 {
     out.len() < count * ENTRY_WORDS
 }
@@ -22,9 +22,9 @@ pub(crate) fn is_short(out: &[i64], count: usize) -> bool
 fn write_entry(lines: &[i64], r: u64, run: &[u16], out: &mut [i64])
     requires fact_1 { Measured lines.now }
     requires fact_2 { LinesIn lines.now run.now }
-    requires fact_3 { length out.old ≡ entryWords }
-    requires fact_4 { (first_of r < rowLimit) × (last_of r < rowLimit) }
-    ensures { out.new ≡ entryBy lines.now r run.now }
+    requires fact_3 { length out.old ≡ entry_words }
+    requires fact_4 { (first_of r < row_limit) × (last_of r < row_limit) }
+    ensures { out.new ≡ entry_by lines.now r run.now }
 {
     out[ENTRY_FIRST] = signed::signed_count(row::first(r));
     out[ENTRY_LAST] = signed::signed_count(row::last(r));
@@ -37,7 +37,7 @@ fn write_entry(lines: &[i64], r: u64, run: &[u16], out: &mut [i64])
 pub(crate) fn write(lines: &[i64], rows: &[u64], runs: &[u16], out: &mut [i64]) -> usize
     requires fact_1 { Measured lines.now }
     requires fact_2 { SomeIn lines.now rows.now runs.now }
-    requires fact_3 { length rows.now * entryWords ≤ length out.old }
+    requires fact_3 { length rows.now * entry_words ≤ length out.old }
     ensures { (xs : List Link) → ListIn lines.now xs rows.now runs.now
         → Wrote xs out.old out.new result }
 {

@@ -2,11 +2,11 @@
 ghost use Rattle.std.specs.Prelude.{◌≡◌, ◌≤◌};
 ghost use Rattle.book.specs.Lent.{lent};
 ghost use Rattle.book.specs.Good.{GoodLines};
-ghost use Rattle.book.specs.Limits.{mostLines};
+ghost use Rattle.book.specs.Limits.{most_lines};
 ghost use Rattle.links.specs.Sketch.{Sketch};
 ghost use Rattle.rows.specs.Sums.{Measured};
-ghost use Rattle.junctions.specs.Call.{refusedWith, lists, lists_of, allInFirstPlaces, drawing, drawnInto, sketchGood, sketchCall};
-ghost use Rattle.junctions.specs.Entries.{linesBy, shortBy, Roomy, SketchOver, SomeSketch};
+ghost use Rattle.junctions.specs.Call.{refused_with, lists, lists_of, all_in_first_places, drawing, drawn_into, sketch_good, sketch_call};
+ghost use Rattle.junctions.specs.Entries.{lines_by, short_by, Roomy, SketchOver, SomeSketch};
 
 mod entries;
 
@@ -40,7 +40,7 @@ pub struct Sketched {
 }
 
 fn refused(refusal: Refusal) -> Sketched
-    ensures { result ≡ refusedWith refusal }
+    ensures { result ≡ refused_with refusal }
 {
     Sketched {
         refusal,
@@ -64,7 +64,7 @@ pub fn sketch(
     run: &mut [i64],
 ) -> Sketched
     ensures { drawing result (lists links.new spurs.new loops.new run.new)
-        ≡ sketchCall (lent version b t held.now lines.now)
+        ≡ sketch_call (lent version b t held.now lines.now)
         (lists links.old spurs.old loops.old run.old) }
 {
     match book::test(version, b, t, held, lines) {
@@ -84,7 +84,7 @@ pub fn sketch_good(
 ) -> Sketched
     requires { GoodLines book lines.now }
     ensures { drawing result (lists links.new spurs.new loops.new run.new)
-        ≡ sketchGood book lines.now (lists links.old spurs.old loops.old run.old) }
+        ≡ sketch_good book lines.now (lists links.old spurs.old loops.old run.old) }
 {
     let mut rows = [0u64; Book::MAX_LINES];
     let mut runs = [0u16; Book::MAX_LINES];
@@ -101,8 +101,8 @@ fn any_short(
     loops: &[i64],
     run: &[i64],
 ) -> bool
-    requires { (found.links ≤ mostLines) × (found.spurs ≤ mostLines) × (found.loops ≤ mostLines) }
-    ensures { result ≡ shortBy found n (lists links.now spurs.now loops.now run.now) }
+    requires { (found.links ≤ most_lines) × (found.spurs ≤ most_lines) × (found.loops ≤ most_lines) }
+    ensures { result ≡ short_by found n (lists links.now spurs.now loops.now run.now) }
 {
     if entries::is_short(links, found.links) {
         return true;
@@ -130,11 +130,11 @@ fn write_all(
 )
     requires fact_1 { Measured lines.now }
     requires fact_2 { SomeSketch lines.now rows.now runs.now found }
-    requires fact_3 { n ≡ linesBy rows.now found }
+    requires fact_3 { n ≡ lines_by rows.now found }
     requires fact_4 { Roomy found n (lists links.old spurs.old loops.old run.old) }
     ensures { (s : Sketch) → SketchOver lines.now s rows.now runs.now found
         → lists links.new spurs.new loops.new run.new
-        ≡ allInFirstPlaces (lists_of s) (lists links.old spurs.old loops.old run.old) }
+        ≡ all_in_first_places (lists_of s) (lists links.old spurs.old loops.old run.old) }
 {
     let kept = found.links;
     let off = kept + found.spurs;
@@ -160,7 +160,7 @@ fn write(
     requires fact_2 { SomeSketch lines.now rows.now runs.now found }
     ensures { (s : Sketch) → SketchOver lines.now s rows.now runs.now found
         → drawing result (lists links.new spurs.new loops.new run.new)
-        ≡ drawnInto s (lists links.old spurs.old loops.old run.old) }
+        ≡ drawn_into s (lists links.old spurs.old loops.old run.old) }
 {
     let n = row::lines(&rows[..found.links + found.spurs + found.loops]);
     if any_short(found, n, links, spurs, loops, run) {

@@ -1,10 +1,10 @@
 // The kept report: compared with the rows of its book, and brought up to date.
 ghost use Rattle.std.specs.Prelude.{◌≡◌, ◌++◌, ◌≤◌, ◌-◌, length, take, drop, replicate, pos};
-ghost use Rattle.kept.specs.Other.{otherReport};
+ghost use Rattle.kept.specs.Other.{other_report};
 
 // Whether the lent report is shorter than the rows, or differs from them in their places.
 pub fn differs(report: &[i64], rows: &[i64]) -> bool
-    ensures { result ≡ otherReport report.now rows.now }
+    ensures { result ≡ other_report report.now rows.now }
 {
     if report.len() < rows.len() {
         return true;

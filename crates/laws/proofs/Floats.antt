@@ -7,10 +7,10 @@ use lib.IntN.{ℤ, pos, negsuc}
 use lib.Ieee.{binary64, in_float}
 use native.Mathlib.Omega.{arith}
 use borrow.Author.Tests.{ltb-false}
-use Rattle.laws.specs.Tests.{outZ}
+use Rattle.laws.specs.Tests.{out_z}
 
-pub exact : (z : ℤ) → outZ (negsuc 9007199254740991) (pos 9007199254740992) z ≡ false → T (in_float binary64 z)
-unfolding outZ in_float
+pub exact : (z : ℤ) → out_z (negsuc 9007199254740991) (pos 9007199254740992) z ≡ false → T (in_float binary64 z)
+unfolding out_z in_float
 exact (pos n) h = le→leb n 9007199254740992 (ltb-false 9007199254740992 n h)
 exact (negsuc n) h = lt→ltb n 9007199254740992 (omega (arith, ltb-false 9007199254740991 n (or_no (ltb 9007199254740991 n) h)))
   where

@@ -17,8 +17,8 @@ pub record Laid {A : Type 0} (vs l₀ l : List A) (i : ℕ) : Type 0 where
   pub back : drop i l ≡ drop i l₀
 
 module _ {A : Type 0} (vs l₀ : List A) where
-  pub laid-start : Laid vs l₀ l₀ 0
-  laid-start = record { most = omega arith; as_long = refl; front = refl; back = refl }
+  pub laid_start : Laid vs l₀ l₀ 0
+  laid_start = record { most = omega arith; as_long = refl; front = refl; back = refl }
 
   pub laid_next : (l : List A) (i : ℕ) (v d : A) → length vs ≤ length l₀ → i < length vs → v ≡ get_or vs i d → Laid vs l₀ l i
       → Laid vs l₀ (set l i v) (i + 1)
@@ -28,11 +28,11 @@ module _ {A : Type 0} (vs l₀ : List A) where
         most = omega arith;
         as_long = simp length-set s.as_long;
         front = rw (add-one i, take-suc-set l i v k, s.front, e, take-suc vs i d h);
-        back = rw (add-one i, drop-set-lt (suc i) l i v (omega arith), ← add-one i) (drop-next i l l₀ s.back);
+        back = rw (add-one i, drop-set-lt (suc i) l i v (omega arith), ← add-one i) (drop_next i l l₀ s.back);
       }
     where
-      drop-next : (i : ℕ) (a b : List A) → drop i a ≡ drop i b → drop (i + 1) a ≡ drop (i + 1) b
-      drop-next i a b q = sym (drop-drop 1 i a) ∙ ap (drop 1) q ∙ drop-drop 1 i b
+      drop_next : (i : ℕ) (a b : List A) → drop i a ≡ drop i b → drop (i + 1) a ≡ drop (i + 1) b
+      drop_next i a b q = sym (drop-drop 1 i a) ∙ ap (drop 1) q ∙ drop-drop 1 i b
 
   pub laid_end : (l : List A) (i : ℕ) → length vs ≤ i → Laid vs l₀ l i → l ≡ vs ++ drop (length vs) l₀
   laid_end l i h s =
@@ -44,20 +44,20 @@ module _ {A : Type 0} (z : A) (l₀ : List A) (a e : ℕ) (order : a ≤ e) (roo
   abbrev pub zeroed : List A
   zeroed = take a l₀ ++ replicate (e - a) z
 
-  pub zeroed-length : length zeroed ≡ e
-  zeroed-length = simp (length-append, length-take, length-replicate) (omega arith)
+  pub zeroed_length : length zeroed ≡ e
+  zeroed_length = simp (length-append, length-take, length-replicate) (omega arith)
 
   pub zeroed_start : Laid zeroed l₀ l₀ a
   zeroed_start = record {
-    most = omega (arith, zeroed-length);
+    most = omega (arith, zeroed_length);
     as_long = refl;
     front = sym (take-append-le a (take a l₀) (replicate (e - a) z) (simp length-take (omega arith))
         ∙ take_all a (take a l₀) (simp length-take (omega arith)));
     back = refl;
   }
 
-  pub zeroed-at : (i : ℕ) (d : A) → a ≤ i → i < e → z ≡ get_or zeroed i d
-  zeroed-at i d h k =
+  pub zeroed_at : (i : ℕ) (d : A) → a ≤ i → i < e → z ≡ get_or zeroed i d
+  zeroed_at i d h k =
       let n : length (take a l₀) ≡ a = simp length-take (omega arith) in
       let j : i ≡ length (take a l₀) + (i - a) = omega (arith, n) in
       sym (ap (λ (x : ℕ). get_or zeroed x d) j ∙ get_or-append-add (take a l₀) (replicate (e - a) z) (i - a) d

@@ -11,21 +11,21 @@ use borrow.Author.Tests.{eq-eqb, ne_eqb, eqb-true, eqb-false}
 use mir.Syntax.{w64}
 use mir.Val.{SFits, to_z, of_z}
 use mir.Facts.{to_z-of_z}
-use Rattle.laws.specs.Tests.{eqZ}
+use Rattle.laws.specs.Tests.{eq_z}
 
 -- two tests agree where their facts do
-eqb-iff : (a b c d : ℕ) → (a ≡ b → c ≡ d) → (c ≡ d → a ≡ b) → (t : Bool) → eqb c d ≡ t → eqb a b ≡ eqb c d
-eqb-iff a b c d f g true e = eq-eqb a b (g (eqb-true c d e)) ∙ sym e
-eqb-iff a b c d f g false e = ne_eqb a b (λ q. eqb-false c d e (f q)) ∙ sym e
+eqb_iff : (a b c d : ℕ) → (a ≡ b → c ≡ d) → (c ≡ d → a ≡ b) → (t : Bool) → eqb c d ≡ t → eqb a b ≡ eqb c d
+eqb_iff a b c d f g true e = eq-eqb a b (g (eqb-true c d e)) ∙ sym e
+eqb_iff a b c d f g false e = ne_eqb a b (λ q. eqb-false c d e (f q)) ∙ sym e
 
 -- the machine compares bits, and the numbers are equal where the bits are
-pub eq-bits : (x y : ℤ) → SFits w64 x → SFits w64 y → eqb (of_z w64 x) (of_z w64 y) ≡ eqZ x y
-unfolding eqZ
-eq-bits (pos a) (pos b) fx fy = refl
-eq-bits (pos a) (negsuc b) fx fy = ne_eqb a (2 ^ 64 - suc b) (λ e. omega (arith, fx.sfits, fy.sfits))
-eq-bits (negsuc a) (pos b) fx fy = ne_eqb (2 ^ 64 - suc a) b (λ e. omega (arith, fx.sfits, fy.sfits))
-eq-bits (negsuc a) (negsuc b) fx fy =
-    eqb-iff (2 ^ 64 - suc a) (2 ^ 64 - suc b) a b (λ e. omega (arith, fx.sfits, fy.sfits)) (λ e. omega arith) (eqb a b) refl
+pub eq_bits : (x y : ℤ) → SFits w64 x → SFits w64 y → eqb (of_z w64 x) (of_z w64 y) ≡ eq_z x y
+unfolding eq_z
+eq_bits (pos a) (pos b) fx fy = refl
+eq_bits (pos a) (negsuc b) fx fy = ne_eqb a (2 ^ 64 - suc b) (λ e. omega (arith, fx.sfits, fy.sfits))
+eq_bits (negsuc a) (pos b) fx fy = ne_eqb (2 ^ 64 - suc a) b (λ e. omega (arith, fx.sfits, fy.sfits))
+eq_bits (negsuc a) (negsuc b) fx fy =
+    eqb_iff (2 ^ 64 - suc a) (2 ^ 64 - suc b) a b (λ e. omega (arith, fx.sfits, fy.sfits)) (λ e. omega arith) (eqb a b) refl
 
 -- a number that is not below 0 is `pos` of its magnitude
 pub nonneg : (z : ℤ) → lt_z z (pos 0) ≡ false → T (non_neg z)

@@ -6,15 +6,15 @@ use Prim.Native.Nat.{ℕ, ◌≤◌}
 use lib.Dec.{ltb}
 use lib.IntN.{ℤ, pos, negsuc}
 use borrow.Author.Tests.{ltb-false, eq-eqb}
-use Rattle.laws.specs.Tests.{outN, eqZ}
+use Rattle.laws.specs.Tests.{out_n, eq_z}
 
 -- the first test holds: r is the flag that the code has of it
-pub or-here : {r a : Bool} (b : Bool) → r ≡ a → r ≡ true → true ≡ a || b
-or-here b p q = sym (ap (λ (t : Bool). t || b) (sym p ∙ q))
+pub or_here : {r a : Bool} (b : Bool) → r ≡ a → r ≡ true → true ≡ a || b
+or_here b p q = sym (ap (λ (t : Bool). t || b) (sym p ∙ q))
 
 -- the first test fails, and the rest is s
-pub or-next : {r s a b : Bool} → r ≡ a → r ≡ false → s ≡ b → s ≡ a || b
-or-next {b = b} p q h = h ∙ sym (ap (λ (t : Bool). t || b) (sym p ∙ q))
+pub or_next : {r s a b : Bool} → r ≡ a → r ≡ false → s ≡ b → s ≡ a || b
+or_next {b = b} p q h = h ∙ sym (ap (λ (t : Bool). t || b) (sym p ∙ q))
 
 -- both tests of an `||` that fails fail
 pub or_left : (a b : Bool) → a || b ≡ false → a ≡ false
@@ -37,19 +37,19 @@ cond_ind P true x y f g = f refl
 cond_ind P false x y f g = g refl
 
 -- a count that is not outside
-pub inN-low : (lo hi n : ℕ) → outN lo hi n ≡ false → lo ≤ n
-unfolding outN
-inN-low lo hi n e = ltb-false n lo (or_left (ltb n lo) (ltb hi n) e)
+pub in_n_low : (lo hi n : ℕ) → out_n lo hi n ≡ false → lo ≤ n
+unfolding out_n
+in_n_low lo hi n e = ltb-false n lo (or_left (ltb n lo) (ltb hi n) e)
 
-pub inN-high : (lo hi n : ℕ) → outN lo hi n ≡ false → n ≤ hi
-unfolding outN
-inN-high lo hi n e = ltb-false hi n (or_right (ltb n lo) (ltb hi n) e)
+pub in_n_high : (lo hi n : ℕ) → out_n lo hi n ≡ false → n ≤ hi
+unfolding out_n
+in_n_high lo hi n e = ltb-false hi n (or_right (ltb n lo) (ltb hi n) e)
 
 -- equal whole numbers, and a test of them that fails
-pub eqZ-same : (x : ℤ) → eqZ x x ≡ true
-unfolding eqZ
-eqZ-same (pos n) = eq-eqb n n refl
-eqZ-same (negsuc n) = eq-eqb n n refl
+pub eq_z_same : (x : ℤ) → eq_z x x ≡ true
+unfolding eq_z
+eq_z_same (pos n) = eq-eqb n n refl
+eq_z_same (negsuc n) = eq-eqb n n refl
 
-pub eqZ-apart : (x y : ℤ) → eqZ x y ≡ false → x ≡ y → ⊥
-eqZ-apart x y e h = true≢false (sym (eqZ-same y) ∙ (rw h at e))
+pub eq_z_apart : (x y : ℤ) → eq_z x y ≡ false → x ≡ y → ⊥
+eq_z_apart x y e h = true≢false (sym (eq_z_same y) ∙ (rw h at e))

@@ -5,16 +5,16 @@ use Rattle.std.specs.Prelude.{Bool, false, ◌||◌, ℕ, eqb, ltb, ℤ, pos, ne
 use Rattle.std.specs.Int.Signed.{lt_z}
 
 -- z is below lo or above hi
-unfoldable pub outZ : ℤ → ℤ → ℤ → Bool
-outZ lo hi z = lt_z z lo || lt_z hi z
+unfoldable pub out_z : ℤ → ℤ → ℤ → Bool
+out_z lo hi z = lt_z z lo || lt_z hi z
 
 -- the same of natural numbers
-unfoldable pub outN : ℕ → ℕ → ℕ → Bool
-outN lo hi n = ltb n lo || ltb hi n
+unfoldable pub out_n : ℕ → ℕ → ℕ → Bool
+out_n lo hi n = ltb n lo || ltb hi n
 
 -- two whole numbers are equal
-unfoldable pub eqZ : ℤ → ℤ → Bool
-eqZ (pos a) (pos b) = eqb a b
-eqZ (pos a) (negsuc b) = false
-eqZ (negsuc a) (pos b) = false
-eqZ (negsuc a) (negsuc b) = eqb a b
+unfoldable pub eq_z : ℤ → ℤ → Bool
+eq_z (pos a) (pos b) = eqb a b
+eq_z (pos a) (negsuc b) = false
+eq_z (negsuc a) (pos b) = false
+eq_z (negsuc a) (negsuc b) = eqb a b

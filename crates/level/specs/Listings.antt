@@ -3,24 +3,24 @@
 use Rattle.std.specs.Prelude.{List, ℤ, pos}
 use Rattle.lists.specs.declared.Listed as lists
 use Rattle.lists.specs.Listing.{Listing}
-use Rattle.level.specs.Signed.{Small, SmallRefusal, signedRefusal}
+use Rattle.level.specs.Signed.{Small, SmallRefusal, signed_refusal}
 use Rattle.level.specs.declared.Listed.{Listed}
 
 pub record SmallListed (a : lists.Listed) : Type 0 where
   pub refusal : SmallRefusal a.refusal
   pub entries : Small a.entries
 
-unfoldable pub signedListed : lists.Listed → Listed
-signedListed a =
-    let r = signedRefusal a.refusal in
+unfoldable pub signed_listed : lists.Listed → Listed
+signed_listed a =
+    let r = signed_refusal a.refusal in
     record { number = r.number; place = r.place; entries = pos a.entries }
 
 pub record ListingNow : Type 0 where
   pub answer : Listed
   pub out : List ℤ
 
-abbrev pub listingNow : Listed → List ℤ → ListingNow
-listingNow a out = record { answer = a; out = out }
+abbrev pub listing_now : Listed → List ℤ → ListingNow
+listing_now a out = record { answer = a; out = out }
 
-abbrev pub ofListing : Listing → ListingNow
-ofListing o = listingNow (signedListed o.answer) o.out
+abbrev pub of_listing : Listing → ListingNow
+of_listing o = listing_now (signed_listed o.answer) o.out

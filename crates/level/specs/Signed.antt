@@ -16,8 +16,8 @@ pub record SmallRefusal (r : Refusal) : Type 0 where
   pub number : Small r.number
   pub place : Small r.place
 
-abbrev pub signedRefusal : Refusal → SignedRefusal
-signedRefusal r = record { number = pos r.number; place = pos r.place }
+abbrev pub signed_refusal : Refusal → SignedRefusal
+signed_refusal r = record { number = pos r.number; place = pos r.place }
 
 pub record SmallRead (a : read.ReadAnswer) : Type 0 where
   pub refusal : SmallRefusal a.refusal
@@ -27,9 +27,9 @@ pub record SmallRead (a : read.ReadAnswer) : Type 0 where
   pub h : Small a.h
   pub n : Small a.n
 
-unfoldable pub signedRead : read.ReadAnswer → ReadAnswer
-signedRead a =
-    let r = signedRefusal a.refusal in
+unfoldable pub signed_read : read.ReadAnswer → ReadAnswer
+signed_read a =
+    let r = signed_refusal a.refusal in
     record {
       number = r.number;
       place = r.place;
@@ -45,8 +45,8 @@ pub record ReadNow : Type 0 where
   pub held : List ℤ
   pub lines : List ℤ
 
-abbrev pub readNow : ReadAnswer → List ℤ → List ℤ → ReadNow
-readNow a held lines = record { answer = a; held = held; lines = lines }
+abbrev pub read_now : ReadAnswer → List ℤ → List ℤ → ReadNow
+read_now a held lines = record { answer = a; held = held; lines = lines }
 
-abbrev pub ofRead : file.Outcome → ReadNow
-ofRead o = readNow (signedRead o.answer) o.held o.lines
+abbrev pub of_read : file.Outcome → ReadNow
+of_read o = read_now (signed_read o.answer) o.held o.lines

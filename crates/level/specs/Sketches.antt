@@ -3,7 +3,7 @@
 use Rattle.std.specs.Prelude.{pos}
 use Rattle.junctions.specs.declared.Sketched as junctions
 use Rattle.junctions.specs.Call.{Lists, Drawing}
-use Rattle.level.specs.Signed.{Small, SmallRefusal, signedRefusal}
+use Rattle.level.specs.Signed.{Small, SmallRefusal, signed_refusal}
 use Rattle.level.specs.declared.Sketched.{Sketched}
 
 pub record SmallSketched (a : junctions.Sketched) : Type 0 where
@@ -13,9 +13,9 @@ pub record SmallSketched (a : junctions.Sketched) : Type 0 where
   pub loops : Small a.loops
   pub run : Small a.run
 
-unfoldable pub signedSketched : junctions.Sketched → Sketched
-signedSketched a =
-    let r = signedRefusal a.refusal in
+unfoldable pub signed_sketched : junctions.Sketched → Sketched
+signed_sketched a =
+    let r = signed_refusal a.refusal in
     record {
       number = r.number;
       place = r.place;
@@ -29,8 +29,8 @@ pub record SketchNow : Type 0 where
   pub answer : Sketched
   pub out : Lists
 
-abbrev pub sketchNow : Sketched → Lists → SketchNow
-sketchNow a out = record { answer = a; out = out }
+abbrev pub sketch_now : Sketched → Lists → SketchNow
+sketch_now a out = record { answer = a; out = out }
 
-abbrev pub ofSketch : Drawing → SketchNow
-ofSketch d = sketchNow (signedSketched d.answer) d.out
+abbrev pub of_sketch : Drawing → SketchNow
+of_sketch d = sketch_now (signed_sketched d.answer) d.out

@@ -3,21 +3,21 @@
 ghost use Rattle.std.specs.Prelude.{◌≡◌};
 ghost use Rattle.book.specs.Lent.{lent};
 ghost use Rattle.file.specs.Read.{read_of};
-ghost use Rattle.writer.specs.Write.{writeOf};
-ghost use Rattle.survey.specs.Survey.{surveyOf};
-ghost use Rattle.survey.specs.Correction.{rerunOf, withdrawOf};
-ghost use Rattle.rates.specs.Rates.{rateAnswer};
-ghost use Rattle.level.specs.Signed.{SmallRefusal, signedRefusal, SmallRead, signedRead, readNow, ofRead};
-ghost use Rattle.level.specs.Writings.{SmallWritten, signedWritten, writingNow, ofWriting};
-ghost use Rattle.level.specs.Answers.{SmallAnswer, signedAnswer, surveyNow, ofSurvey, correctionNow, ofCorrection};
-ghost use Rattle.lists.specs.Listing.{listingOf, listingsOf};
-ghost use Rattle.lists.specs.NotChecked.{notCheckedOf};
-ghost use Rattle.adjust.specs.Call.{adjustOf};
-ghost use Rattle.level.specs.Listings.{SmallListed, signedListed, listingNow, ofListing};
-ghost use Rattle.level.specs.Heights.{SmallAdjusted, signedAdjusted, adjustNow, ofAdjust};
-ghost use Rattle.level.specs.Rating.{SmallRate, signedRate};
-ghost use Rattle.junctions.specs.Call.{lists, sketchCall};
-ghost use Rattle.level.specs.Sketches.{SmallSketched, signedSketched, sketchNow, ofSketch};
+ghost use Rattle.writer.specs.Write.{write_of};
+ghost use Rattle.survey.specs.Survey.{survey_of};
+ghost use Rattle.survey.specs.Correction.{rerun_of, withdraw_of};
+ghost use Rattle.rates.specs.Rates.{rate_answer};
+ghost use Rattle.level.specs.Signed.{SmallRefusal, signed_refusal, SmallRead, signed_read, read_now, of_read};
+ghost use Rattle.level.specs.Writings.{SmallWritten, signed_written, writing_now, of_writing};
+ghost use Rattle.level.specs.Answers.{SmallAnswer, signed_answer, survey_now, of_survey, correction_now, of_correction};
+ghost use Rattle.lists.specs.Listing.{listing_of, listings_of};
+ghost use Rattle.lists.specs.NotChecked.{not_checked_of};
+ghost use Rattle.adjust.specs.Call.{adjust_of};
+ghost use Rattle.level.specs.Listings.{SmallListed, signed_listed, listing_now, of_listing};
+ghost use Rattle.level.specs.Heights.{SmallAdjusted, signed_adjusted, adjust_now, of_adjust};
+ghost use Rattle.level.specs.Rating.{SmallRate, signed_rate};
+ghost use Rattle.junctions.specs.Call.{lists, sketch_call};
+ghost use Rattle.level.specs.Sketches.{SmallSketched, signed_sketched, sketch_now, of_sketch};
 
 use book::Refusal;
 use rates::{Rate, RateAnswer};
@@ -31,7 +31,7 @@ pub struct SignedRefusal {
 
 fn signed_refusal(r: Refusal) -> SignedRefusal
     requires { SmallRefusal r }
-    ensures { result ≡ signedRefusal r }
+    ensures { result ≡ signed_refusal r }
 {
     SignedRefusal {
         number: signed::signed_count(r.number),
@@ -54,7 +54,7 @@ pub struct ReadAnswer {
 
 fn read_answer(a: file::ReadAnswer) -> ReadAnswer
     requires { SmallRead a }
-    ensures { result ≡ signedRead a }
+    ensures { result ≡ signed_read a }
 {
     let refusal = a.refusal;
     let r = signed_refusal(refusal);
@@ -71,8 +71,8 @@ fn read_answer(a: file::ReadAnswer) -> ReadAnswer
 
 #[unsafe(no_mangle)]
 pub extern "C" fn level_read(file: &[u8], held: &mut [i64], lines: &mut [i64]) -> ReadAnswer
-    ensures { readNow result held.new lines.new
-        ≡ ofRead (read_of file.now held.old lines.old) }
+    ensures { read_now result held.new lines.new
+        ≡ of_read (read_of file.now held.old lines.old) }
 {
     read_answer(file::read(file, held, lines))
 }
@@ -88,7 +88,7 @@ pub struct Written {
 
 fn write_answer(a: writer::Written) -> Written
     requires { SmallWritten a }
-    ensures { result ≡ signedWritten a }
+    ensures { result ≡ signed_written a }
 {
     let refusal = a.refusal;
     let r = signed_refusal(refusal);
@@ -108,13 +108,13 @@ pub extern "C" fn level_write(
     lines: &[i64],
     file: &mut [u8],
 ) -> Written
-    ensures { writingNow result file.new
-        ≡ ofWriting (writeOf (lent version b t held.now lines.now) file.old) }
+    ensures { writing_now result file.new
+        ≡ of_writing (write_of (lent version b t held.now lines.now) file.old) }
 {
     write_answer(writer::write(version, b, t, held, lines, file))
 }
 
-// What survey, re-run and withdrawal answer.
+// What survey, re_run and withdrawal answer.
 #[repr(C)]
 #[derive(Drop)]
 pub struct Answer {
@@ -126,7 +126,7 @@ pub struct Answer {
 
 fn survey_answer(a: survey::Answer) -> Answer
     requires { SmallAnswer a }
-    ensures { result ≡ signedAnswer a }
+    ensures { result ≡ signed_answer a }
 {
     let refusal = a.refusal;
     let r = signed_refusal(refusal);
@@ -147,8 +147,8 @@ pub extern "C" fn level_survey(
     lines: &[i64],
     rows: &mut [i64],
 ) -> Answer
-    ensures { surveyNow result rows.new
-        ≡ ofSurvey (surveyOf (lent version b t held.now lines.now) rows.old) }
+    ensures { survey_now result rows.new
+        ≡ of_survey (survey_of (lent version b t held.now lines.now) rows.old) }
 {
     survey_answer(survey::survey(version, b, t, held, lines, rows))
 }
@@ -164,8 +164,8 @@ pub extern "C" fn level_rerun(
     line: i64,
     difference: i64,
 ) -> Answer
-    ensures { correctionNow result lines.new report.new
-        ≡ ofCorrection (rerunOf (lent version b t held.now lines.old) report.old line difference) }
+    ensures { correction_now result lines.new report.new
+        ≡ of_correction (rerun_of (lent version b t held.now lines.old) report.old line difference) }
 {
     survey_answer(survey::rerun(version, b, t, held, lines, report, line, difference))
 }
@@ -180,8 +180,8 @@ pub extern "C" fn level_withdraw(
     report: &mut [i64],
     line: i64,
 ) -> Answer
-    ensures { correctionNow result lines.new report.new
-        ≡ ofCorrection (withdrawOf (lent version b t held.now lines.old) report.old line) }
+    ensures { correction_now result lines.new report.new
+        ≡ of_correction (withdraw_of (lent version b t held.now lines.old) report.old line) }
 {
     survey_answer(survey::withdraw(version, b, t, held, lines, report, line))
 }
@@ -197,7 +197,7 @@ pub struct Listed {
 
 fn listing_answer(a: lists::Listed) -> Listed
     requires { SmallListed a }
-    ensures { result ≡ signedListed a }
+    ensures { result ≡ signed_listed a }
 {
     let refusal = a.refusal;
     let r = signed_refusal(refusal);
@@ -218,8 +218,8 @@ pub extern "C" fn level_listing(
     number: i64,
     out: &mut [i64],
 ) -> Listed
-    ensures { listingNow result out.new
-        ≡ ofListing (listingOf (lent version b t held.now lines.now) number out.old) }
+    ensures { listing_now result out.new
+        ≡ of_listing (listing_of (lent version b t held.now lines.now) number out.old) }
 {
     listing_answer(lists::listing(version, b, t, held, lines, number, out))
 }
@@ -233,8 +233,8 @@ pub extern "C" fn level_listings(
     lines: &[i64],
     out: &mut [i64],
 ) -> Listed
-    ensures { listingNow result out.new
-        ≡ ofListing (listingsOf (lent version b t held.now lines.now) out.old) }
+    ensures { listing_now result out.new
+        ≡ of_listing (listings_of (lent version b t held.now lines.now) out.old) }
 {
     listing_answer(lists::listings(version, b, t, held, lines, out))
 }
@@ -248,8 +248,8 @@ pub extern "C" fn level_not_checked(
     lines: &[i64],
     out: &mut [i64],
 ) -> Listed
-    ensures { listingNow result out.new
-        ≡ ofListing (notCheckedOf (lent version b t held.now lines.now) out.old) }
+    ensures { listing_now result out.new
+        ≡ of_listing (not_checked_of (lent version b t held.now lines.now) out.old) }
 {
     listing_answer(lists::not_checked(version, b, t, held, lines, out))
 }
@@ -268,7 +268,7 @@ pub struct Sketched {
 
 fn sketch_answer(a: junctions::Sketched) -> Sketched
     requires { SmallSketched a }
-    ensures { result ≡ signedSketched a }
+    ensures { result ≡ signed_sketched a }
 {
     let refusal = a.refusal;
     let r = signed_refusal(refusal);
@@ -294,8 +294,8 @@ pub extern "C" fn level_sketch(
     loops: &mut [i64],
     run: &mut [i64],
 ) -> Sketched
-    ensures { sketchNow result (lists links.new spurs.new loops.new run.new)
-        ≡ ofSketch (sketchCall (lent version b t held.now lines.now)
+    ensures { sketch_now result (lists links.new spurs.new loops.new run.new)
+        ≡ of_sketch (sketch_call (lent version b t held.now lines.now)
         (lists links.old spurs.old loops.old run.old)) }
 {
     sketch_answer(junctions::sketch(version, b, t, held, lines, links, spurs, loops, run))
@@ -312,7 +312,7 @@ pub struct Adjusted {
 
 fn adjust_answer(a: adjust::Adjusted) -> Adjusted
     requires { SmallAdjusted a }
-    ensures { result ≡ signedAdjusted a }
+    ensures { result ≡ signed_adjusted a }
 {
     let refusal = a.refusal;
     let r = signed_refusal(refusal);
@@ -332,8 +332,8 @@ pub extern "C" fn level_adjust(
     lines: &[i64],
     heights: &mut [i64],
 ) -> Adjusted
-    ensures { adjustNow result heights.new
-        ≡ ofAdjust (adjustOf (lent version b t held.now lines.now) heights.old) }
+    ensures { adjust_now result heights.new
+        ≡ of_adjust (adjust_of (lent version b t held.now lines.now) heights.old) }
 {
     adjust_answer(adjust::adjust(version, b, t, held, lines, heights))
 }
@@ -352,7 +352,7 @@ pub struct Rated {
 
 fn rate_answer(a: RateAnswer) -> Rated
     requires { SmallRate a }
-    ensures { result ≡ signedRate a }
+    ensures { result ≡ signed_rate a }
 {
     let refusal = a.refusal;
     let r = signed_refusal(refusal);
@@ -391,7 +391,7 @@ pub extern "C" fn level_rate(
     heights: &[i64],
     line: i64,
 ) -> Rated
-    ensures { result ≡ signedRate (rateAnswer (lent version b t held.now lines.now) heights.now line) }
+    ensures { result ≡ signed_rate (rate_answer (lent version b t held.now lines.now) heights.now line) }
 {
     rate_answer(adjust::rate(version, b, t, held, lines, heights, line))
 }

@@ -4,20 +4,20 @@ use Rattle.std.specs.Prelude.{ℕ, zero, ◌+◌, ◌<◌, ◌≡◌, true, eqb,
 use mathlib.Core.List.{List, [], ◌∷◌, ◌++◌, Memᴰ}
 use Rattle.network.specs.Standing.{Line}
 use Rattle.network.specs.Piece.{bit}
-use Rattle.network.specs.Walk.{Pass, pass, Walk, marksOn, OnlyOnce}
+use Rattle.network.specs.Walk.{Pass, pass, Walk, marks_on, OnlyOnce}
 use Rattle.loops.specs.Loops.{loops}
 use Rattle.loops.specs.Row.{misclosure}
-use Rattle.loops.specs.Passes.{SumOf, combineMisclosures}
-use Rattle.links.specs.Link.{Link, turned, lowestLine}
+use Rattle.loops.specs.Passes.{SumOf, combine_misclosures}
+use Rattle.links.specs.Link.{Link, turned, lowest_line}
 
 -- some lines, run from the first mark to the last
 pub record IsWay (lines : List Line) (x : Link) : Type 0 where
-  pub isWalk : Walk lines x.last x.first x.way
-  pub some-line : x.way ≡ [] → ⊥
+  pub is_walk : Walk lines x.last x.first x.way
+  pub some_line : x.way ≡ [] → ⊥
 
 -- "Each link gives its two junctions, lower first"
 pub record IsLink (lines : List Line) (x : Link) : Type 0 where
-  pub isWay : IsWay lines x
+  pub is_way : IsWay lines x
   pub lower : x.first < x.last
 
 -- "A self-closing loop is a link from a mark to itself; it starts with its lowest line, positive": a closed walk that runs no line twice,
@@ -26,30 +26,30 @@ pub record IsLoop (lines : List Line) (x : Link) : Type 0 where
   pub lowest : Line
   pub rest : List Pass
   pub begins : x.way ≡ pass lowest true ∷ rest
-  pub isLowest : (p : Pass) → Memᴰ p rest → lowest.number < p.line.number
+  pub is_lowest : (p : Pass) → Memᴰ p rest → lowest.number < p.line.number
   pub closed : Walk lines lowest.from lowest.from x.way
-  pub once-each : OnlyOnce x.way
-  pub hangs : Memᴰ x.first (marksOn lowest.from x.way)
+  pub once_each : OnlyOnce x.way
+  pub hangs : Memᴰ x.first (marks_on lowest.from x.way)
   pub itself : x.first ≡ x.last
 
 -- how often a way runs line n; and how often links do in all
-unfoldable pub timesRun : ℕ → List Pass → ℕ
-timesRun n [] = zero
-timesRun n (p ∷ ps) = bit (eqb p.line.number n) + timesRun n ps
+unfoldable pub times_run : ℕ → List Pass → ℕ
+times_run n [] = zero
+times_run n (p ∷ ps) = bit (eqb p.line.number n) + times_run n ps
 
-unfoldable pub timesIn : ℕ → List Link → ℕ
-unfolding timesRun
-timesIn n [] = zero
-timesIn n (x ∷ xs) = timesRun n x.way + timesIn n xs
+unfoldable pub times_in : ℕ → List Link → ℕ
+unfolding times_run
+times_in n [] = zero
+times_in n (x ∷ xs) = times_run n x.way + times_in n xs
 
 -- how many lines links have in all, each as often as it is run
-unfoldable pub linesIn : List Link → ℕ
-linesIn [] = zero
-linesIn (x ∷ xs) = length x.way + linesIn xs
+unfoldable pub lines_in : List Link → ℕ
+lines_in [] = zero
+lines_in (x ∷ xs) = length x.way + lines_in xs
 
 -- links by lowest line: each below the next
 abbrev pub ByLowest : Link → Link → Type 0
-ByLowest x y = lowestLine x.way < lowestLine y.way
+ByLowest x y = lowest_line x.way < lowest_line y.way
 
 -- links one after the other, each in its own sense or turned: from mark u to mark r by the way w
 pub data Along (xs : List Link) (r : ℕ) : ℕ → List Pass → Type 0 where
@@ -61,4 +61,4 @@ pub data Along (xs : List Link) (r : ℕ) : ℕ → List Pass → Type 0 where
 -- there are whole numbers, one to each reported loop, such that w is the sum of these multiples of the loops, and its misclosure the sum of
 -- the same multiples of their misclosures
 abbrev pub Combined : ℕ → List Line → List Pass → Type 0
-Combined b lines w = (ks : List ℤ) × SumOf lines (loops b lines) w ks × (misclosure w ≡ combineMisclosures ks (loops b lines))
+Combined b lines w = (ks : List ℤ) × SumOf lines (loops b lines) w ks × (misclosure w ≡ combine_misclosures ks (loops b lines))

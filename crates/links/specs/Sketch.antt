@@ -4,11 +4,11 @@
 use Rattle.std.specs.Prelude.{ℕ, zero, suc, cond, List, [], ◌∷◌, ◌++◌, map, ltb, ℤ, pos, length}
 use Rattle.std.proofs.Math.Option.{Option, none, some}
 use Rattle.network.specs.Standing.{Line}
-use Rattle.network.specs.Path.{wayLength}
+use Rattle.network.specs.Path.{way_length}
 use Rattle.loops.specs.Row.{misclosure, listings}
-use Rattle.links.specs.Link.{Link, ownLink, readFrom, readTo, joined, lowerFirst, closesOnItself, begun}
-use Rattle.links.specs.Link.{turnedWay, lowestLine, begunWith}
-use Rattle.links.specs.Ends.{hasEnd, lowestWith, firstThat, butFirst}
+use Rattle.links.specs.Link.{Link, own_link, read_from, read_to, joined, lower_first, closes_on_itself, begun}
+use Rattle.links.specs.Link.{turned_way, lowest_line, begun_with}
+use Rattle.links.specs.Ends.{has_end, lowest_with, first_that, but_first}
 
 -- The links that are left, in the order of their lowest lines; the spurs and the self-closing loops that came off, as they went
 pub record Sketch : Type 0 where
@@ -19,42 +19,42 @@ pub record Sketch : Type 0 where
 abbrev pub sketch : List Link → List Link → List Link → Sketch
 sketch links spurs loops = record { links = links; spurs = spurs; loops = loops }
 
-abbrev pub ifFound : {A : Type 0} → Option Link → (Link → A) → A → A
-ifFound none go otherwise = otherwise
-ifFound (some x) go otherwise = go x
+abbrev pub if_found : {A : Type 0} → Option Link → (Link → A) → A → A
+if_found none go otherwise = otherwise
+if_found (some x) go otherwise = go x
 
 -- 1. the spur at mark m: "its link comes off, read from that mark"
-unfoldable pub spurOff : ℕ → Sketch → Sketch
-unfolding firstThat butFirst turnedWay
-spurOff m s =
-    ifFound (firstThat (hasEnd m) s.links)
-    (λ x. sketch (butFirst (hasEnd m) s.links) (s.spurs ++ readFrom m x ∷ []) s.loops)
+unfoldable pub spur_off : ℕ → Sketch → Sketch
+unfolding first_that but_first turned_way
+spur_off m s =
+    if_found (first_that (has_end m) s.links)
+    (λ x. sketch (but_first (has_end m) s.links) (s.spurs ++ read_from m x ∷ []) s.loops)
     s
 
 -- 2. the self-closing loop x, the first there is: "it comes off, begun with its lowest line, positive"
-unfoldable pub loopOff : Link → Sketch → Sketch
-unfolding butFirst lowestLine begunWith
-loopOff x s = sketch (butFirst closesOnItself s.links) s.spurs (s.loops ++ begun x ∷ [])
+unfoldable pub loop_off : Link → Sketch → Sketch
+unfolding but_first lowest_line begun_with
+loop_off x s = sketch (but_first closes_on_itself s.links) s.spurs (s.loops ++ begun x ∷ [])
 
 -- 3. the two links with an end at mark m become one, in the place of the first of them
-unfoldable pub mergedAt : ℕ → List Link → List Link
-unfolding firstThat butFirst turnedWay
-mergedAt m [] = []
-mergedAt m (x ∷ xs) =
-    cond (hasEnd m x)
-    (ifFound (firstThat (hasEnd m) xs) (λ y. joined (readTo m x) (readFrom m y) ∷ butFirst (hasEnd m) xs) (x ∷ xs))
-    (x ∷ mergedAt m xs)
+unfoldable pub merged_at : ℕ → List Link → List Link
+unfolding first_that but_first turned_way
+merged_at m [] = []
+merged_at m (x ∷ xs) =
+    cond (has_end m x)
+    (if_found (first_that (has_end m) xs) (λ y. joined (read_to m x) (read_from m y) ∷ but_first (has_end m) xs) (x ∷ xs))
+    (x ∷ merged_at m xs)
 
 -- "each step takes the first there is, the spur of lowest mark, else the self-closing loop of lowest line, else the merge at the lowest
 -- mark". Where no link closes on itself, the two ends at a mark are those of two links
 unfoldable pub step : ℕ → Sketch → Sketch
-unfolding lowestWith firstThat spurOff loopOff mergedAt
+unfolding lowest_with first_that spur_off loop_off merged_at
 step b s =
-    let spur = lowestWith b 1 s.links in
-    let merge = lowestWith b 2 s.links in
-    cond (ltb 0 spur) (spurOff spur s)
-    (ifFound (firstThat closesOnItself s.links) (λ x. loopOff x s)
-    (cond (ltb 0 merge) (sketch (mergedAt merge s.links) s.spurs s.loops)
+    let spur = lowest_with b 1 s.links in
+    let merge = lowest_with b 2 s.links in
+    cond (ltb 0 spur) (spur_off spur s)
+    (if_found (first_that closes_on_itself s.links) (λ x. loop_off x s)
+    (cond (ltb 0 merge) (sketch (merged_at merge s.links) s.spurs s.loops)
     s))
 
 -- k steps, fewer where none is left
@@ -65,45 +65,45 @@ steps b (suc k) s = steps b k (step b s)
 
 -- "Every standing line begins as a link of its own"
 unfoldable pub start_of : List Line → Sketch
-start_of lines = sketch (map ownLink lines) [] []
+start_of lines = sketch (map own_link lines) [] []
 
 -- every link from its lower junction
 unfoldable pub finished : Sketch → Sketch
-unfolding turnedWay
-finished s = sketch (map lowerFirst s.links) s.spurs s.loops
+unfolding turned_way
+finished s = sketch (map lower_first s.links) s.spurs s.loops
 
 -- the junction sketch of lines among b marks: each step takes one link away, so that there are no more steps than lines
-unfoldable pub sketchOf : ℕ → List Line → Sketch
+unfoldable pub sketch_of : ℕ → List Line → Sketch
 unfolding steps start_of finished
-sketchOf b lines = finished (steps b (length lines) (start_of lines))
+sketch_of b lines = finished (steps b (length lines) (start_of lines))
 
 -- ---- what is reported of it
 
 -- numbers to an entry
-abbrev pub entryWords : ℕ
-entryWords = 5
+abbrev pub entry_words : ℕ
+entry_words = 5
 
 -- which of them is which
-abbrev pub entryFirst : ℕ
-entryFirst = 0
+abbrev pub entry_first : ℕ
+entry_first = 0
 
-abbrev pub entryLast : ℕ
-entryLast = 1
+abbrev pub entry_last : ℕ
+entry_last = 1
 
-abbrev pub entryCount : ℕ
-entryCount = 2
+abbrev pub entry_count : ℕ
+entry_count = 2
 
-abbrev pub entryLength : ℕ
-entryLength = 3
+abbrev pub entry_length : ℕ
+entry_length = 3
 
-abbrev pub entryDifference : ℕ
-entryDifference = 4
+abbrev pub entry_difference : ℕ
+entry_difference = 4
 
 -- "Each link gives its two junctions, lower first, .. length and summed difference": first mark, last mark, count of lines, length,
 -- difference
 unfoldable pub entry : Link → List ℤ
-unfolding wayLength misclosure
-entry x = pos x.first ∷ pos x.last ∷ pos (length x.way) ∷ pos (wayLength x.way) ∷ misclosure x.way ∷ []
+unfolding way_length misclosure
+entry x = pos x.first ∷ pos x.last ∷ pos (length x.way) ∷ pos (way_length x.way) ∷ misclosure x.way ∷ []
 
 unfoldable pub entries : List Link → List ℤ
 unfolding entry
@@ -111,10 +111,10 @@ entries [] = []
 entries (x ∷ xs) = entry x ++ entries xs
 
 -- all links, then all spurs, then all loops
-abbrev pub inAll : Sketch → List Link
-inAll s = s.links ++ s.spurs ++ s.loops
+abbrev pub in_all : Sketch → List Link
+in_all s = s.links ++ s.spurs ++ s.loops
 
 -- "its signed lines in that sense", of all of them
 unfoldable pub run_of : Sketch → List ℤ
 unfolding listings
-run_of s = listings (map (λ (x : Link). x.way) (inAll s))
+run_of s = listings (map (λ (x : Link). x.way) (in_all s))

@@ -5,18 +5,18 @@ use mathlib.Core.List.{List, [], map, Memᴰ}
 use Rattle.network.specs.Standing.{Line}
 use Rattle.network.specs.Pairwise.{Pairwise}
 use Rattle.network.specs.Walk.{Pass, Walk}
-use Rattle.links.specs.Link.{Link, ownLink}
-use Rattle.links.specs.Sketch.{Sketch, inAll}
-use Rattle.links.specs.Shape.{ByLowest, timesIn, linesIn}
+use Rattle.links.specs.Link.{Link, own_link}
+use Rattle.links.specs.Sketch.{Sketch, in_all}
+use Rattle.links.specs.Shape.{ByLowest, times_in, lines_in}
 
 -- x is between marks of the book, and runs over lines that stand, one at least
 pub record Drawn (b : ℕ) (lines : List Line) (x : Link) : Type 0 where
-  pub first-low : 0 < x.first
-  pub first-high : x.first ≤ b
-  pub last-low : 0 < x.last
-  pub last-high : x.last ≤ b
-  pub some-line : x.way ≡ [] → ⊥
-  pub over-lines : (p : Pass) → Memᴰ p x.way → Memᴰ p.line lines
+  pub first_low : 0 < x.first
+  pub first_high : x.first ≤ b
+  pub last_low : 0 < x.last
+  pub last_high : x.last ≤ b
+  pub some_line : x.way ≡ [] → ⊥
+  pub over_lines : (p : Pass) → Memᴰ p x.way → Memᴰ p.line lines
 
 -- x is drawn so, and runs its lines one after the other from its first mark to its last
 pub record DrawnWay (b : ℕ) (lines : List Line) (x : Link) : Type 0 where
@@ -31,8 +31,8 @@ Rises s = Pairwise ByLowest s.links
 -- from mark to mark; and each line is run as often, and as many are run in all, as at the start
 pub record Stage (b : ℕ) (lines : List Line) (s : Sketch) : Type 0 where
   pub rises : Rises s
-  pub link-way : (x : Link) → Memᴰ x s.links → DrawnWay b lines x
-  pub spur-way : (x : Link) → Memᴰ x s.spurs → DrawnWay b lines x
-  pub loop-drawn : (x : Link) → Memᴰ x s.loops → Drawn b lines x
-  pub times-are : (n : ℕ) → timesIn n (inAll s) ≡ timesIn n (map ownLink lines)
-  pub lines_are : linesIn (inAll s) ≡ length lines
+  pub link_way : (x : Link) → Memᴰ x s.links → DrawnWay b lines x
+  pub spur_way : (x : Link) → Memᴰ x s.spurs → DrawnWay b lines x
+  pub loop_drawn : (x : Link) → Memᴰ x s.loops → Drawn b lines x
+  pub times_are : (n : ℕ) → times_in n (in_all s) ≡ times_in n (map own_link lines)
+  pub lines_are : lines_in (in_all s) ≡ length lines

@@ -3,7 +3,7 @@
 use Rattle.std.specs.Prelude.{ℕ, ◌≤◌, ◌<◌, ◌≡◌, ◌⊎◌}
 use mathlib.Core.List.{List, [], ◌∷◌, ◌++◌, Memᴰ}
 use Rattle.network.specs.Standing.{Line}
-use Rattle.links.specs.Link.{Link, readFrom, readTo, joined, begun, lowestLine}
+use Rattle.links.specs.Link.{Link, read_from, read_to, joined, begun, lowest_line}
 use Rattle.links.specs.Ends.{ends_at}
 use Rattle.links.specs.Sketch.{Sketch, sketch, start_of, finished}
 
@@ -15,8 +15,8 @@ EndAt m x = (x.first ≡ m) ⊎ (x.last ≡ m)
 pub record Lowest (b k : ℕ) (links : List Link) (m : ℕ) : Type 0 where
   pub low : 0 < m
   pub high : m ≤ b
-  pub hasThem : ends_at m links ≡ k
-  pub noLower : (j : ℕ) → 0 < j → j < m → ends_at j links ≡ k → ⊥
+  pub has_them : ends_at m links ≡ k
+  pub no_lower : (j : ℕ) → 0 < j → j < m → ends_at j links ≡ k → ⊥
 
 -- none of the marks 1 to b has exactly k link ends
 abbrev pub NoMark : ℕ → ℕ → List Link → Type 0
@@ -32,25 +32,25 @@ pub record Spur (b : ℕ) (s s' : Sketch) : Type 0 where
   pub before : List Link
   pub its : Link
   pub after : List Link
-  pub links-are : s.links ≡ before ++ its ∷ after
+  pub links_are : s.links ≡ before ++ its ∷ after
   pub lowest : Lowest b 1 s.links mark
   pub there : EndAt mark its
-  pub then : s' ≡ sketch (before ++ after) (s.spurs ++ readFrom mark its ∷ []) s.loops
+  pub then : s' ≡ sketch (before ++ after) (s.spurs ++ read_from mark its ∷ []) s.loops
 
 -- 2. "else the self-closing loop of lowest line: a link from a mark to itself; it comes off, begun with its lowest line, positive"
 pub record LoopOff (b : ℕ) (s s' : Sketch) : Type 0 where
-  pub no-spur : NoMark b 1 s.links
+  pub no_spur : NoMark b 1 s.links
   pub before : List Link
   pub its : Link
   pub after : List Link
-  pub links-are : s.links ≡ before ++ its ∷ after
+  pub links_are : s.links ≡ before ++ its ∷ after
   pub closes : its.first ≡ its.last
-  pub lowest : (y : Link) → Memᴰ y s.links → y.first ≡ y.last → lowestLine its.way ≤ lowestLine y.way
+  pub lowest : (y : Link) → Memᴰ y s.links → y.first ≡ y.last → lowest_line its.way ≤ lowest_line y.way
   pub then : s' ≡ sketch (before ++ after) s.spurs (s.loops ++ begun its ∷ [])
 
 -- 3. "else the merge at the lowest mark that has exactly two link ends, of two different links: they become one"
 pub record Merge (b : ℕ) (s s' : Sketch) : Type 0 where
-  pub no-spur : NoMark b 1 s.links
+  pub no_spur : NoMark b 1 s.links
   pub no_loop : NoLoop s.links
   pub mark : ℕ
   pub before : List Link
@@ -58,17 +58,17 @@ pub record Merge (b : ℕ) (s s' : Sketch) : Type 0 where
   pub between : List Link
   pub other : Link
   pub after : List Link
-  pub links-are : s.links ≡ before ++ one ∷ between ++ other ∷ after
+  pub links_are : s.links ≡ before ++ one ∷ between ++ other ∷ after
   pub lowest : Lowest b 2 s.links mark
-  pub one-there : EndAt mark one
-  pub other-there : EndAt mark other
-  pub then : s' ≡ sketch (before ++ joined (readTo mark one) (readFrom mark other) ∷ between ++ after) s.spurs s.loops
+  pub one_there : EndAt mark one
+  pub other_there : EndAt mark other
+  pub then : s' ≡ sketch (before ++ joined (read_to mark one) (read_from mark other) ∷ between ++ after) s.spurs s.loops
 
 -- "until none is left"
 pub record NoneLeft (b : ℕ) (s : Sketch) : Type 0 where
-  pub no-spur : NoMark b 1 s.links
+  pub no_spur : NoMark b 1 s.links
   pub no_loop : NoLoop s.links
-  pub no-merge : NoMark b 2 s.links
+  pub no_merge : NoMark b 2 s.links
 
 -- one step after the other, until none is left
 pub data Steps (b : ℕ) : Sketch → Sketch → Type 0 where

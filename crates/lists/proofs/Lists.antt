@@ -6,13 +6,13 @@ use lib.IntN.{ℤ}
 use lib.ListN.{length, drop}
 use borrow.Author.Tests.{lt-ltb, le-ltb}
 use Rattle.book.specs.Test.{refusal}
-use Rattle.lists.specs.Listing.{listing, refusedWith, entered, list_of}
+use Rattle.lists.specs.Listing.{listing, refused_with, entered, list_of}
 
-pub list-ten : (list out : List ℤ) → length out < length list → listing (refusedWith (refusal 10 0)) out ≡ list_of list out
+pub list_ten : (list out : List ℤ) → length out < length list → listing (refused_with (refusal 10 0)) out ≡ list_of list out
 unfolding list_of
-list-ten list out h = rw (lt-ltb (length out) (length list) h)
+list_ten list out h = rw (lt-ltb (length out) (length list) h)
 
-pub list-whole : (list out : List ℤ) → length list ≤ length out
+pub list_whole : (list out : List ℤ) → length list ≤ length out
     → listing (entered (length list)) (list ++ drop (length list) out) ≡ list_of list out
 unfolding list_of
-list-whole list out h = rw (le-ltb (length out) (length list) h)
+list_whole list out h = rw (le-ltb (length out) (length list) h)

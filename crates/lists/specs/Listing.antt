@@ -1,22 +1,22 @@
 -- What the listing of one loop, and of all loops, answers, and what the lent output then holds: refusals 3, 4, 6, 7, 8 and 10.
 -- Assumes nothing.
 use Rattle.std.specs.Prelude.{cond, List, ◌++◌, map, ℕ, ◌-◌, ltb, length, drop, ℤ, pos, nat_abs}
-use Rattle.laws.specs.Tests.{outZ}
+use Rattle.laws.specs.Tests.{out_z}
 use Rattle.book.specs.Lent.{Lent}
-use Rattle.book.specs.Test.{refusal, noRefusal, test_of, ifGood}
+use Rattle.book.specs.Test.{refusal, no_refusal, test_of, if_good}
 use Rattle.book.specs.declared.Refusal.{Refusal}
 use Rattle.book.specs.declared.Book.{Book}
-use Rattle.loops.specs.Loops.{loopAt}
+use Rattle.loops.specs.Loops.{loop_at}
 use Rattle.loops.specs.Row.{listed, listings}
 use Rattle.loops.specs.Report.{loops_of}
 use Rattle.lists.specs.declared.Listed.{Listed}
 
 -- "a listing its entries"
-abbrev pub refusedWith : Refusal → Listed
-refusedWith r = record { refusal = r; entries = 0 }
+abbrev pub refused_with : Refusal → Listed
+refused_with r = record { refusal = r; entries = 0 }
 
 abbrev pub entered : ℕ → Listed
-entered entries = record { refusal = noRefusal; entries = entries }
+entered entries = record { refusal = no_refusal; entries = entries }
 
 -- the answer, and the output after the call
 pub record Listing : Type 0 where
@@ -29,30 +29,30 @@ listing a out = record { answer = a; out = out }
 -- 10, or a whole list, with "places past the answer .. unchanged"
 unfoldable pub list_of : List ℤ → List ℤ → Listing
 list_of list out =
-    cond (ltb (length out) (length list)) (listing (refusedWith (refusal 10 0)) out)
+    cond (ltb (length out) (length list)) (listing (refused_with (refusal 10 0)) out)
     (listing (entered (length list)) (list ++ drop (length list) out))
 
 -- "lines and sense are listed from the book, loop by loop", by the loop's number from 1
-unfoldable pub listingGood : Book → List ℤ → ℤ → List ℤ → Listing
-unfolding loops_of list_of loopAt
-listingGood k lines number out =
+unfoldable pub listing_good : Book → List ℤ → ℤ → List ℤ → Listing
+unfolding loops_of list_of loop_at
+listing_good k lines number out =
     let found = loops_of k.marks lines in
-    cond (outZ (pos 1) (pos (length found)) number) (listing (refusedWith (refusal 8 0)) out)
-    (list_of (map listed (loopAt found (nat_abs number - 1))) out)
+    cond (out_z (pos 1) (pos (length found)) number) (listing (refused_with (refusal 8 0)) out)
+    (list_of (map listed (loop_at found (nat_abs number - 1))) out)
 
-unfoldable pub listingOf : Lent → ℤ → List ℤ → Listing
-unfolding listingGood test_of
-listingOf book number out =
-    ifGood (test_of book) (λ r. listing (refusedWith r) out)
-    (λ k. listingGood k book.lines number out)
+unfoldable pub listing_of : Lent → ℤ → List ℤ → Listing
+unfolding listing_good test_of
+listing_of book number out =
+    if_good (test_of book) (λ r. listing (refused_with r) out)
+    (λ k. listing_good k book.lines number out)
 
 -- the lines of all loops, "loop by loop"
-unfoldable pub listingsGood : Book → List ℤ → List ℤ → Listing
+unfoldable pub listings_good : Book → List ℤ → List ℤ → Listing
 unfolding loops_of list_of listings
-listingsGood k lines out = list_of (listings (loops_of k.marks lines)) out
+listings_good k lines out = list_of (listings (loops_of k.marks lines)) out
 
-unfoldable pub listingsOf : Lent → List ℤ → Listing
-unfolding listingsGood test_of
-listingsOf book out =
-    ifGood (test_of book) (λ r. listing (refusedWith r) out)
-    (λ k. listingsGood k book.lines out)
+unfoldable pub listings_of : Lent → List ℤ → Listing
+unfolding listings_good test_of
+listings_of book out =
+    if_good (test_of book) (λ r. listing (refused_with r) out)
+    (λ k. listings_good k book.lines out)

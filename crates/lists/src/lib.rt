@@ -2,8 +2,8 @@
 ghost use Rattle.std.specs.Prelude.{◌≡◌};
 ghost use Rattle.book.specs.Lent.{lent};
 ghost use Rattle.book.specs.Test.{refusal};
-ghost use Rattle.lists.specs.Listing.{listing, refusedWith, entered, listingOf, listingsOf};
-ghost use Rattle.lists.specs.NotChecked.{notCheckedOf};
+ghost use Rattle.lists.specs.Listing.{listing, refused_with, entered, listing_of, listings_of};
+ghost use Rattle.lists.specs.NotChecked.{not_checked_of};
 
 mod loop_lists;
 pub mod run;
@@ -19,13 +19,13 @@ pub struct Listed {
 }
 
 pub(crate) fn refuse(number: usize, place: usize) -> Listed
-    ensures { result ≡ refusedWith (refusal number place) }
+    ensures { result ≡ refused_with (refusal number place) }
 {
     refused(Refusal::new(number, place))
 }
 
 fn refused(refusal: Refusal) -> Listed
-    ensures { result ≡ refusedWith refusal }
+    ensures { result ≡ refused_with refusal }
 {
     Listed {
         refusal,
@@ -51,7 +51,7 @@ pub fn listing(
     out: &mut [i64],
 ) -> Listed
     ensures { listing result out.new
-        ≡ listingOf (lent version b t held.now lines.now) number out.old }
+        ≡ listing_of (lent version b t held.now lines.now) number out.old }
 {
     match book::test(version, b, t, held, lines) {
         Tested::Refused(r) => refused(r),
@@ -70,7 +70,7 @@ pub fn listings(
     out: &mut [i64],
 ) -> Listed
     ensures { listing result out.new
-        ≡ listingsOf (lent version b t held.now lines.now) out.old }
+        ≡ listings_of (lent version b t held.now lines.now) out.old }
 {
     match book::test(version, b, t, held, lines) {
         Tested::Refused(r) => refused(r),
@@ -88,7 +88,7 @@ pub fn not_checked(
     out: &mut [i64],
 ) -> Listed
     ensures { listing result out.new
-        ≡ notCheckedOf (lent version b t held.now lines.now) out.old }
+        ≡ not_checked_of (lent version b t held.now lines.now) out.old }
 {
     match book::test(version, b, t, held, lines) {
         Tested::Refused(r) => refused(r),

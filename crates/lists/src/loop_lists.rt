@@ -1,7 +1,7 @@
 // The lines of one loop of a tested book, and of all its loops, read off the table of loops.
 ghost use Rattle.std.specs.Prelude.{◌≡◌};
 ghost use Rattle.book.specs.Good.{GoodLines};
-ghost use Rattle.lists.specs.Listing.{listing, listingGood, listingsGood};
+ghost use Rattle.lists.specs.Listing.{listing, listing_good, listings_good};
 
 use crate::{Listed, run};
 use book::Book;
@@ -9,7 +9,7 @@ use book::Book;
 // Refusal 8, or the lines of the loop of this number.
 pub(crate) fn listing_good(book: Book, lines: &[i64], number: i64, out: &mut [i64]) -> Listed
     requires { GoodLines book lines.now }
-    ensures { listing result out.new ≡ listingGood book lines.now number out.old }
+    ensures { listing result out.new ≡ listing_good book lines.now number out.old }
 {
     let mut starts = [0u64; table::STARTS];
     let mut runs = [0u16; table::RUNS];
@@ -26,7 +26,7 @@ pub(crate) fn listing_good(book: Book, lines: &[i64], number: i64, out: &mut [i6
 // The lines of all loops, one loop after the other.
 pub(crate) fn listings_good(book: Book, lines: &[i64], out: &mut [i64]) -> Listed
     requires { GoodLines book lines.now }
-    ensures { listing result out.new ≡ listingsGood book lines.now out.old }
+    ensures { listing result out.new ≡ listings_good book lines.now out.old }
 {
     let mut starts = [0u64; table::STARTS];
     let mut runs = [0u16; table::RUNS];

@@ -1,14 +1,14 @@
 // A run of the table as it is listed: its lines, each with its sense.
 ghost use Rattle.std.specs.Prelude.{◌≡◌, ◌++◌, map, ◌≤◌, ◌<◌, length, drop};
 ghost use Rattle.lists.specs.Listing.{listing, list_of};
-ghost use Rattle.lists.specs.Run.{codeLimit, listedBy, Coded};
+ghost use Rattle.lists.specs.Run.{code_limit, listed_by, Coded};
 
 use crate::Listed;
 
 // The number of the line that a code runs, positive in its own sense, else negative.
 fn listed_by(code: u16) -> i64
-    requires { code < codeLimit }
-    ensures { result ≡ listedBy code }
+    requires { code < code_limit }
+    ensures { result ≡ listed_by code }
 {
     let number = (code / 2) as i64;
     if code % 2 == 0 {
@@ -21,7 +21,7 @@ fn listed_by(code: u16) -> i64
 pub fn list_run(run: &[u16], out: &mut [i64])
     requires fact_1 { Coded run.now }
     requires fact_2 { length run.now ≤ length out.old }
-    ensures { out.new ≡ map listedBy run.now ++ drop (length run.now) out.old }
+    ensures { out.new ≡ map listed_by run.now ++ drop (length run.now) out.old }
 {
     let mut i = 0;
     while i < run.len() {
@@ -33,7 +33,7 @@ pub fn list_run(run: &[u16], out: &mut [i64])
 // Refusal 10, or the lines of a run.
 pub(crate) fn write_run(run: &[u16], out: &mut [i64]) -> Listed
     requires { Coded run.now }
-    ensures { listing result out.new ≡ list_of (map listedBy run.now) out.old }
+    ensures { listing result out.new ≡ list_of (map listed_by run.now) out.old }
 {
     if out.len() < run.len() {
         return crate::refuse(10, 0);

@@ -1,8 +1,8 @@
-// "Say what you are not watching": the not-checked list of a tested book, in tables of its own on the stack.
+// "Say what you are not watching": the not_checked list of a tested book, in tables of its own on the stack.
 ghost use Rattle.std.specs.Prelude.{◌≡◌, map, pos};
 ghost use Rattle.book.specs.Good.{GoodLines};
 ghost use Rattle.lists.specs.Listing.{listing, list_of};
-ghost use Rattle.lists.specs.NotChecked.{uncheckedOf};
+ghost use Rattle.lists.specs.NotChecked.{unchecked_of};
 ghost use Rattle.lists.specs.Numbers.{Numbers};
 
 use crate::Listed;
@@ -25,10 +25,10 @@ fn write_list(list: &[u64], out: &mut [i64]) -> Listed
     crate::entered(count)
 }
 
-// The not-checked list of a tested book.
+// The not_checked list of a tested book.
 pub fn not_checked_good(book: Book, lines: &[i64], out: &mut [i64]) -> Listed
     requires { GoodLines book lines.now }
-    ensures { listing result out.new ≡ list_of (uncheckedOf book.marks lines.now) out.old }
+    ensures { listing result out.new ≡ list_of (unchecked_of book.marks lines.now) out.old }
 {
     let mut ends = [0u64; prepare::HALVES];
     let mut head = [0u64; prepare::MARKS];

@@ -12,8 +12,8 @@ use Rattle.network.specs.Sound.{Rising, then, Sound}
 use Rattle.network.specs.Walk.{Pass, Walk, here, step}
 use Rattle.loops.specs.Loops.{Loop, loops}
 use Rattle.loops.specs.Row.{signed, misclosure}
-use Rattle.loops.specs.Passes.{sense, once, passes, combine, combineMisclosures, SumOf}
-use Rattle.loops.proofs.Passes.{four, *ℤ-distrib, *ℤ-neg}
+use Rattle.loops.specs.Passes.{sense, once, passes, combine, combine_misclosures, SumOf}
+use Rattle.loops.proofs.Passes.{four, *ℤ_distrib, *ℤ_neg}
 use Rattle.loops.proofs.Basis.{AllClosed, minus_one, all_closed, basis}
 
 -- ---- the product's factors change places
@@ -22,21 +22,21 @@ module _ (k x : ℤ) where
   Swap : ℤ → Type 0
   Swap d = d *ℤ (k *ℤ x) ≡ k *ℤ (d *ℤ x)
 
-  swap-suc : (d : ℤ) → Swap d → Swap (suc_ℤ d)
+  swap_suc : (d : ℤ) → Swap d → Swap (suc_ℤ d)
   unfolding Swap
-  swap-suc d h = rw (suc_ℤ-*ℤ d (k *ℤ x), suc_ℤ-*ℤ d x, h) (sym (*ℤ-distrib (d *ℤ x) x k))
+  swap_suc d h = rw (suc_ℤ-*ℤ d (k *ℤ x), suc_ℤ-*ℤ d x, h) (sym (*ℤ_distrib (d *ℤ x) x k))
 
-  swap-pred : (d : ℤ) → Swap d → Swap (pred_ℤ d)
+  swap_pred : (d : ℤ) → Swap d → Swap (pred_ℤ d)
   unfolding Swap
-  swap-pred d h =
-      rw (pred_ℤ-*ℤ d (k *ℤ x), pred_ℤ-*ℤ d x, h) (sym (*ℤ-distrib (d *ℤ x) (neg_ℤ x) k ∙ ap (λ (z : ℤ). k *ℤ (d *ℤ x) +ℤ z) (*ℤ-neg k x)))
+  swap_pred d h =
+      rw (pred_ℤ-*ℤ d (k *ℤ x), pred_ℤ-*ℤ d x, h) (sym (*ℤ_distrib (d *ℤ x) (neg_ℤ x) k ∙ ap (λ (z : ℤ). k *ℤ (d *ℤ x) +ℤ z) (*ℤ_neg k x)))
 
   -- d*(k*x) is k*(d*x)
-  pub *ℤ-swap : (d : ℤ) → d *ℤ (k *ℤ x) ≡ k *ℤ (d *ℤ x)
+  pub *ℤ_swap : (d : ℤ) → d *ℤ (k *ℤ x) ≡ k *ℤ (d *ℤ x)
   unfolding Swap
-  *ℤ-swap d = ℤ_ind Swap (rw (zero-*ℤ (k *ℤ x), zero-*ℤ x, *ℤ-zero k))
-      (λ n h. subst Swap (sym (+ℤ_one (pos n))) (swap-suc (pos n) h))
-      (λ n h. subst Swap (sym (-ℤ_one (neg_ℤ (pos n)))) (swap-pred (neg_ℤ (pos n)) h)) d
+  *ℤ_swap d = ℤ_ind Swap (rw (zero-*ℤ (k *ℤ x), zero-*ℤ x, *ℤ-zero k))
+      (λ n h. subst Swap (sym (+ℤ_one (pos n))) (swap_suc (pos n) h))
+      (λ n h. subst Swap (sym (-ℤ_one (neg_ℤ (pos n)))) (swap_pred (neg_ℤ (pos n)) h)) d
 
 -- ---- the sum of the lines' differences, each as often as f says
 
@@ -52,92 +52,92 @@ spread_same f g [] h = refl
 spread_same f g (l ∷ ls) h =
     ap₂ (λ (x y : ℤ). l.difference *ℤ x +ℤ y) (h l (Memᴰ.head refl)) (spread_same f g ls (λ k i. h k (Memᴰ.tail i)))
 
-spread-zero : (f : ℕ → ℤ) (lines : List Line) → ((l : Line) → Memᴰ l lines → f l.number ≡ pos 0) → spread f lines ≡ pos 0
+spread_zero : (f : ℕ → ℤ) (lines : List Line) → ((l : Line) → Memᴰ l lines → f l.number ≡ pos 0) → spread f lines ≡ pos 0
 unfolding spread
-spread-zero f [] h = refl
-spread-zero f (l ∷ ls) h =
+spread_zero f [] h = refl
+spread_zero f (l ∷ ls) h =
     ap₂ (λ (x y : ℤ). x +ℤ y) (ap (λ (x : ℤ). l.difference *ℤ x) (h l (Memᴰ.head refl)) ∙ *ℤ-zero l.difference)
-    (spread-zero f ls (λ k i. h k (Memᴰ.tail i)))
+    (spread_zero f ls (λ k i. h k (Memᴰ.tail i)))
 
-spread-add : (f g : ℕ → ℤ) (lines : List Line) → spread (λ n. f n +ℤ g n) lines ≡ spread f lines +ℤ spread g lines
+spread_add : (f g : ℕ → ℤ) (lines : List Line) → spread (λ n. f n +ℤ g n) lines ≡ spread f lines +ℤ spread g lines
 unfolding spread
-spread-add f g [] = refl
-spread-add f g (l ∷ ls) =
-    rw (*ℤ-distrib (f l.number) (g l.number) l.difference, spread-add f g ls)
+spread_add f g [] = refl
+spread_add f g (l ∷ ls) =
+    rw (*ℤ_distrib (f l.number) (g l.number) l.difference, spread_add f g ls)
     (four (l.difference *ℤ f l.number) (l.difference *ℤ g l.number) (spread f ls) (spread g ls))
 
-spread-mul : (k : ℤ) (f : ℕ → ℤ) (lines : List Line) → spread (λ n. k *ℤ f n) lines ≡ k *ℤ spread f lines
+spread_mul : (k : ℤ) (f : ℕ → ℤ) (lines : List Line) → spread (λ n. k *ℤ f n) lines ≡ k *ℤ spread f lines
 unfolding spread
-spread-mul k f [] = sym (*ℤ-zero k)
-spread-mul k f (l ∷ ls) =
-    rw (*ℤ-swap k (f l.number) l.difference, spread-mul k f ls) (sym (*ℤ-distrib (l.difference *ℤ f l.number) (spread f ls) k))
+spread_mul k f [] = sym (*ℤ-zero k)
+spread_mul k f (l ∷ ls) =
+    rw (*ℤ_swap k (f l.number) l.difference, spread_mul k f ls) (sym (*ℤ_distrib (l.difference *ℤ f l.number) (spread f ls) k))
 
 -- ---- a walk's misclosure is the sum of the differences, each as often as it is run
 
 -- a number times the sense of a pass is the number in that sense
-pub times-sense : (z : ℤ) (f : Bool) → z *ℤ sense f ≡ signed f z
+pub times_sense : (z : ℤ) (f : Bool) → z *ℤ sense f ≡ signed f z
 unfolding one
-times-sense z true = *ℤ-one z
-times-sense z false = *ℤ_comm z (negsuc 0) ∙ minus_one z
+times_sense z true = *ℤ-one z
+times_sense z false = *ℤ_comm z (negsuc 0) ∙ minus_one z
 
-once-other : (p : Pass) (n : ℕ) → (p.line.number ≡ n → ⊥) → once p n ≡ pos 0
+once_other : (p : Pass) (n : ℕ) → (p.line.number ≡ n → ⊥) → once p n ≡ pos 0
 unfolding once
-once-other p n d = rw (ne_eqb p.line.number n d)
+once_other p n d = rw (ne_eqb p.line.number n d)
 
-spread-once : (p : Pass) (lines : List Line) → Rising lines → Memᴰ p.line lines
+spread_once : (p : Pass) (lines : List Line) → Rising lines → Memᴰ p.line lines
     → spread (once p) lines ≡ signed p.forward p.line.difference
 unfolding spread once
-spread-once p (l ∷ ls) (then above r) (Memᴰ.head e) =
+spread_once p (l ∷ ls) (then above r) (Memᴰ.head e) =
     rw (
       eq-eqb p.line.number l.number (ap (λ (x : Line). x.number) e),
-      spread-zero (once p) ls (λ k i. once-other p k.number (λ z. omega (arith, above k i, z, ap (λ (x : Line). x.number) e))),
-      times-sense l.difference p.forward,
+      spread_zero (once p) ls (λ k i. once_other p k.number (λ z. omega (arith, above k i, z, ap (λ (x : Line). x.number) e))),
+      times_sense l.difference p.forward,
       +ℤ_idr,
     )
     (ap (λ (x : Line). signed p.forward x.difference) (sym e))
-spread-once p (l ∷ ls) (then above r) (Memᴰ.tail i) =
+spread_once p (l ∷ ls) (then above r) (Memᴰ.tail i) =
     rw (ne_eqb p.line.number l.number (λ z. omega (arith, above p.line i, z)), *ℤ-zero l.difference, +ℤ_idl)
-    (spread-once p ls r i)
+    (spread_once p ls r i)
 
-misclosure-spread : {lines : List Line} → Rising lines → {r u : ℕ} {w : List Pass} → Walk lines r u w
+misclosure_spread : {lines : List Line} → Rising lines → {r u : ℕ} {w : List Pass} → Walk lines r u w
     → misclosure w ≡ spread (passes w) lines
 unfolding misclosure passes
-misclosure-spread {lines = lines} rising (here e) = sym (spread-zero (λ n. pos 0) lines (λ l i. refl))
-misclosure-spread {lines = lines} rising (step {p = p} {ps = ps} s m w) =
-    ap₂ (λ (x y : ℤ). x +ℤ y) (sym (spread-once p lines rising m)) (misclosure-spread rising w)
-    ∙ sym (spread-add (once p) (passes ps) lines)
+misclosure_spread {lines = lines} rising (here e) = sym (spread_zero (λ n. pos 0) lines (λ l i. refl))
+misclosure_spread {lines = lines} rising (step {p = p} {ps = ps} s m w) =
+    ap₂ (λ (x y : ℤ). x +ℤ y) (sym (spread_once p lines rising m)) (misclosure_spread rising w)
+    ∙ sym (spread_add (once p) (passes ps) lines)
 
-combine-spread : {lines : List Line} → Rising lines → (ks : List ℤ) (ls : List Loop) → AllClosed lines ls
-    → spread (combine ks ls) lines ≡ combineMisclosures ks ls
-unfolding combine combineMisclosures
-combine-spread {lines = lines} rising [] ls c = spread-zero (λ n. pos 0) lines (λ l i. refl)
-combine-spread {lines = lines} rising (k ∷ ks) [] c = spread-zero (λ n. pos 0) lines (λ l i. refl)
-combine-spread {lines = lines} rising (k ∷ ks) (l ∷ ls) c =
-    spread-add (λ n. k *ℤ passes l n) (combine ks ls) lines
+combine_spread : {lines : List Line} → Rising lines → (ks : List ℤ) (ls : List Loop) → AllClosed lines ls
+    → spread (combine ks ls) lines ≡ combine_misclosures ks ls
+unfolding combine combine_misclosures
+combine_spread {lines = lines} rising [] ls c = spread_zero (λ n. pos 0) lines (λ l i. refl)
+combine_spread {lines = lines} rising (k ∷ ks) [] c = spread_zero (λ n. pos 0) lines (λ l i. refl)
+combine_spread {lines = lines} rising (k ∷ ks) (l ∷ ls) c =
+    spread_add (λ n. k *ℤ passes l n) (combine ks ls) lines
     ∙ ap₂ (λ (x y : ℤ). x +ℤ y)
-    (spread-mul k (passes l) lines ∙ ap (λ (z : ℤ). k *ℤ z) (sym (misclosure-spread rising (c l (Memᴰ.head refl)).1)))
-    (combine-spread rising ks ls (λ lp i. c lp (Memᴰ.tail i)))
+    (spread_mul k (passes l) lines ∙ ap (λ (z : ℤ). k *ℤ z) (sym (misclosure_spread rising (c l (Memᴰ.head refl)).1)))
+    (combine_spread rising ks ls (λ lp i. c lp (Memᴰ.tail i)))
 
-no-misclosure : (ks : List ℤ) (ls : List Loop) → ((lp : Loop) → Memᴰ lp ls → misclosure lp ≡ pos 0) → combineMisclosures ks ls ≡ pos 0
-unfolding combineMisclosures
-no-misclosure [] ls h = refl
-no-misclosure (k ∷ ks) [] h = refl
-no-misclosure (k ∷ ks) (l ∷ ls) h =
+no_misclosure : (ks : List ℤ) (ls : List Loop) → ((lp : Loop) → Memᴰ lp ls → misclosure lp ≡ pos 0) → combine_misclosures ks ls ≡ pos 0
+unfolding combine_misclosures
+no_misclosure [] ls h = refl
+no_misclosure (k ∷ ks) [] h = refl
+no_misclosure (k ∷ ks) (l ∷ ls) h =
     ap₂ (λ (x y : ℤ). x +ℤ y) (ap (λ (z : ℤ). k *ℤ z) (h l (Memᴰ.head refl)) ∙ *ℤ-zero k)
-    (no-misclosure ks ls (λ lp i. h lp (Memᴰ.tail i)))
+    (no_misclosure ks ls (λ lp i. h lp (Memᴰ.tail i)))
 
 -- ---- the theorems
 
 module _ (b : ℕ) (lines : List Line) (sound : Sound b lines) where
   -- the misclosure of a closed walk is the sum of the same multiples of the loops' misclosures
-  pub misclosure-is-sum : (r : ℕ) {w : List Pass} → Walk lines r r w → (ks : List ℤ) → SumOf lines (loops b lines) w ks
-      → misclosure w ≡ combineMisclosures ks (loops b lines)
-  misclosure-is-sum r {w = w} x ks s =
-      misclosure-spread sound.rising x
-      ∙ spread_same (passes w) (combine ks (loops b lines)) lines s.passesAre
-      ∙ combine-spread sound.rising ks (loops b lines) (all_closed b lines sound)
+  pub misclosure_is_sum : (r : ℕ) {w : List Pass} → Walk lines r r w → (ks : List ℤ) → SumOf lines (loops b lines) w ks
+      → misclosure w ≡ combine_misclosures ks (loops b lines)
+  misclosure_is_sum r {w = w} x ks s =
+      misclosure_spread sound.rising x
+      ∙ spread_same (passes w) (combine ks (loops b lines)) lines s.passes_are
+      ∙ combine_spread sound.rising ks (loops b lines) (all_closed b lines sound)
 
   -- so where every loop's misclosure is 0, every closed walk sums to 0
-  pub all-close : ((lp : Loop) → Memᴰ lp (loops b lines) → misclosure lp ≡ pos 0) → (r : ℕ) {w : List Pass} → Walk lines r r w
+  pub all_close : ((lp : Loop) → Memᴰ lp (loops b lines) → misclosure lp ≡ pos 0) → (r : ℕ) {w : List Pass} → Walk lines r r w
       → misclosure w ≡ pos 0
-  all-close h r x = let s = basis b lines sound r x in misclosure-is-sum r x s.0 s.1 ∙ no-misclosure s.0 (loops b lines) h
+  all_close h r x = let s = basis b lines sound r x in misclosure_is_sum r x s.0 s.1 ∙ no_misclosure s.0 (loops b lines) h

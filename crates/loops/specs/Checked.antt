@@ -15,7 +15,7 @@ checked n [] = false
 checked n (l ∷ ls) = runs n l || checked n ls
 
 -- "The not-checked list goes by rising line number." What it means by circuits: proofs/Checked.antt
-unfoldable pub notChecked : List Loop → List Line → List ℕ
+unfoldable pub not_checked : List Loop → List Line → List ℕ
 unfolding checked
-notChecked ls [] = []
-notChecked ls (l ∷ rest) = cond (checked l.number ls) (notChecked ls rest) (l.number ∷ notChecked ls rest)
+not_checked ls [] = []
+not_checked ls (l ∷ rest) = cond (checked l.number ls) (not_checked ls rest) (l.number ∷ not_checked ls rest)

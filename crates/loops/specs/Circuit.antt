@@ -6,8 +6,8 @@ use Rattle.loops.specs.Checked.{runs}
 
 -- a circuit through line n: a closed walk along the lines that runs each line at most once, and line n among them
 pub record Circuit (lines : List Line) (n : ℕ) : Type 0 where
-  pub from-mark : ℕ
+  pub from_mark : ℕ
   pub way : List Pass
-  pub closed : Walk lines from-mark from-mark way
-  pub once-each : OnlyOnce way
+  pub closed : Walk lines from_mark from_mark way
+  pub once_each : OnlyOnce way
   pub through : runs n way ≡ true

@@ -6,18 +6,18 @@ use Rattle.network.specs.Standing.{Line}
 use Rattle.network.specs.Tree.{Tree}
 
 -- the end of a line that is not m
-abbrev pub otherEnd : Line → ℕ → ℕ
-otherEnd l m = cond (eqb l.from m) l.to l.from
+abbrev pub other_end : Line → ℕ → ℕ
+other_end l m = cond (eqb l.from m) l.to l.from
 
 -- over the line by which mark m came in, and further from its other end; a root has no way
-abbrev pub wayOver : Option Line → ℕ → ℕ → (ℕ → Bool) → Bool
-wayOver none n m further = false
-wayOver (some l) n m further = eqb l.number n || further (otherEnd l m)
+abbrev pub way_over : Option Line → ℕ → ℕ → (ℕ → Bool) → Bool
+way_over none n m further = false
+way_over (some l) n m further = eqb l.number n || further (other_end l m)
 
 -- "A mark's way to its root is followed line by line": line n is on the way of mark m
-unfoldable pub onWay : Tree → ℕ → ℕ → Bool
-onWay [] n m = false
-onWay (e ∷ es) n m = cond (eqb e.mark m) (wayOver e.by n m (λ u. onWay es n u)) (onWay es n m)
+unfoldable pub on_way : Tree → ℕ → ℕ → Bool
+on_way [] n m = false
+on_way (e ∷ es) n m = cond (eqb e.mark m) (way_over e.by n m (λ u. on_way es n u)) (on_way es n m)
 
 abbrev pub differ : Bool → Bool → Bool
 differ true b = not b
@@ -25,8 +25,8 @@ differ false b = b
 
 -- a line crosses line n: the way of one of its ends runs over line n, and the way of the other does not
 unfoldable pub crosses : Tree → ℕ → Line → Bool
-unfolding onWay
-crosses es n c = differ (onWay es n c.from) (onWay es n c.to)
+unfolding on_way
+crosses es n c = differ (on_way es n c.from) (on_way es n c.to)
 
 -- line n is one of the lines cs, or one of them crosses it
 unfoldable pub crossed : Tree → ℕ → List Line → Bool

@@ -2,7 +2,7 @@
 -- Assumes nothing.
 use Rattle.std.specs.Prelude.{ℕ, zero, suc, true, List, [], ◌∷◌}
 use Rattle.network.specs.Standing.{Line}
-use Rattle.network.specs.Tree.{tree, treeLines}
+use Rattle.network.specs.Tree.{tree, tree_lines}
 use Rattle.network.specs.Closing.{closing}
 use Rattle.network.specs.Path.{Pass, pass, shortest}
 use Rattle.network.specs.Subgraph.{only, numbers}
@@ -20,21 +20,21 @@ added c (p ∷ q ∷ ps) sub = c ∷ sub
 
 -- "Closing lines are taken in their order. A loop runs its closing line from its from end to its to end, then back by the shortest path in
 -- the subgraph: the tree with the closing lines added so far."
-unfoldable pub loopsFrom : ℕ → List Line → List Line → List ℕ → List Loop
+unfoldable pub loops_from : ℕ → List Line → List Line → List ℕ → List Loop
 unfolding only shortest
-loopsFrom b lines [] sub = []
-loopsFrom b lines (c ∷ cs) sub =
+loops_from b lines [] sub = []
+loops_from b lines (c ∷ cs) sub =
     let path = shortest b (only sub lines) c.to c.from in
-    (pass c true ∷ path) ∷ loopsFrom b lines cs (added c.number path sub)
+    (pass c true ∷ path) ∷ loops_from b lines cs (added c.number path sub)
 
 unfoldable pub loops : ℕ → List Line → List Loop
-unfolding loopsFrom tree treeLines closing
+unfolding loops_from tree tree_lines closing
 loops b lines =
     let t = tree b lines in
-    loopsFrom b lines (closing lines t) (numbers (treeLines t))
+    loops_from b lines (closing lines t) (numbers (tree_lines t))
 
 -- the loop at place i, counted from 0
-unfoldable pub loopAt : List Loop → ℕ → Loop
-loopAt [] i = []
-loopAt (l ∷ ls) zero = l
-loopAt (l ∷ ls) (suc i) = loopAt ls i
+unfoldable pub loop_at : List Loop → ℕ → Loop
+loop_at [] i = []
+loop_at (l ∷ ls) zero = l
+loop_at (l ∷ ls) (suc i) = loop_at ls i

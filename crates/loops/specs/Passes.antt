@@ -11,13 +11,13 @@ abbrev pub sense : Bool → ℤ
 sense true = pos 1
 sense false = negsuc 0
 
-abbrev pub passIf : Bool → ℤ → ℤ
-passIf true z = z
-passIf false z = pos 0
+abbrev pub pass_if : Bool → ℤ → ℤ
+pass_if true z = z
+pass_if false z = pos 0
 
 -- how often a pass runs line n, forward counted 1 and back -1
 unfoldable pub once : Pass → ℕ → ℤ
-once p n = passIf (eqb p.line.number n) (sense p.forward)
+once p n = pass_if (eqb p.line.number n) (sense p.forward)
 
 -- the signed passes of a walk over line n
 unfoldable pub passes : List Pass → ℕ → ℤ
@@ -31,14 +31,14 @@ combine (k ∷ ks) [] n = pos 0
 combine (k ∷ ks) (l ∷ ls) n = k *ℤ passes l n +ℤ combine ks ls n
 
 -- the sum of the loops' misclosures, each times its own of the multiples
-unfoldable pub combineMisclosures : List ℤ → List Loop → ℤ
+unfoldable pub combine_misclosures : List ℤ → List Loop → ℤ
 unfolding misclosure
-combineMisclosures [] ls = pos 0
-combineMisclosures (k ∷ ks) [] = pos 0
-combineMisclosures (k ∷ ks) (l ∷ ls) = k *ℤ misclosure l +ℤ combineMisclosures ks ls
+combine_misclosures [] ls = pos 0
+combine_misclosures (k ∷ ks) [] = pos 0
+combine_misclosures (k ∷ ks) (l ∷ ls) = k *ℤ misclosure l +ℤ combine_misclosures ks ls
 
 -- the walk w is the sum of the multiples ks of the loops: there is one multiple to each loop, and over each line the signed passes are
 -- the sum of the loops'
 pub record SumOf (lines : List Line) (ls : List Loop) (w : List Pass) (ks : List ℤ) : Type 0 where
-  pub oneEach : length ks ≡ length ls
-  pub passesAre : (l : Line) → Memᴰ l lines → passes w l.number ≡ combine ks ls l.number
+  pub one_each : length ks ≡ length ls
+  pub passes_are : (l : Line) → Memᴰ l lines → passes w l.number ≡ combine ks ls l.number

@@ -11,9 +11,9 @@ unfolding loops standing
 loops_of b lines = loops b (standing lines)
 
 -- "The kept report is the rows"
-unfoldable pub reportOf : ℕ → ℕ → List ℤ → List ℤ
+unfoldable pub report_of : ℕ → ℕ → List ℤ → List ℤ
 unfolding rows loops_of
-reportOf b t lines = rows t (loops_of b lines)
+report_of b t lines = rows t (loops_of b lines)
 
 unfoldable pub pieces_of : ℕ → List ℤ → ℕ
 unfolding pieces tree standing

@@ -1,10 +1,10 @@
 -- Document 01, "Loops": listing, misclosure, verdict and report row of a loop; the verdict as requests 03 and 04 have it.
 -- Assumes nothing.
 use Rattle.std.specs.Prelude.{ℕ, zero, max, ◌+◌, ◌*◌, Bool, true, false, cond, List, [], ◌∷◌, ◌++◌, map, ℤ, pos, neg_ℤ, nat_abs, ◌+ℤ◌, leb, length}
-use Rattle.book.specs.Limits.{leastJudged}
-use Rattle.book.specs.Version.{toleranceOf}
+use Rattle.book.specs.Limits.{least_judged}
+use Rattle.book.specs.Version.{tolerance_of}
 use Rattle.network.specs.Standing.{Line}
-use Rattle.network.specs.Path.{Pass, wayLength}
+use Rattle.network.specs.Path.{Pass, way_length}
 use Rattle.loops.specs.Loops.{Loop}
 
 -- a number in the sense of a pass
@@ -31,27 +31,27 @@ total [] = zero
 total (a ∷ rest) = a + total rest
 
 -- "the larger of the length and 250", metres
-abbrev pub judgedAs : ℕ → ℕ
-judgedAs metres = max metres leastJudged
+abbrev pub judged_as : ℕ → ℕ
+judged_as metres = max metres least_judged
 
 -- "The verdict's length is the sum over the loop's lines of the larger of the length and 250."
-unfoldable pub judgedLength : Loop → ℕ
+unfoldable pub judged_length : Loop → ℕ
 unfolding total
-judgedLength lp = total (map (λ p. judgedAs p.line.length) lp)
+judged_length lp = total (map (λ p. judged_as p.line.length) lp)
 
 -- "tolerance squared times length as in Req 03"
-abbrev pub allowedBy : ℕ → ℕ → ℕ
-allowedBy tolerance metres = tolerance * tolerance * judgedAs metres
+abbrev pub allowed_by : ℕ → ℕ → ℕ
+allowed_by tolerance metres = tolerance * tolerance * judged_as metres
 
 -- what one line of a loop allows in a book of tolerance t: by its class's tolerance, or by t where it has none
-unfoldable pub lineAllows : ℕ → Line → ℕ
-unfolding toleranceOf
-lineAllows t l = allowedBy (toleranceOf t l.class) l.length
+unfoldable pub line_allows : ℕ → Line → ℕ
+unfolding tolerance_of
+line_allows t l = allowed_by (tolerance_of t l.class) l.length
 
 -- the allowances of a loop's lines
 unfoldable pub allowances : ℕ → Loop → List ℕ
-unfolding lineAllows
-allowances t lp = map (λ p. lineAllows t p.line) lp
+unfolding line_allows
+allowances t lp = map (λ p. line_allows t p.line) lp
 
 -- "within exactly if m*m is at most 10 times the sum over its lines", "equal is within": over the list of its lines' allowances. Where no
 -- line has a class this is m*m <= 10*t*t*L, L being the verdict's length
@@ -64,34 +64,34 @@ unfoldable pub verdict : ℕ → Loop → ℤ
 unfolding within allowances misclosure
 verdict t lp = cond (within (allowances t lp) (misclosure lp)) (pos 0) (pos 1)
 
-abbrev pub closingNumber : Loop → ℕ
-closingNumber [] = zero
-closingNumber (p ∷ ps) = p.line.number
+abbrev pub closing_number : Loop → ℕ
+closing_number [] = zero
+closing_number (p ∷ ps) = p.line.number
 
 -- numbers per row
-abbrev pub rowWords : ℕ
-rowWords = 5
+abbrev pub row_words : ℕ
+row_words = 5
 
 -- which of them is which
-abbrev pub rowClosing : ℕ
-rowClosing = 0
+abbrev pub row_closing : ℕ
+row_closing = 0
 
-abbrev pub rowCount : ℕ
-rowCount = 1
+abbrev pub row_count : ℕ
+row_count = 1
 
-abbrev pub rowLength : ℕ
-rowLength = 2
+abbrev pub row_length : ℕ
+row_length = 2
 
-abbrev pub rowMisclosure : ℕ
-rowMisclosure = 3
+abbrev pub row_misclosure : ℕ
+row_misclosure = 3
 
-abbrev pub rowVerdict : ℕ
-rowVerdict = 4
+abbrev pub row_verdict : ℕ
+row_verdict = 4
 
 -- "A report row is five numbers: closing line, count of lines, length, misclosure, verdict"
 unfoldable pub row : ℕ → Loop → List ℤ
-unfolding wayLength misclosure verdict
-row t lp = pos (closingNumber lp) ∷ pos (length lp) ∷ pos (wayLength lp) ∷ misclosure lp ∷ verdict t lp ∷ []
+unfolding way_length misclosure verdict
+row t lp = pos (closing_number lp) ∷ pos (length lp) ∷ pos (way_length lp) ∷ misclosure lp ∷ verdict t lp ∷ []
 
 -- "The kept report is the rows", one after the other
 unfoldable pub rows : ℕ → List Loop → List ℤ

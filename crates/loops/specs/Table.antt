@@ -6,14 +6,14 @@ use Rattle.loops.specs.Loops.{Loop}
 
 -- the runs of the loops, one after the other: a loop's run has its closing line first, then its path, each line with its sense in one
 -- number
-unfoldable pub runsOf : List Loop → List ℕ
+unfoldable pub runs_of : List Loop → List ℕ
 unfolding codes
-runsOf [] = []
-runsOf (lp ∷ ls) = codes lp ++ runsOf ls
+runs_of [] = []
+runs_of (lp ∷ ls) = codes lp ++ runs_of ls
 
 -- the table holds the loops ls: so many; where each run begins, and after the last where it ends; and the runs
 pub record Table (ls : List Loop) (starts runs : List ℕ) (count : ℕ) : Type 0 where
   pub counted : count ≡ length ls
   pub starts_fit : length ls < length starts
-  pub begins : (i : ℕ) → i ≤ length ls → get_or starts i 0 ≡ length (runsOf (take i ls))
-  pub held : runs ≡ runsOf ls ++ drop (length (runsOf ls)) runs
+  pub begins : (i : ℕ) → i ≤ length ls → get_or starts i 0 ≡ length (runs_of (take i ls))
+  pub held : runs ≡ runs_of ls ++ drop (length (runs_of ls)) runs

@@ -11,21 +11,21 @@ use borrow.Author.Tests.{eqb-true, eq-eqb, ne_eqb}
 use Rattle.network.specs.Standing.{Line}
 use Rattle.network.specs.Sound.{Placed, Apart, Rising, then}
 use Rattle.network.specs.Piece.{bit}
-use Rattle.network.specs.Tree.{Entry, Tree, Candidate, candidate, distance, score, far, tree, pieces, roots1, treeLines, lines1}
-use Rattle.network.specs.Closing.{insert, insertOf, sameLine, closerOf, closersAt, justLines, closing}
-use Rattle.network.proofs.Grown.{score-of, After, new, old, after, ByLine, ByRoot, Grown, empty, byLine, byRoot, isNew}
+use Rattle.network.specs.Tree.{Entry, Tree, Candidate, candidate, distance, score, far, tree, pieces, roots1, tree_lines, lines1}
+use Rattle.network.specs.Closing.{insert, insert_of, same_line, closer_of, closers_at, just_lines, closing}
+use Rattle.network.proofs.Grown.{score_of_lem, After, new, old, after, ByLine, ByRoot, Grown, empty, by_line, by_root, is_new}
 use Rattle.network.proofs.Shortest.{never}
-use Rattle.network.proofs.Marks.{all-marks, size, grows}
+use Rattle.network.proofs.Marks.{all_marks, size, grows}
 
 -- ---- a tree's lines and its roots are its entries
 
-pub tree-and-roots : (es : Tree) → length (treeLines es) + pieces es ≡ length es
-unfolding treeLines pieces
-tree-and-roots [] = refl
-tree-and-roots (e ∷ es) = go e.by (tree-and-roots es)
+pub tree_and_roots : (es : Tree) → length (tree_lines es) + pieces es ≡ length es
+unfolding tree_lines pieces
+tree_and_roots [] = refl
+tree_and_roots (e ∷ es) = go e.by (tree_and_roots es)
   where
-    go : (o : Option Line) → length (treeLines es) + pieces es ≡ length es
-        → length (lines1 o (treeLines es)) + roots1 o (pieces es) ≡ suc (length es)
+    go : (o : Option Line) → length (tree_lines es) + pieces es ≡ length es
+        → length (lines1 o (tree_lines es)) + roots1 o (pieces es) ≡ suc (length es)
     go none h = omega (arith, h)
     go (some l) h = simp length-append (omega (arith, h))
 
@@ -35,18 +35,18 @@ abbrev pub count : (Line → Bool) → List Line → ℕ
 count f [] = 0
 count f (l ∷ ls) = bit (f l) + count f ls
 
-pub count-split : (f g h : Line → Bool) (lines : List Line) → ((l : Line) → Memᴰ l lines → bit (f l) ≡ bit (g l) + bit (h l))
+pub count_split : (f g h : Line → Bool) (lines : List Line) → ((l : Line) → Memᴰ l lines → bit (f l) ≡ bit (g l) + bit (h l))
     → count f lines ≡ count g lines + count h lines
-count-split f g h [] e = refl
-count-split f g h (l ∷ ls) e = omega (arith, e l (Memᴰ.head refl), count-split f g h ls (λ k m. e k (Memᴰ.tail m)))
+count_split f g h [] e = refl
+count_split f g h (l ∷ ls) e = omega (arith, e l (Memᴰ.head refl), count_split f g h ls (λ k m. e k (Memᴰ.tail m)))
 
 pub count_none : (f : Line → Bool) (lines : List Line) → ((l : Line) → Memᴰ l lines → f l ≡ false) → count f lines ≡ 0
 count_none f [] e = refl
 count_none f (l ∷ ls) e = rw (e l (Memᴰ.head refl)) (omega (arith, count_none f ls (λ k m. e k (Memᴰ.tail m))))
 
-pub count-all : (f : Line → Bool) (lines : List Line) → ((l : Line) → Memᴰ l lines → f l ≡ true) → count f lines ≡ length lines
-count-all f [] e = refl
-count-all f (l ∷ ls) e = rw (e l (Memᴰ.head refl)) (omega (arith, count-all f ls (λ k m. e k (Memᴰ.tail m))))
+pub count_all : (f : Line → Bool) (lines : List Line) → ((l : Line) → Memᴰ l lines → f l ≡ true) → count f lines ≡ length lines
+count_all f [] e = refl
+count_all f (l ∷ ls) e = rw (e l (Memᴰ.head refl)) (omega (arith, count_all f ls (λ k m. e k (Memᴰ.tail m))))
 
 -- ---- lines with both ends in the tree
 
@@ -61,10 +61,10 @@ inside es l = is_some (distance es l.from) && is_some (distance es l.to)
 abbrev pub reaches : Tree → Entry → Line → Bool
 reaches es e l = is_some (score es l) && eqb (far es l) e.mark
 
-pub inside-after : (es : Tree) (e : Entry) (l : Line) → distance es e.mark ≡ none → (l.from ≡ l.to → ⊥)
+pub inside_after : (es : Tree) (e : Entry) (l : Line) → distance es e.mark ≡ none → (l.from ≡ l.to → ⊥)
     → bit (inside (e ∷ es) l) ≡ bit (inside es l) + bit (reaches es e l)
 unfolding score far
-inside-after es e l out apart = go (after e es l.from) (after e es l.to) (distance es l.from) (distance es l.to) refl refl
+inside_after es e l out apart = go (after e es l.from) (after e es l.to) (distance es l.from) (distance es l.to) refl refl
   where
     go : After e es l.from → After e es l.to → (a b : Option ℕ) → distance es l.from ≡ a → distance es l.to ≡ b
         → bit (inside (e ∷ es) l) ≡ bit (inside es l) + bit (reaches es e l)
@@ -82,37 +82,37 @@ inside-after es e l out apart = go (after e es l.from) (after e es l.to) (distan
 
 -- ---- the closing lines at an entry
 
-pub length-insert : (a : Candidate) (cs : List Candidate) → length (insert a cs) ≡ suc (length cs)
+pub length_insert : (a : Candidate) (cs : List Candidate) → length (insert a cs) ≡ suc (length cs)
 unfolding insert
-length-insert a [] = refl
-length-insert a (c ∷ cs) = go (leb a.score c.score) (length-insert a cs)
+length_insert a [] = refl
+length_insert a (c ∷ cs) = go (leb a.score c.score) (length_insert a cs)
   where
-    go : (t : Bool) → length (insert a cs) ≡ suc (length cs) → length (insertOf t a (c ∷ cs) (c ∷ insert a cs)) ≡ suc (suc (length cs))
+    go : (t : Bool) → length (insert a cs) ≡ suc (length cs) → length (insert_of t a (c ∷ cs) (c ∷ insert a cs)) ≡ suc (suc (length cs))
     go true h = refl
     go false h = ap suc h
 
-pub length-justLines : (cs : List Candidate) → length (justLines cs) ≡ length cs
-unfolding justLines
-length-justLines [] = refl
-length-justLines (c ∷ cs) = ap suc (length-justLines cs)
+pub length_just_lines : (cs : List Candidate) → length (just_lines cs) ≡ length cs
+unfolding just_lines
+length_just_lines [] = refl
+length_just_lines (c ∷ cs) = ap suc (length_just_lines cs)
 
 abbrev pub closes : Tree → Entry → Line → Bool
-closes es e l = reaches es e l && not (sameLine e.by l)
+closes es e l = reaches es e l && not (same_line e.by l)
 
 abbrev pub enters : Tree → Entry → Line → Bool
-enters es e l = reaches es e l && sameLine e.by l
+enters es e l = reaches es e l && same_line e.by l
 
-pub length-closersAt : (es : Tree) (e : Entry) (lines : List Line) → length (closersAt es e lines) ≡ count (closes es e) lines
-unfolding closersAt
-length-closersAt es e [] = refl
-length-closersAt es e (l ∷ ls) = go (eqb (far es l) e.mark) (sameLine e.by l) (score es l) (length-closersAt es e ls)
+pub length_closers_at : (es : Tree) (e : Entry) (lines : List Line) → length (closers_at es e lines) ≡ count (closes es e) lines
+unfolding closers_at
+length_closers_at es e [] = refl
+length_closers_at es e (l ∷ ls) = go (eqb (far es l) e.mark) (same_line e.by l) (score es l) (length_closers_at es e ls)
   where
-    go : (a b : Bool) (s : Option ℕ) → length (closersAt es e ls) ≡ count (closes es e) ls
-        → length (closerOf (a && not b) s l (closersAt es e ls)) ≡ bit (is_some s && a && not b) + count (closes es e) ls
+    go : (a b : Bool) (s : Option ℕ) → length (closers_at es e ls) ≡ count (closes es e) ls
+        → length (closer_of (a && not b) s l (closers_at es e ls)) ≡ bit (is_some s && a && not b) + count (closes es e) ls
     go true true none h = omega (arith, h)
     go true true (some s) h = omega (arith, h)
     go true false none h = omega (arith, h)
-    go true false (some s) h = omega (arith, h, length-insert (candidate s l) (closersAt es e ls))
+    go true false (some s) h = omega (arith, h, length_insert (candidate s l) (closers_at es e ls))
     go false b none h = omega (arith, h)
     go false b (some s) h = omega (arith, h)
 
@@ -129,9 +129,9 @@ count_same l (k ∷ ls) (then above r) (Memᴰ.tail m) =
     rw (ne_eqb l.number k.number (λ z. omega (arith, above l m, z)))
     (omega (arith, count_same l ls r m))
 
-pub count-eq : (f g : Line → Bool) (lines : List Line) → ((l : Line) → Memᴰ l lines → f l ≡ g l) → count f lines ≡ count g lines
-count-eq f g [] e = refl
-count-eq f g (l ∷ ls) e = rw (e l (Memᴰ.head refl), count-eq f g ls (λ k m. e k (Memᴰ.tail m)))
+pub count_eq : (f g : Line → Bool) (lines : List Line) → ((l : Line) → Memᴰ l lines → f l ≡ g l) → count f lines ≡ count g lines
+count_eq f g [] e = refl
+count_eq f g (l ∷ ls) e = rw (e l (Memᴰ.head refl), count_eq f g ls (λ k m. e k (Memᴰ.tail m)))
 
 -- two lines of one number are one line
 pub unique : (lines : List Line) → Rising lines → (k l : Line) → Memᴰ k lines → Memᴰ l lines → k.number ≡ l.number → k ≡ l
@@ -142,81 +142,81 @@ unique (j ∷ ls) (then above r) k l (Memᴰ.tail m) (Memᴰ.head e) n =
     absurd (omega (arith, above k m, n, ap (λ (x : Line). x.number) e))
 unique (j ∷ ls) (then above r) k l (Memᴰ.tail m) (Memᴰ.tail m') n = unique ls r k l m m' n
 
-pub split-and : (a b : Bool) → bit a ≡ bit (a && not b) + bit (a && b)
-split-and true true = refl
-split-and true false = refl
-split-and false b = refl
+pub split_and : (a b : Bool) → bit a ≡ bit (a && not b) + bit (a && b)
+split_and true true = refl
+split_and true false = refl
+split_and false b = refl
 
-abbrev pub byOne : Option Line → ℕ
-byOne none = 0
-byOne (some l) = 1
+abbrev pub by_one : Option Line → ℕ
+by_one none = 0
+by_one (some l) = 1
 
-pub and-false : (a : Bool) → (a && false) ≡ false
-and-false true = refl
-and-false false = refl
+pub and_false : (a : Bool) → (a && false) ≡ false
+and_false true = refl
+and_false false = refl
 
 -- what reaches a new mark by its own line: just that line
-pub enters-one : (lines : List Line) (es : Tree) (e : Entry) → Rising lines → ByLine lines es e → count (enters es e) lines ≡ 1
-enters-one lines es e r b = count-eq (enters es e) (λ k. eqb b.l.number k.number) lines here ∙ count_same b.l lines r b.is_line
+pub enters_one : (lines : List Line) (es : Tree) (e : Entry) → Rising lines → ByLine lines es e → count (enters es e) lines ≡ 1
+enters_one lines es e r b = count_eq (enters es e) (λ k. eqb b.l.number k.number) lines here ∙ count_same b.l lines r b.is_line
   where
     here : (k : Line) → Memᴰ k lines → enters es e k ≡ eqb b.l.number k.number
     here k m = rw b.its (go (eqb b.l.number k.number) refl)
       where
         go : (t : Bool) → eqb b.l.number k.number ≡ t → (reaches es e k && t) ≡ t
         go true q =
-            let same_line : k ≡ b.l = unique lines r k b.l m b.is_line (sym (eqb-true _ _ q)) in
+            let is_same_line : k ≡ b.l = unique lines r k b.l m b.is_line (sym (eqb-true _ _ q)) in
             rw (
-              same_line,
-              score-of es b.l b.sc.near b.sc.away b.sc.d b.sc.ends b.sc.isIn b.sc.isOut,
-              b.sc.isFar,
-              eq-eqb b.sc.away e.mark (sym b.itsMark),
+              is_same_line,
+              score_of_lem es b.l b.sc.near b.sc.away b.sc.d b.sc.ends b.sc.is_in b.sc.is_out,
+              b.sc.is_far,
+              eq-eqb b.sc.away e.mark (sym b.its_mark),
             )
-        go false q = and-false (reaches es e k)
+        go false q = and_false (reaches es e k)
 
 pub enters_none : (lines : List Line) (es : Tree) (e : Entry) → ByRoot lines es e → count (reaches es e) lines ≡ 0
 enters_none lines es e b = count_none (reaches es e) lines (λ k m. rw (b.done k m))
 
 -- ---- tree lines and closing lines are the lines with both ends in the tree
 
-pub length-lines1 : (o : Option Line) (ls : List Line) → length (lines1 o ls) ≡ length ls + byOne o
-length-lines1 none ls = omega arith
-length-lines1 (some l) ls = simp length-append (omega arith)
+pub length_lines1 : (o : Option Line) (ls : List Line) → length (lines1 o ls) ≡ length ls + by_one o
+length_lines1 none ls = omega arith
+length_lines1 (some l) ls = simp length-append (omega arith)
 
 -- one more entry: the lines that now have both ends in are those that reach its mark
 pub one_more : (lines : List Line) (es : Tree) (e : Entry) → Apart lines → distance es e.mark ≡ none
     → count (inside (e ∷ es)) lines ≡ count (inside es) lines + count (reaches es e) lines
-one_more lines es e apart out = count-split (inside (e ∷ es)) (inside es) (reaches es e) lines (λ k m. inside-after es e k out (apart k m))
+one_more lines es e apart out = count_split (inside (e ∷ es)) (inside es) (reaches es e) lines (λ k m. inside_after es e k out (apart k m))
 
 pub closed : (lines : List Line) (es : Tree) (e : Entry)
-    → count (reaches es e) lines ≡ length (justLines (closersAt es e lines)) + count (enters es e) lines
+    → count (reaches es e) lines ≡ length (just_lines (closers_at es e lines)) + count (enters es e) lines
 closed lines es e =
-    count-split (reaches es e) (closes es e) (enters es e) lines (λ k m. split-and (reaches es e k) (sameLine e.by k))
-    ∙ ap (λ (n : ℕ). n + count (enters es e) lines) (sym (length-justLines (closersAt es e lines) ∙ length-closersAt es e lines))
+    count_split (reaches es e) (closes es e) (enters es e) lines (λ k m. split_and (reaches es e k) (same_line e.by k))
+    ∙ ap (λ (n : ℕ). n + count (enters es e) lines) (sym (length_just_lines (closers_at es e lines) ∙ length_closers_at es e lines))
 
-pub both-in : (lines : List Line) → Rising lines → Apart lines → {es : Tree} → Grown lines es
-    → count (inside es) lines ≡ length (treeLines es) + length (closing lines es)
-unfolding treeLines closing distance
-both-in lines r apart empty = count_none (inside []) lines (λ k m. refl)
-both-in lines r apart (byLine {e = e} {es = es} g b) =
-    simp (length-append, length-lines1)
+pub both_in : (lines : List Line) → Rising lines → Apart lines → {es : Tree} → Grown lines es
+    → count (inside es) lines ≡ length (tree_lines es) + length (closing lines es)
+unfolding tree_lines closing distance
+both_in lines r apart empty = count_none (inside []) lines (λ k m. refl)
+both_in lines r apart (by_line {e = e} {es = es} g b) =
+    simp (length-append, length_lines1)
     (omega (
       arith,
-      ap byOne b.its,
-      one_more lines es e apart (isNew b),
+      ap by_one b.its,
+      one_more lines es e apart (is_new b),
       closed lines es e,
-      enters-one lines es e r b,
-      both-in lines r
+      enters_one lines es e r b,
+      both_in lines r
           apart g,
     ))
-both-in lines r apart (byRoot {e = e} {es = es} g b) =
-    simp (length-append, length-lines1)
+both_in lines r apart (by_root {e = e} {es = es} g b) =
+    simp (length-append, length_lines1)
     (omega (
       arith,
-      ap byOne b.its,
+      ap by_one b.its,
       one_more lines es e apart b.out,
       closed lines es e,
       enters_none lines es e b,
-      both-in lines r
+      both_in lines r
           apart g,
     ))
 
@@ -228,14 +228,14 @@ some_of (some d) f = refl
 
 module _ (b : ℕ) (lines : List Line) (placed : (l : Line) → Memᴰ l lines → Placed b l) where
   pub everything : count (inside (tree b lines)) lines ≡ length lines
-  everything = count-all (inside (tree b lines)) lines (λ l m. let p = placed l m in
+  everything = count_all (inside (tree b lines)) lines (λ l m. let p = placed l m in
       rw (
-        some_of (distance (tree b lines) l.from) (all-marks b lines placed l.from p.from_low p.from-high),
-        some_of (distance (tree b lines) l.to) (all-marks b lines placed l.to p.to_low p.to_high),
+        some_of (distance (tree b lines) l.from) (all_marks b lines placed l.from p.from_low p.from_high),
+        some_of (distance (tree b lines) l.to) (all_marks b lines placed l.to p.to_low p.to_high),
       ))
 
   -- lines - marks + pieces
   module _ (rising : Rising lines) (apart : Apart lines) where
-    pub closing-count : length (closing lines (tree b lines)) + b ≡ length lines + pieces (tree b lines)
-    closing-count =
-        omega (arith, tree-and-roots (tree b lines), size b lines placed, both-in lines rising apart (grows b lines placed), everything)
+    pub closing_count : length (closing lines (tree b lines)) + b ≡ length lines + pieces (tree b lines)
+    closing_count =
+        omega (arith, tree_and_roots (tree b lines), size b lines placed, both_in lines rising apart (grows b lines placed), everything)

@@ -11,53 +11,53 @@ use lib.ListN.{length}
 use Rattle.network.specs.Standing.{Line}
 use Rattle.network.specs.Sound.{Placed}
 use Rattle.network.specs.Tree.{Entry, Tree, distance, grow, up_to, marks, tree}
-use Rattle.network.proofs.Grown.{After, new, old, after, Grown, isNew, grown, Stepped, line, root, stop, stepped}
+use Rattle.network.proofs.Grown.{After, new, old, after, Grown, is_new, grown, Stepped, line, root, stop, stepped}
 use Rattle.network.specs.Walk.{Ends, along, against}
 
 -- ---- b steps are enough
 
-abbrev pub outBit : Option ℕ → ℕ
-outBit none = 1
-outBit (some d) = 0
+abbrev pub out_bit : Option ℕ → ℕ
+out_bit none = 1
+out_bit (some d) = 0
 
 -- how many of the marks 1 to b are not in the tree
 pub outs : Tree → ℕ → ℕ
 outs es zero = 0
-outs es (suc b) = outBit (distance es (suc b)) + outs es b
+outs es (suc b) = out_bit (distance es (suc b)) + outs es b
 
-pub outs-nil : (b : ℕ) → outs [] b ≡ b
+pub outs_nil : (b : ℕ) → outs [] b ≡ b
 unfolding outs distance
-outs-nil zero = refl
-outs-nil (suc b) = omega (arith, outs-nil b)
+outs_nil zero = refl
+outs_nil (suc b) = omega (arith, outs_nil b)
 
-pub outs-above : (e : Entry) (es : Tree) (b : ℕ) → b < e.mark → outs (e ∷ es) b ≡ outs es b
+pub outs_above : (e : Entry) (es : Tree) (b : ℕ) → b < e.mark → outs (e ∷ es) b ≡ outs es b
 unfolding outs
-outs-above e es zero h = refl
-outs-above e es (suc b) h = go (after e es (suc b)) (outs-above e es b)
+outs_above e es zero h = refl
+outs_above e es (suc b) h = go (after e es (suc b)) (outs_above e es b)
   where
     go : After e es (suc b) → (b < e.mark → outs (e ∷ es) b ≡ outs es b)
-        → outBit (distance (e ∷ es) (suc b)) + outs (e ∷ es) b ≡ outBit (distance es (suc b)) + outs es b
+        → out_bit (distance (e ∷ es) (suc b)) + outs (e ∷ es) b ≡ out_bit (distance es (suc b)) + outs es b
     go (new x y) ih = absurd (omega (arith, x))
     go (old x y) ih = rw y (omega (arith, ih (omega arith)))
 
-pub outs-cons : (e : Entry) (es : Tree) (b : ℕ) → distance es e.mark ≡ none → 0 < e.mark → e.mark ≤ b
+pub outs_cons : (e : Entry) (es : Tree) (b : ℕ) → distance es e.mark ≡ none → 0 < e.mark → e.mark ≤ b
     → outs es b ≡ suc (outs (e ∷ es) b)
 unfolding outs
-outs-cons e es zero out h k = absurd (omega arith)
-outs-cons e es (suc b) out h k = go (after e es (suc b)) (outs-cons e es b out h)
+outs_cons e es zero out h k = absurd (omega arith)
+outs_cons e es (suc b) out h k = go (after e es (suc b)) (outs_cons e es b out h)
   where
     go : After e es (suc b) → (e.mark ≤ b → outs es b ≡ suc (outs (e ∷ es) b))
-        → outBit (distance es (suc b)) + outs es b ≡ suc (outBit (distance (e ∷ es) (suc b)) + outs (e ∷ es) b)
-    go (new x y) ih = rw (y, ap (distance es) (sym x) ∙ out) (omega (arith, outs-above e es b (omega (arith, x))))
+        → out_bit (distance es (suc b)) + outs es b ≡ suc (out_bit (distance (e ∷ es) (suc b)) + outs (e ∷ es) b)
+    go (new x y) ih = rw (y, ap (distance es) (sym x) ∙ out) (omega (arith, outs_above e es b (omega (arith, x))))
     go (old x y) ih = rw y (omega (arith, ih (omega arith)))
 
-pub outs-zero : (es : Tree) (b : ℕ) → outs es b ≡ 0 → (m : ℕ) → 0 < m → m ≤ b → distance es m ≡ none → ⊥
+pub outs_zero : (es : Tree) (b : ℕ) → outs es b ≡ 0 → (m : ℕ) → 0 < m → m ≤ b → distance es m ≡ none → ⊥
 unfolding outs
-outs-zero es zero z m h k out = omega arith
-outs-zero es (suc b) z m h k out = go (ℕ_discrete m (suc b)) (outs-zero es b)
+outs_zero es zero z m h k out = omega arith
+outs_zero es (suc b) z m h k out = go (ℕ_discrete m (suc b)) (outs_zero es b)
   where
     go : Dec (m ≡ suc b) → (outs es b ≡ 0 → (m : ℕ) → 0 < m → m ≤ b → distance es m ≡ none → ⊥) → ⊥
-    go (yes e) ih = omega (arith, ap outBit (ap (distance es) (sym e) ∙ out))
+    go (yes e) ih = omega (arith, ap out_bit (ap (distance es) (sym e) ∙ out))
     go (no n) ih = ih (omega arith) m h (omega arith) out
 
 pub all_in : (es : Tree) (b : ℕ) → ((m : ℕ) → 0 < m → m ≤ b → distance es m ≡ none → ⊥) → outs es b ≡ 0
@@ -65,39 +65,39 @@ unfolding outs
 all_in es zero f = refl
 all_in es (suc b) f = go (distance es (suc b)) refl (all_in es b (λ m h k. f m h (omega arith)))
   where
-    go : (a : Option ℕ) → distance es (suc b) ≡ a → outs es b ≡ 0 → outBit a + outs es b ≡ 0
+    go : (a : Option ℕ) → distance es (suc b) ≡ a → outs es b ≡ 0 → out_bit a + outs es b ≡ 0
     go none p h = absurd (f (suc b) (omega arith) (omega arith) p)
     go (some d) p h = omega (arith, h)
 
 -- the marks 1 to b
-pub in-upTo : (b : ℕ) (ms : List ℕ) (m : ℕ) → ((0 < m) × (m ≤ b)) ⊎ Memᴰ m ms → Memᴰ m (up_to b ms)
+pub in_up_to : (b : ℕ) (ms : List ℕ) (m : ℕ) → ((0 < m) × (m ≤ b)) ⊎ Memᴰ m ms → Memᴰ m (up_to b ms)
 unfolding up_to
-in-upTo zero ms m (inl h) = absurd (omega arith)
-in-upTo zero ms m (inr i) = i
-in-upTo (suc b) ms m (inl h) = in-upTo b (suc b ∷ ms) m (go (ℕ_discrete m (suc b)))
+in_up_to zero ms m (inl h) = absurd (omega arith)
+in_up_to zero ms m (inr i) = i
+in_up_to (suc b) ms m (inl h) = in_up_to b (suc b ∷ ms) m (go (ℕ_discrete m (suc b)))
   where
     go : Dec (m ≡ suc b) → ((0 < m) × (m ≤ b)) ⊎ Memᴰ m (suc b ∷ ms)
     go (yes e) = inr (Memᴰ.head e)
     go (no n) = inl (omega arith)
-in-upTo (suc b) ms m (inr i) = in-upTo b (suc b ∷ ms) m (inr (Memᴰ.tail i))
+in_up_to (suc b) ms m (inr i) = in_up_to b (suc b ∷ ms) m (inr (Memᴰ.tail i))
 
-pub of-upTo : (b : ℕ) (ms : List ℕ) (m : ℕ) → Memᴰ m (up_to b ms) → ((0 < m) × (m ≤ b)) ⊎ Memᴰ m ms
+pub of_up_to : (b : ℕ) (ms : List ℕ) (m : ℕ) → Memᴰ m (up_to b ms) → ((0 < m) × (m ≤ b)) ⊎ Memᴰ m ms
 unfolding up_to
-of-upTo zero ms m i = inr i
-of-upTo (suc b) ms m i = go (of-upTo b (suc b ∷ ms) m i)
+of_up_to zero ms m i = inr i
+of_up_to (suc b) ms m i = go (of_up_to b (suc b ∷ ms) m i)
   where
     go : ((0 < m) × (m ≤ b)) ⊎ Memᴰ m (suc b ∷ ms) → ((0 < m) × (m ≤ suc b)) ⊎ Memᴰ m ms
     go (inl h) = inl (omega arith)
     go (inr (Memᴰ.head e)) = inl (omega (arith, e))
     go (inr (Memᴰ.tail j)) = inr j
 
-pub in-marks : (b m : ℕ) → 0 < m → m ≤ b → Memᴰ m (marks b)
+pub in_marks : (b m : ℕ) → 0 < m → m ≤ b → Memᴰ m (marks b)
 unfolding marks
-in-marks b m h k = in-upTo b [] m (inl (h, k))
+in_marks b m h k = in_up_to b [] m (inl (h, k))
 
-pub of-marks : (b m : ℕ) → Memᴰ m (marks b) → (0 < m) × (m ≤ b)
+pub of_marks : (b m : ℕ) → Memᴰ m (marks b) → (0 < m) × (m ≤ b)
 unfolding marks
-of-marks b m i = go (of-upTo b [] m i)
+of_marks b m i = go (of_up_to b [] m i)
   where
     go : ((0 < m) × (m ≤ b)) ⊎ Memᴰ m [] → (0 < m) × (m ≤ b)
     go (inl h) = h
@@ -111,7 +111,7 @@ module _ (b : ℕ) (lines : List Line) (placed : (l : Line) → Memᴰ l lines �
   -- one mark enters at each of the b steps
   pub one_each : (k : ℕ) → k ≤ b → (outs (grow lines (marks b) k) b + k ≡ b) × (length (grow lines (marks b) k) ≡ k)
   unfolding grow
-  one_each zero h = (omega (arith, outs-nil b), refl)
+  one_each zero h = (omega (arith, outs_nil b), refl)
   one_each (suc k) h = let ih = one_each k (omega arith) in go ih.0 ih.1 (stepped lines (marks b) (grow lines (marks b) k))
     where
       es : Tree
@@ -121,16 +121,16 @@ module _ (b : ℕ) (lines : List Line) (placed : (l : Line) → Memᴰ l lines �
           → (outs es' b + suc k ≡ b) × (length es' ≡ suc k)
       go i j (line {e = e} x) =
           let v = placed_end b x.l x.sc.near x.sc.away (placed x.l x.is_line) x.sc.ends in
-          (omega (arith, i, outs-cons e es b (isNew x) (omega (arith, v.0, x.itsMark)) (omega (arith, v.1, x.itsMark))), ap suc j)
+          (omega (arith, i, outs_cons e es b (is_new x) (omega (arith, v.0, x.its_mark)) (omega (arith, v.1, x.its_mark))), ap suc j)
       go i j (root {e = e} x m) =
-          let v = of-marks b e.mark m in
-          (omega (arith, i, outs-cons e es b x.out v.0 v.1), ap suc j)
-      go i j (stop d f) = absurd (omega (arith, i, all_in es b (λ m p q. f m (in-marks b m p q))))
+          let v = of_marks b e.mark m in
+          (omega (arith, i, outs_cons e es b x.out v.0 v.1), ap suc j)
+      go i j (stop d f) = absurd (omega (arith, i, all_in es b (λ m p q. f m (in_marks b m p q))))
 
   -- so in the end every mark is in the tree
-  pub all-marks : (m : ℕ) → 0 < m → m ≤ b → distance (tree b lines) m ≡ none → ⊥
+  pub all_marks : (m : ℕ) → 0 < m → m ≤ b → distance (tree b lines) m ≡ none → ⊥
   unfolding tree
-  all-marks m h k = outs-zero (grow lines (marks b) b) b (omega (arith, (one_each b (omega arith)).0)) m h k
+  all_marks m h k = outs_zero (grow lines (marks b) b) b (omega (arith, (one_each b (omega arith)).0)) m h k
 
   pub size : length (tree b lines) ≡ b
   unfolding tree

@@ -3,20 +3,20 @@ use mathlib.Core.Path.{◌≡◌, refl, sym, ◌∙◌, ap₂, subst}
 use mathlib.Core.Logic.{◌⊎◌, inl, inr, ◌↔◌}
 use mathlib.Core.List.Memᴰ
 use mathlib.Core.List.{List, ◌∷◌, ◌++◌, Memᴰ}
-use Rattle.network.specs.Pairwise.{Pairwise, no-pair, pairs}
+use Rattle.network.specs.Pairwise.{Pairwise, no_pair, pairs}
 
 -- the first stands so to every later one
-pub pairwise-first : {A : Type 0} {R : A → A → Type 0} {a : A} {rest : List A} → Pairwise R (a ∷ rest) → (c : A) → Memᴰ c rest → R a c
-pairwise-first (pairs f p) = f
+pub pairwise_first : {A : Type 0} {R : A → A → Type 0} {a : A} {rest : List A} → Pairwise R (a ∷ rest) → (c : A) → Memᴰ c rest → R a c
+pairwise_first (pairs f p) = f
 
 -- the later ones stand so among themselves
-pub pairwise-rest : {A : Type 0} {R : A → A → Type 0} {a : A} {rest : List A} → Pairwise R (a ∷ rest) → Pairwise R rest
-pairwise-rest (pairs f p) = p
+pub pairwise_rest : {A : Type 0} {R : A → A → Type 0} {a : A} {rest : List A} → Pairwise R (a ∷ rest) → Pairwise R rest
+pairwise_rest (pairs f p) = p
 
 -- one list after the other
 pub pairwise_append : {A : Type 0} {R : A → A → Type 0} {xs ys : List A} → Pairwise R xs → Pairwise R ys
     → ((x y : A) → Memᴰ x xs → Memᴰ y ys → R x y) → Pairwise R (xs ++ ys)
-pairwise_append no-pair q h = q
+pairwise_append no_pair q h = q
 pairwise_append {R = R} {ys = ys} (pairs {a = a} {rest = rest} f p) q h =
     pairs (λ c i. go c (Memᴰ.append_cases rest i)) (pairwise_append p q (λ x y i j. h x y (Memᴰ.tail i) j))
   where
@@ -25,13 +25,13 @@ pairwise_append {R = R} {ys = ys} (pairs {a = a} {rest = rest} f p) q h =
     go c (inr j) = h a c (Memᴰ.head refl) j
 
 -- only one list of the same elements is in order, where no two elements come each before the other
-pub pairwise-unique : {A : Type 0} {R : A → A → Type 0} → ((a c : A) → R a c → R c a → ⊥) → {xs ys : List A} → Pairwise R xs → Pairwise R ys
+pub pairwise_unique : {A : Type 0} {R : A → A → Type 0} → ((a c : A) → R a c → R c a → ⊥) → {xs ys : List A} → Pairwise R xs → Pairwise R ys
     → ((c : A) → Memᴰ c xs ↔ Memᴰ c ys) → xs ≡ ys
-pairwise-unique asym no-pair no-pair h = refl
-pairwise-unique asym no-pair (pairs {a = y} g q) h = absurd (Memᴰ.not-nil ((h y).1 (Memᴰ.head refl)))
-pairwise-unique asym (pairs {a = x} f p) no-pair h = absurd (Memᴰ.not-nil ((h x).0 (Memᴰ.head refl)))
-pairwise-unique {A = A} {R = R} asym (pairs {a = x} {rest = xs} f p) (pairs {a = y} {rest = ys} g q) h =
-    ap₂ ◌∷◌ heads (pairwise-unique asym p q (λ c. (to c, back c)))
+pairwise_unique asym no_pair no_pair h = refl
+pairwise_unique asym no_pair (pairs {a = y} g q) h = absurd (Memᴰ.not-nil ((h y).1 (Memᴰ.head refl)))
+pairwise_unique asym (pairs {a = x} f p) no_pair h = absurd (Memᴰ.not-nil ((h x).0 (Memᴰ.head refl)))
+pairwise_unique {A = A} {R = R} asym (pairs {a = x} {rest = xs} f p) (pairs {a = y} {rest = ys} g q) h =
+    ap₂ ◌∷◌ heads (pairwise_unique asym p q (λ c. (to c, back c)))
   where
     meet : Memᴰ x (y ∷ ys) → Memᴰ y (x ∷ xs) → x ≡ y
     meet (Memᴰ.head e) j = e

@@ -7,21 +7,21 @@ use Rattle.network.specs.Standing.{Line}
 use Rattle.network.specs.Walk.{Pass, pass, flip, end, start, stop, Walk, here, step, Ends, along, against}
 
 -- one walk after the other
-pub walk-append : {ls : List Line} {r u v : ℕ} {w w' : List Pass} → Walk ls v u w → Walk ls r v w' → Walk ls r u (w ++ w')
-walk-append {ls = ls} {r = r} {w' = w'} (here e) y = subst (λ (x : ℕ). Walk ls r x w') (sym e) y
-walk-append (step s m x) y = step s m (walk-append x y)
+pub walk_append : {ls : List Line} {r u v : ℕ} {w w' : List Pass} → Walk ls v u w → Walk ls r v w' → Walk ls r u (w ++ w')
+walk_append {ls = ls} {r = r} {w' = w'} (here e) y = subst (λ (x : ℕ). Walk ls r x w') (sym e) y
+walk_append (step s m x) y = step s m (walk_append x y)
 
 -- a pass run the other way starts where the pass stops
-pub flip-start : (p : Pass) → start (flip p) ≡ stop p
-flip-start p = go p.forward
+pub flip_start : (p : Pass) → start (flip p) ≡ stop p
+flip_start p = go p.forward
   where
     go : (f : Bool) → end (not f) p.line.from p.line.to ≡ end f p.line.to p.line.from
     go true = refl
     go false = refl
 
 -- and stops where it starts
-pub flip-stop : (p : Pass) → stop (flip p) ≡ start p
-flip-stop p = go p.forward
+pub flip_stop : (p : Pass) → stop (flip p) ≡ start p
+flip_stop p = go p.forward
   where
     go : (f : Bool) → end (not f) p.line.to p.line.from ≡ end f p.line.from p.line.to
     go true = refl
@@ -35,13 +35,13 @@ Way ls r u = (w : List Pass) × Walk ls r u w
 pub way_back : {ls : List Line} {r u : ℕ} {w : List Pass} → Walk ls r u w → Way ls u r
 way_back (here e) = ([], here (sym e))
 way_back {u = u} (step {p = p} s m x) =
-    let y = way_back x in (y.0 ++ (flip p ∷ []), walk-append y.1 (step (flip-start p) m (here (flip-stop p ∙ s))))
+    let y = way_back x in (y.0 ++ (flip p ∷ []), walk_append y.1 (step (flip_start p) m (here (flip_stop p ∙ s))))
 
 -- a walk along some lines is a walk along more
-pub walk-wider : {ls ms : List Line} → ((l : Line) → Memᴰ l ls → Memᴰ l ms) → {r u : ℕ} {w : List Pass} → Walk ls r u w
+pub walk_wider : {ls ms : List Line} → ((l : Line) → Memᴰ l ls → Memᴰ l ms) → {r u : ℕ} {w : List Pass} → Walk ls r u w
     → Walk ms r u w
-walk-wider f (here e) = here e
-walk-wider f (step s m x) = step s (f _ m) (walk-wider f x)
+walk_wider f (here e) = here e
+walk_wider f (step s m x) = step s (f _ m) (walk_wider f x)
 
 -- one line, from u to v
 pub over : {ls : List Line} (l : Line) (u v : ℕ) → Memᴰ l ls → Ends l u v → Way ls v u

@@ -11,7 +11,7 @@ use Rattle.network.specs.Tree.{Entry, entry, Tree, Candidate, distance, score, f
 -- number
 pub record EntersNext (es : Tree) (lines : List Line) (c : Candidate) : Type 0 where
   pub is_line : Memᴰ c.line lines
-  pub itsScore : score es c.line ≡ some c.score
+  pub its_score : score es c.line ≡ some c.score
   pub lowest : (l : Line) (s : ℕ) → Memᴰ l lines → score es l ≡ some s
       → (c.score < s) ⊎ ((c.score ≡ s) × (c.line.number ≤ l.number))
 
@@ -23,7 +23,7 @@ PieceDone es lines = (l : Line) → Memᴰ l lines → score es l ≡ none
 pub record NextRoot (b : ℕ) (es : Tree) (m : ℕ) : Type 0 where
   pub low : 0 < m
   pub high : m ≤ b
-  pub isOut : distance es m ≡ none
+  pub is_out : distance es m ≡ none
   pub lowest : (k : ℕ) → 0 < k → k < m → distance es k ≡ none → ⊥
 
 -- the tree grows by one entry after the other: the candidate that enters next, "its far mark takes the score as distance"; or, where the
@@ -32,22 +32,22 @@ pub data Growth (b : ℕ) (lines : List Line) : Tree → Type 0 where
   nothing : Growth b lines []
   enters : {es : Tree} {c : Candidate} → Growth b lines es → EntersNext es lines c
       → Growth b lines (entry (far es c.line) c.score (some c.line) ∷ es)
-  nextRoot : {es : Tree} {m : ℕ} → Growth b lines es → PieceDone es lines → NextRoot b es m → Growth b lines (entry m 0 none ∷ es)
+  next_root : {es : Tree} {m : ℕ} → Growth b lines es → PieceDone es lines → NextRoot b es m → Growth b lines (entry m 0 none ∷ es)
 
 -- "the distance falls at each step": the line l, by which e entered, leads from its mark to a mark of the tree that is nearer by just its
 -- length
 pub record LeadsNearer (es : Tree) (e : Entry) (l : Line) : Type 0 where
   pub nearer : ℕ
-  pub itsDistance : ℕ
+  pub its_distance : ℕ
   pub ends : Ends l nearer e.mark
-  pub isIn : distance es nearer ≡ some itsDistance
-  pub sum : e.dist ≡ itsDistance + l.length
+  pub is_in : distance es nearer ≡ some its_distance
+  pub sum : e.dist ≡ its_distance + l.length
 
-abbrev pub oneMore : Bool → ℕ → ℕ
-oneMore true n = suc n
-oneMore false n = n
+abbrev pub one_more : Bool → ℕ → ℕ
+one_more true n = suc n
+one_more false n = n
 
 -- how often mark m entered
-unfoldable pub timesEntered : ℕ → Tree → ℕ
-timesEntered m [] = zero
-timesEntered m (e ∷ es) = oneMore (eqb e.mark m) (timesEntered m es)
+unfoldable pub times_entered : ℕ → Tree → ℕ
+times_entered m [] = zero
+times_entered m (e ∷ es) = one_more (eqb e.mark m) (times_entered m es)

@@ -6,7 +6,7 @@ use Rattle.std.proofs.Math.Option.{Option, none, some}
 use Rattle.network.specs.Standing.{Line}
 use Rattle.network.specs.Tree.{Tree, distance, grow}
 pub use Rattle.network.specs.Walk.{Pass, pass, end, start, stop}
-unfoldable pub use Rattle.network.specs.Walk.{wayLength}
+unfoldable pub use Rattle.network.specs.Walk.{way_length}
 
 abbrev pub fits : ℕ → Option ℕ → Option ℕ → Bool
 fits len none e = false
@@ -18,17 +18,17 @@ unfoldable pub down : Tree → Pass → Bool
 unfolding distance
 down es p = fits p.line.length (distance es (start p)) (distance es (stop p))
 
-abbrev pub pickPass : Bool → Pass → Option Pass → Option Pass
-pickPass true p rest = some p
-pickPass false p rest = rest
+abbrev pub pick_pass : Bool → Pass → Option Pass → Option Pass
+pick_pass true p rest = some p
+pick_pass false p rest = rest
 
 -- of the lines at mark u that lead down, the one with the lowest number, as it is run from u
 unfoldable pub descent : Tree → ℕ → List Line → Option Pass
 unfolding down
 descent es u [] = none
 descent es u (l ∷ ls) =
-    pickPass (eqb l.from u && down es (pass l true)) (pass l true)
-    (pickPass (eqb l.to u && down es (pass l false)) (pass l false)
+    pick_pass (eqb l.from u && down es (pass l true)) (pass l true)
+    (pick_pass (eqb l.to u && down es (pass l false)) (pass l false)
     (descent es u ls))
 
 -- a pass, and what goes on from its stop; nothing where there is none

@@ -11,14 +11,14 @@ abbrev pub LowestOfPiece : List Line → ℕ → Type 0
 LowestOfPiece lines m = (r : ℕ) → 0 < r → r < m → (w : List Pass) → Walk lines r m w → ⊥
 
 -- an entry by no line is a root
-abbrev pub rootIf : Option Line → Bool
-rootIf none = true
-rootIf (some l) = false
+abbrev pub root_if : Option Line → Bool
+root_if none = true
+root_if (some l) = false
 
 -- mark m entered as a root
-unfoldable pub rootAt : Tree → ℕ → Bool
-rootAt [] m = false
-rootAt (e ∷ es) m = cond (eqb e.mark m) (rootIf e.by) (rootAt es m)
+unfoldable pub root_at : Tree → ℕ → Bool
+root_at [] m = false
+root_at (e ∷ es) m = cond (eqb e.mark m) (root_if e.by) (root_at es m)
 
 abbrev pub bit : Bool → ℕ
 bit true = 1

@@ -15,16 +15,16 @@ abbrev pub measured : (Line → Measure) → Line → Line
 measured g l = line l.number l.from l.to (g l).difference l.length (g l).class
 
 -- the difference d for line n, and its own for any other; every class stays
-abbrev pub newDifference : ℕ → ℤ → Line → Measure
-newDifference n d l = record { difference = cond (eqb l.number n) d l.difference; class = l.class }
+abbrev pub new_difference : ℕ → ℤ → Line → Measure
+new_difference n d l = record { difference = cond (eqb l.number n) d l.difference; class = l.class }
 
 -- the lines once line n is re-run with the difference d
 abbrev pub redone : ℕ → ℤ → List Line → List Line
-redone n d lines = map (measured (newDifference n d)) lines
+redone n d lines = map (measured (new_difference n d)) lines
 
 -- a pass over a line measured again
-abbrev pub measuredPass : (Line → Measure) → Pass → Pass
-measuredPass g p = pass (measured g p.line) p.forward
+abbrev pub measured_pass : (Line → Measure) → Pass → Pass
+measured_pass g p = pass (measured g p.line) p.forward
 
-abbrev pub redonePass : ℕ → ℤ → Pass → Pass
-redonePass n d p = measuredPass (newDifference n d) p
+abbrev pub redone_pass : ℕ → ℤ → Pass → Pass
+redone_pass n d p = measured_pass (new_difference n d) p

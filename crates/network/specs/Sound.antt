@@ -2,13 +2,13 @@
 -- Assumes nothing.
 use Rattle.std.specs.Prelude.{ℕ, ◌≤◌, ◌<◌, ◌≡◌}
 use mathlib.Core.List.{List, [], ◌∷◌, Memᴰ}
-use Rattle.book.specs.Limits.{leastLength}
+use Rattle.book.specs.Limits.{least_length}
 use Rattle.network.specs.Standing.{Line}
 
 -- the line's ends are marks of the book: "Marks are 1 to b"
 pub record Placed (b : ℕ) (l : Line) : Type 0 where
   pub from_low : 0 < l.from
-  pub from-high : l.from ≤ b
+  pub from_high : l.from ≤ b
   pub to_low : 0 < l.to
   pub to_high : l.to ≤ b
 
@@ -29,5 +29,5 @@ pub data Rising : List Line → Type 0 where
 pub record Sound (b : ℕ) (lines : List Line) : Type 0 where
   pub placed : (l : Line) → Memᴰ l lines → Placed b l
   pub apart : Apart lines
-  pub long-enough : (l : Line) → Memᴰ l lines → leastLength ≤ l.length
+  pub long_enough : (l : Line) → Memᴰ l lines → least_length ≤ l.length
   pub rising : Rising lines

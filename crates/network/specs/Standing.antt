@@ -24,18 +24,18 @@ keep (negsuc k) l ls = ls
 
 -- "a line is five signed 64-bit numbers in a lent slice: from, to, difference, length, standing", and request 04's sixth, its class; the
 -- first line here has the number k
-unfoldable pub standingFrom : ℕ → List ℤ → List Line
+unfoldable pub standing_from : ℕ → List ℤ → List Line
 unfolding keep
-standingFrom k [] = []
-standingFrom k (f ∷ []) = []
-standingFrom k (f ∷ t ∷ []) = []
-standingFrom k (f ∷ t ∷ d ∷ []) = []
-standingFrom k (f ∷ t ∷ d ∷ l ∷ []) = []
-standingFrom k (f ∷ t ∷ d ∷ l ∷ s ∷ []) = []
-standingFrom k (f ∷ t ∷ d ∷ l ∷ s ∷ c ∷ rest) =
-    keep s (line k (nat_abs f) (nat_abs t) d (nat_abs l) c) (standingFrom (suc k) rest)
+standing_from k [] = []
+standing_from k (f ∷ []) = []
+standing_from k (f ∷ t ∷ []) = []
+standing_from k (f ∷ t ∷ d ∷ []) = []
+standing_from k (f ∷ t ∷ d ∷ l ∷ []) = []
+standing_from k (f ∷ t ∷ d ∷ l ∷ s ∷ []) = []
+standing_from k (f ∷ t ∷ d ∷ l ∷ s ∷ c ∷ rest) =
+    keep s (line k (nat_abs f) (nat_abs t) d (nat_abs l) c) (standing_from (suc k) rest)
 
 -- "Lines are numbered from 1." The standing lines, by rising number
 unfoldable pub standing : List ℤ → List Line
-unfolding standingFrom
-standing lines = standingFrom 1 lines
+unfolding standing_from
+standing lines = standing_from 1 lines

@@ -35,55 +35,55 @@ unfoldable pub distance : Tree → ℕ → Option ℕ
 distance [] m = none
 distance (e ∷ es) m = or_else (eqb e.mark m) (some e.dist) (distance es m)
 
-abbrev pub oneEnd : Option ℕ → Option ℕ → ℕ → Option ℕ
-oneEnd none none len = none
-oneEnd (some d) none len = some (d + len)
-oneEnd none (some d) len = some (d + len)
-oneEnd (some d) (some e) len = none
+abbrev pub one_end : Option ℕ → Option ℕ → ℕ → Option ℕ
+one_end none none len = none
+one_end (some d) none len = some (d + len)
+one_end none (some d) len = some (d + len)
+one_end (some d) (some e) len = none
 
 -- "A line becomes a candidate when the first of its two ends enters the tree; its score is that end's distance plus its length."
 -- none: the line is no candidate, or not any more
 unfoldable pub score : Tree → Line → Option ℕ
 unfolding distance
-score es l = oneEnd (distance es l.from) (distance es l.to) l.length
+score es l = one_end (distance es l.from) (distance es l.to) l.length
 
-abbrev pub farOf : Option ℕ → Line → ℕ
-farOf none l = l.from
-farOf (some d) l = l.to
+abbrev pub far_of : Option ℕ → Line → ℕ
+far_of none l = l.from
+far_of (some d) l = l.to
 
 -- the far mark of a candidate: its end that is not in the tree
 unfoldable pub far : Tree → Line → ℕ
 unfolding distance
-far es l = farOf (distance es l.from) l
+far es l = far_of (distance es l.from) l
 
-abbrev pub lowerOf : Bool → Candidate → Candidate → Option Candidate
-lowerOf true a b = some a
-lowerOf false a b = some b
+abbrev pub lower_of : Bool → Candidate → Candidate → Option Candidate
+lower_of true a b = some a
+lower_of false a b = some b
 
 -- of two candidates the one with the lower score; the first if they are equal
 abbrev pub lower : Candidate → Option Candidate → Option Candidate
 lower a none = some a
-lower a (some b) = lowerOf (leb a.score b.score) a b
+lower a (some b) = lower_of (leb a.score b.score) a b
 
-abbrev pub lowestOf : Option ℕ → Line → Option Candidate → Option Candidate
-lowestOf none l best = best
-lowestOf (some s) l best = lower (candidate s l) best
+abbrev pub lowest_of : Option ℕ → Line → Option Candidate → Option Candidate
+lowest_of none l best = best
+lowest_of (some s) l best = lower (candidate s l) best
 
 -- "The candidate with the lowest score, then the lowest number"
 unfoldable pub lowest : Tree → List Line → Option Candidate
 unfolding score
 lowest es [] = none
-lowest es (l ∷ ls) = lowestOf (score es l) l (lowest es ls)
+lowest es (l ∷ ls) = lowest_of (score es l) l (lowest es ls)
 
 abbrev pub first_of : Option ℕ → ℕ → Option ℕ → Option ℕ
 first_of none m rest = some m
 first_of (some d) m rest = rest
 
 -- the first of the marks ms that is not in the tree
-unfoldable pub firstOut : Tree → List ℕ → Option ℕ
+unfoldable pub first_out : Tree → List ℕ → Option ℕ
 unfolding distance
-firstOut es [] = none
-firstOut es (m ∷ ms) = first_of (distance es m) m (firstOut es ms)
+first_out es [] = none
+first_out es (m ∷ ms) = first_of (distance es m) m (first_out es ms)
 
 -- "The candidate .. enters; its far mark takes the score as distance." Where there is none the piece is done, and the next root enters at
 -- 0.
@@ -93,8 +93,8 @@ next es none (some m) = entry m 0 none ∷ es
 next es none none = es
 
 unfoldable pub step : List Line → List ℕ → Tree → Tree
-unfolding far lowest firstOut
-step lines roots es = next es (lowest es lines) (firstOut es roots)
+unfolding far lowest first_out
+step lines roots es = next es (lowest es lines) (first_out es roots)
 
 -- k steps from the empty tree: one mark enters at each
 unfoldable pub grow : List Line → List ℕ → ℕ → Tree
@@ -130,6 +130,6 @@ lines1 none ls = ls
 lines1 (some l) ls = ls ++ (l ∷ [])
 
 -- the tree's lines, in the order in which they entered
-unfoldable pub treeLines : Tree → List Line
-treeLines [] = []
-treeLines (e ∷ es) = lines1 e.by (treeLines es)
+unfoldable pub tree_lines : Tree → List Line
+tree_lines [] = []
+tree_lines (e ∷ es) = lines1 e.by (tree_lines es)

@@ -34,9 +34,9 @@ abbrev pub stop : Pass → ℕ
 stop p = end p.forward p.line.to p.line.from
 
 -- the length of what is run: "the sum of the lengths as entered"
-unfoldable pub wayLength : List Pass → ℕ
-wayLength [] = zero
-wayLength (p ∷ ps) = p.line.length + wayLength ps
+unfoldable pub way_length : List Pass → ℕ
+way_length [] = zero
+way_length (p ∷ ps) = p.line.length + way_length ps
 
 -- w is a walk along the lines from mark u to mark r: each pass starts where the one before it stops
 pub data Walk (lines : List Line) (r : ℕ) : ℕ → List Pass → Type 0 where
@@ -52,14 +52,14 @@ pub data Before : List Pass → List Pass → Type 0 where
 -- "the shortest path in the subgraph": p is a walk along the lines sub from mark u to mark r, no walk is shorter, and of those as short
 -- it is the first by numbers
 pub record IsShortest (sub : List Line) (r u : ℕ) (p : List Pass) : Type 0 where
-  pub isWalk : Walk sub r u p
-  pub least : {w : List Pass} → Walk sub r u w → wayLength p ≤ wayLength w
-  pub first : {w : List Pass} → Walk sub r u w → wayLength w ≡ wayLength p → Before p w
+  pub is_walk : Walk sub r u p
+  pub least : {w : List Pass} → Walk sub r u w → way_length p ≤ way_length w
+  pub first : {w : List Pass} → Walk sub r u w → way_length w ≡ way_length p → Before p w
 
 -- no mark twice: the marks on the way w from mark u, u itself and where each pass stops, are all different
-unfoldable pub marksOn : ℕ → List Pass → List ℕ
-marksOn u [] = u ∷ []
-marksOn u (p ∷ ps) = u ∷ marksOn (stop p) ps
+unfoldable pub marks_on : ℕ → List Pass → List ℕ
+marks_on u [] = u ∷ []
+marks_on u (p ∷ ps) = u ∷ marks_on (stop p) ps
 
 abbrev pub AllDifferent : List ℕ → Type 0
 AllDifferent ms = Pairwise (λ (m k : ℕ). m ≡ k → ⊥) ms

@@ -8,11 +8,11 @@ use lib.ListN.{length, get_or, take, drop, length-drop, length-append, length-ma
 use lib.Seq.{take_at, drop_at, drop-drop, get_or-drop, get_or-take}
 use Rattle.loops.specs.Row.{listed, listings}
 use Rattle.links.specs.Link.{Link}
-use Rattle.links.specs.Sketch.{entryWords, entry, entries}
+use Rattle.links.specs.Sketch.{entry_words, entry, entries}
 use Rattle.text.specs.Put.{Put}
 use Rattle.text.proofs.Puts.{nothing_put, ◌then◌}
-use Rattle.page.specs.Sketch.{linkLine, spurLine, selfClosingLine, linesBy}
-use Rattle.page.specs.Entries.{line_for, entryLine, LiesAt, run_by, Entered}
+use Rattle.page.specs.Sketch.{link_line, spur_line, self_closing_line, lines_by}
+use Rattle.page.specs.Entries.{line_for, entry_line, LiesAt, run_by, Entered}
 use Rattle.page.specs.declared.sketch.Kind as kind
 use Rattle.page.specs.declared.sketch.Kind.{Kind}
 
@@ -26,15 +26,15 @@ module _ (part more : List ℤ) {list : List ℤ} {a : ℕ} (w : LiesAt (part ++
   first_ends : a + length part ≤ length list
   first_ends = omega (arith, w.inside, length-drop a list, simp length-append at (ap length both))
 
-  pub first-is : take (length part) (drop a list) ≡ part
-  first-is = ap (take (length part)) both ∙ take_at part (more ++ w.past) (length part) refl
+  pub first_is : take (length part) (drop a list) ≡ part
+  first_is = ap (take (length part)) both ∙ take_at part (more ++ w.past) (length part) refl
 
-  pub first-lies : LiesAt part list a
-  first-lies = record { past = more ++ w.past; is = both; inside = w.inside }
+  pub first_lies : LiesAt part list a
+  first_lies = record { past = more ++ w.past; is = both; inside = w.inside }
 
   -- the other lies behind it
-  pub other-lies : LiesAt more list (a + length part)
-  other-lies = record {
+  pub other_lies : LiesAt more list (a + length part)
+  other_lies = record {
     past = w.past;
     is = sym (drop-drop (length part) a list) ∙ ap (drop (length part)) both ∙ drop_at part (more ++ w.past) (length part) refl;
     inside = first_ends;
@@ -43,24 +43,24 @@ module _ (part more : List ℤ) {list : List ℤ} {a : ℕ} (w : LiesAt (part ++
 -- ---- the first of the entries
 
 -- what is printed by an entry's numbers and signed lines is the link's line
-entry-line : (kind : Kind) (x : Link) → entryLine kind (entry x) (map listed x.way) ≡ line_for kind x
-unfolding entryLine entry linkLine spurLine selfClosingLine
-entry-line kind.TheVariants.Link x = refl
-entry-line kind.TheVariants.Spur x = refl
-entry-line kind.TheVariants.Loop x = refl
+entry_line_lem : (kind : Kind) (x : Link) → entry_line kind (entry x) (map listed x.way) ≡ line_for kind x
+unfolding entry_line entry link_line spur_line self_closing_line
+entry_line_lem kind.TheVariants.Link x = refl
+entry_line_lem kind.TheVariants.Spur x = refl
+entry_line_lem kind.TheVariants.Loop x = refl
 
 -- how many lines entry i has
-abbrev pub countAt : List ℤ → ℕ → ℤ
-countAt numbers i = get_or numbers (i * entryWords + 2) (pos 0)
+abbrev pub count_at : List ℤ → ℕ → ℤ
+count_at numbers i = get_or numbers (i * entry_words + 2) (pos 0)
 
 -- of the links xs, which the entries from i on are of, there is a first: its entry, its signed lines, and the others
 pub record FirstEntry (xs : List Link) (numbers run : List ℤ) (count i a : ℕ) : Type 0 where
   pub link : Link
   pub rest : List Link
   pub are : xs ≡ link ∷ rest
-  pub whole : i * entryWords + entryWords ≤ length numbers
-  numbers-are : take entryWords (drop (i * entryWords) numbers) ≡ entry link
-  pub count-is : countAt numbers i ≡ pos (length link.way)
+  pub whole : i * entry_words + entry_words ≤ length numbers
+  numbers_are : take entry_words (drop (i * entry_words) numbers) ≡ entry link
+  pub count_is : count_at numbers i ≡ pos (length link.way)
   pub ends : a + length link.way ≤ length run
   pub lines_are : take (length link.way) (drop a run) ≡ map listed link.way
   pub others : Entered rest numbers run count (i + 1) (a + length link.way)
@@ -71,23 +71,23 @@ unfolding entries entry listings
 first_entry {xs = []} w lt = absurd (omega (arith, w.counted))
 first_entry {xs = x ∷ xs} {numbers = numbers} {run = run} {i = i} {a = a} w lt =
     let n : length (map listed x.way) ≡ length x.way = length-map x.way listed in
-    let j : i * entryWords + entryWords ≡ (i + 1) * entryWords = omega arith in
-    let e : take entryWords (drop (i * entryWords) numbers) ≡ entry x = first-is (entry x) (entries xs) w.numbers-lie in
+    let j : i * entry_words + entry_words ≡ (i + 1) * entry_words = omega arith in
+    let e : take entry_words (drop (i * entry_words) numbers) ≡ entry x = first_is (entry x) (entries xs) w.numbers_lie in
     record {
       link = x;
       rest = xs;
       are = refl;
-      whole = first_ends (entry x) (entries xs) w.numbers-lie;
-      numbers-are = e;
-      count-is = sym (get_or-drop (i * entryWords) numbers 2 (pos 0))
-          ∙ sym (get_or-take entryWords (drop (i * entryWords) numbers) 2 (pos 0) (omega arith)) ∙ ap (λ (l : List ℤ). get_or l 2 (pos 0)) e;
-      ends = rw n at (first_ends (map listed x.way) (run_by xs) w.lines-lie);
-      lines_are = rw n at (first-is (map listed x.way) (run_by xs) w.lines-lie);
+      whole = first_ends (entry x) (entries xs) w.numbers_lie;
+      numbers_are = e;
+      count_is = sym (get_or-drop (i * entry_words) numbers 2 (pos 0))
+          ∙ sym (get_or-take entry_words (drop (i * entry_words) numbers) 2 (pos 0) (omega arith)) ∙ ap (λ (l : List ℤ). get_or l 2 (pos 0)) e;
+      ends = rw n at (first_ends (map listed x.way) (run_by xs) w.lines_lie);
+      lines_are = rw n at (first_is (map listed x.way) (run_by xs) w.lines_lie);
       others = record {
         counted = omega (arith, w.counted);
-        numbers-lie = subst (λ (k : ℕ). LiesAt (entries xs) numbers k) j (other-lies (entry x) (entries xs) w.numbers-lie);
-        lines-lie = subst (λ (k : ℕ). LiesAt (run_by xs) run (a + k)) n
-            (other-lies (map listed x.way) (run_by xs) w.lines-lie);
+        numbers_lie = subst (λ (k : ℕ). LiesAt (entries xs) numbers k) j (other_lies (entry x) (entries xs) w.numbers_lie);
+        lines_lie = subst (λ (k : ℕ). LiesAt (run_by xs) run (a + k)) n
+            (other_lies (map listed x.way) (run_by xs) w.lines_lie);
       };
     }
 
@@ -100,39 +100,39 @@ pub record Left (kind : Kind) (xs : List Link) (numbers run : List ℤ) (count :
   pub entered : Entered links numbers run count i begin
   pub done : List ℕ
   pub put : Put out₀ out at after done
-  pub whole : linesBy (line_for kind) xs ≡ done ++ linesBy (line_for kind) links
-  run-left : begin + length (run_by links) ≡ a + length (run_by xs)
+  pub whole : lines_by (line_for kind) xs ≡ done ++ lines_by (line_for kind) links
+  run_left : begin + length (run_by links) ≡ a + length (run_by xs)
 
 module _ {kind : Kind} {xs : List Link} {numbers run : List ℤ} {count : ℕ} {out₀ : List ℕ} {at a : ℕ} where
-  pub left-start : Entered xs numbers run count 0 a → Left kind xs numbers run count out₀ at a out₀ at a 0
-  left-start w = record { links = xs; entered = w; done = []; put = nothing_put out₀ at; whole = refl; run-left = refl }
+  pub left_start : Entered xs numbers run count 0 a → Left kind xs numbers run count out₀ at a out₀ at a 0
+  left_start w = record { links = xs; entered = w; done = []; put = nothing_put out₀ at; whole = refl; run_left = refl }
 
   module _ {out : List ℕ} {after begin i : ℕ} (w : Left kind xs numbers run count out₀ at a out after begin i) where
-    pub left-next : {out' : List ℕ} {after' : ℕ} (n : ℕ) → i < count → n ≡ nat_abs (countAt numbers i)
-        → Put out out' after after' (entryLine kind (take (i * entryWords + entryWords - i * entryWords) (drop (i * entryWords) numbers))
+    pub left_next : {out' : List ℕ} {after' : ℕ} (n : ℕ) → i < count → n ≡ nat_abs (count_at numbers i)
+        → Put out out' after after' (entry_line kind (take (i * entry_words + entry_words - i * entry_words) (drop (i * entry_words) numbers))
         (take (begin + n - begin) (drop begin run)))
         → Left kind xs numbers run count out₀ at a out' after' (begin + n) (i + 1)
-    unfolding linesBy listings
-    left-next {out' = out'} {after' = after'} n lt e p =
+    unfolding lines_by listings
+    left_next {out' = out'} {after' = after'} n lt e p =
         let f = first_entry w.entered lt in
         let x = f.link in
-        let m : length x.way ≡ n = sym (e ∙ ap nat_abs f.count-is) in
-        let five : i * entryWords + entryWords - i * entryWords ≡ entryWords = omega arith in
+        let m : length x.way ≡ n = sym (e ∙ ap nat_abs f.count_is) in
+        let five : i * entry_words + entry_words - i * entry_words ≡ entry_words = omega arith in
         let its : begin + n - begin ≡ length x.way = omega arith in
         let line =
-        ap₂ (entryLine kind) (ap (λ (k : ℕ). take k (drop (i * entryWords) numbers)) five ∙ f.numbers-are)
+        ap₂ (entry_line kind) (ap (λ (k : ℕ). take k (drop (i * entry_words) numbers)) five ∙ f.numbers_are)
         (ap (λ (k : ℕ). take k (drop begin run)) its ∙ f.lines_are)
-        ∙ entry-line kind x in
+        ∙ entry_line_lem kind x in
         record {
           links = f.rest;
           entered = subst (λ (k : ℕ). Entered f.rest numbers run count (i + 1) (begin + k)) m f.others;
           done = w.done ++ line_for kind x;
           put = w.put then subst (λ (t : List ℕ). Put out out' after after' t) line p;
-          whole = w.whole ∙ ap (λ (l : List Link). w.done ++ linesBy (line_for kind) l) f.are
-              ∙ sym (append_assoc w.done (line_for kind x) (linesBy (line_for kind) f.rest));
-          run-left = omega (
+          whole = w.whole ∙ ap (λ (l : List Link). w.done ++ lines_by (line_for kind) l) f.are
+              ∙ sym (append_assoc w.done (line_for kind x) (lines_by (line_for kind) f.rest));
+          run_left = omega (
             arith,
-            w.run-left,
+            w.run_left,
             simp length-append at (ap (λ (l : List Link). length (run_by l)) f.are),
             length-map x.way listed,
             m,
@@ -140,15 +140,15 @@ module _ {kind : Kind} {xs : List Link} {numbers run : List ℤ} {count : ℕ} {
         }
 
     -- none is left
-    pub left-none : count ≤ i → (Put out₀ out at after (linesBy (line_for kind) xs)) × (begin ≡ a + length (run_by xs))
-    unfolding linesBy listings
-    left-none h = go w.links refl
+    pub left_none : count ≤ i → (Put out₀ out at after (lines_by (line_for kind) xs)) × (begin ≡ a + length (run_by xs))
+    unfolding lines_by listings
+    left_none h = go w.links refl
       where
-        go : (ys : List Link) → w.links ≡ ys → (Put out₀ out at after (linesBy (line_for kind) xs)) × (begin ≡ a + length (run_by xs))
+        go : (ys : List Link) → w.links ≡ ys → (Put out₀ out at after (lines_by (line_for kind) xs)) × (begin ≡ a + length (run_by xs))
         go [] e = (
           subst (λ (t : List ℕ). Put out₀ out at after t)
-              (sym (w.whole ∙ ap (λ (l : List Link). w.done ++ linesBy (line_for kind) l) e ∙ append-nil w.done))
+              (sym (w.whole ∙ ap (λ (l : List Link). w.done ++ lines_by (line_for kind) l) e ∙ append-nil w.done))
               w.put,
-          omega (arith, w.run-left, ap (λ (l : List Link). length (run_by l)) e),
+          omega (arith, w.run_left, ap (λ (l : List Link). length (run_by l)) e),
         )
         go (y ∷ ys) e = absurd (omega (arith, w.entered.counted, ap length e))

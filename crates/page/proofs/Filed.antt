@@ -9,103 +9,103 @@ use lib.IntN.{ℤ}
 use lib.ListN.{length, take, drop}
 use lib.Seq.{take_at}
 use borrow.Author.Tests.{ne_eqb, le-ltb}
-use Rattle.book.specs.Line.{lineWords}
-use Rattle.book.specs.Held.{heldWords}
-use Rattle.book.specs.Limits.{mostLines, mostHeld}
-use Rattle.book.specs.Test.{test_of, ifGood}
+use Rattle.book.specs.Line.{line_words}
+use Rattle.book.specs.Held.{held_words}
+use Rattle.book.specs.Limits.{most_lines, most_held}
+use Rattle.book.specs.Test.{test_of, if_good}
 use Rattle.book.specs.declared.Book.{Book}
 use Rattle.book.specs.declared.Tested.{Tested}
 use Rattle.book.specs.declared.Tested.TheVariants.{Good, Refused}
-use Rattle.book.proofs.Goods.{tested-numbered, good-lines}
-use Rattle.file.specs.Read.{Outcome, answered, refusedWith, head_of, lines_of, bookIn, roomOf, body_of, after_head, read_of}
+use Rattle.book.proofs.Goods.{tested_numbered, good_lines}
+use Rattle.file.specs.Read.{Outcome, answered, refused_with, head_of, lines_of, book_in, room_of, body_of, after_head, read_of}
 use Rattle.file.specs.Owed.{BookRead}
 use Rattle.file.specs.declared.Head as head
 use Rattle.file.specs.declared.Head.{Head}
 use Rattle.file.specs.declared.ReadAnswer.{ReadAnswer}
-use Rattle.file.proofs.Entries.{lines-length}
-use Rattle.file.proofs.Heads.{head-states, head-numbered}
-use Rattle.file.proofs.Reading.{zero-is-read}
+use Rattle.file.proofs.Entries.{lines_length}
+use Rattle.file.proofs.Heads.{head_states, head_numbered}
+use Rattle.file.proofs.Reading.{zero_is_read}
 use Rattle.book.specs.Good.{GoodLines}
-use Rattle.text.specs.Report.{refusedText}
-use Rattle.page.specs.Filed.{BookText, statedText, fileText, bookLines, Filed}
+use Rattle.text.specs.Report.{refused_text}
+use Rattle.page.specs.Filed.{BookText, stated_text, file_text, book_lines, Filed}
 
 -- the book that was read
-abbrev pub bookRead : ReadAnswer → Book
-bookRead a = record { version = a.version; marks = a.b; tolerance = a.t; held = a.h; lines = a.n }
+abbrev pub book_read : ReadAnswer → Book
+book_read a = record { version = a.version; marks = a.b; tolerance = a.t; held = a.h; lines = a.n }
 
 -- of what was read: the book's text, or the refusal's line
-unfoldable readText : BookText → Outcome → List ℕ
-readText text o =
+unfoldable read_text : BookText → Outcome → List ℕ
+read_text text o =
     let a = o.answer in
-    cond (eqb a.refusal.number 0) (text (bookRead a) (bookLines (bookRead a) o.lines))
-    (refusedText a.refusal.number a.refusal.place)
+    cond (eqb a.refusal.number 0) (text (book_read a) (book_lines (book_read a) o.lines))
+    (refused_text a.refusal.number a.refusal.place)
 
-module _ (file : List ℕ) (held lines : List ℤ) (held-room : mostHeld * heldWords ≤ length held)
-    (lines-room : mostLines * lineWords ≤ length lines) where
-  room-text : (text : BookText) (k : Book) → k.held ≤ mostHeld → k.lines ≤ mostLines
-      → readText text (roomOf file k held lines) ≡ text k (lines_of file k)
-  unfolding readText roomOf
-  room-text text k h n = rw (
+module _ (file : List ℕ) (held lines : List ℤ) (held_room : most_held * held_words ≤ length held)
+    (lines_room : most_lines * line_words ≤ length lines) where
+  room_text : (text : BookText) (k : Book) → k.held ≤ most_held → k.lines ≤ most_lines
+      → read_text text (room_of file k held lines) ≡ text k (lines_of file k)
+  unfolding read_text room_of
+  room_text text k h n = rw (
     le-ltb (length held) (k.held * 2) (omega arith),
-    le-ltb (length lines) (k.lines * lineWords) (omega arith),
-    take_at (lines_of file k) (drop (k.lines * lineWords) lines) (k.lines * lineWords) (lines-length file k),
+    le-ltb (length lines) (k.lines * line_words) (omega arith),
+    take_at (lines_of file k) (drop (k.lines * line_words) lines) (k.lines * line_words) (lines_length file k),
   )
 
-  body-text : (text : BookText) (k : Book) → k.held ≤ mostHeld → k.lines ≤ mostLines
-      → readText text (body_of file k held lines) ≡ statedText text file (head.TheVariants.States k)
-  unfolding readText body_of statedText
-  body-text text k h n = go (test_of (bookIn file k)) refl
+  body_text : (text : BookText) (k : Book) → k.held ≤ most_held → k.lines ≤ most_lines
+      → read_text text (body_of file k held lines) ≡ stated_text text file (head.TheVariants.States k)
+  unfolding read_text body_of stated_text
+  body_text text k h n = go (test_of (book_in file k)) refl
     where
-      go : (o : Tested) → test_of (bookIn file k) ≡ o
-          → readText text (ifGood o (λ r. answered held lines (refusedWith r)) (λ _. roomOf file k held lines))
-          ≡ ifGood o (λ r. refusedText r.number r.place)
+      go : (o : Tested) → test_of (book_in file k) ≡ o
+          → read_text text (if_good o (λ r. answered held lines (refused_with r)) (λ _. room_of file k held lines))
+          ≡ if_good o (λ r. refused_text r.number r.place)
           (λ _. text k (lines_of file k))
       go (Refused r) e =
-          let w = tested-numbered (bookIn file k) r e in
+          let w = tested_numbered (book_in file k) r e in
           rw (ne_eqb r.number 0 (λ z. omega (arith, w.low)))
-      go (Good book) e = room-text text k h n
+      go (Good book) e = room_text text k h n
 
-  text-read : (text : BookText) → readText text (read_of file held lines) ≡ fileText text file
-  unfolding readText fileText statedText read_of after_head
-  text-read text = go (head_of file) refl
+  text_read : (text : BookText) → read_text text (read_of file held lines) ≡ file_text text file
+  unfolding read_text file_text stated_text read_of after_head
+  text_read text = go (head_of file) refl
     where
-      go : (o : Head) → head_of file ≡ o → readText text (after_head file held lines o) ≡ statedText text file o
+      go : (o : Head) → head_of file ≡ o → read_text text (after_head file held lines o) ≡ stated_text text file o
       go (head.TheVariants.Refused number) e =
-          let w = head-numbered file number e in
+          let w = head_numbered file number e in
           rw (ne_eqb number 0 (λ z. omega (arith, w.0)))
-      go (head.TheVariants.States k) e = let s = head-states file k e in body-text text k s.few-held s.few-lines
+      go (head.TheVariants.States k) e = let s = head_states file k e in body_text text k s.few_held s.few_lines
 
   -- what a call gave
   module _ (o : Outcome) (e : o ≡ read_of file held lines) where
-    is-text : (text : BookText) → readText text o ≡ fileText text file
-    is-text text = ap (readText text) e ∙ text-read text
+    is_text : (text : BookText) → read_text text o ≡ file_text text file
+    is_text text = ap (read_text text) e ∙ text_read text
 
     -- a refusal
-    pub refused-filed : (o.answer.refusal.number ≡ 0 → ⊥) → Filed file o.lines (Refused o.answer.refusal)
-    unfolding readText
-    refused-filed n text = rw (ne_eqb o.answer.refusal.number 0 n) at (is-text text)
+    pub refused_filed : (o.answer.refusal.number ≡ 0 → ⊥) → Filed file o.lines (Refused o.answer.refusal)
+    unfolding read_text
+    refused_filed n text = rw (ne_eqb o.answer.refusal.number 0 n) at (is_text text)
 
     -- a book
     module _ (zero : o.answer.refusal.number ≡ 0) where
       r : BookRead file held lines o
       r =
           subst (λ (x : Outcome). BookRead file held lines x) (sym e)
-          (zero-is-read file held lines (sym (ap (λ (x : Outcome). x.answer.refusal.number) e) ∙ zero))
+          (zero_is_read file held lines (sym (ap (λ (x : Outcome). x.answer.refusal.number) e) ∙ zero))
 
-      lines_are : bookLines r.book o.lines ≡ lines_of file r.book
+      lines_are : book_lines r.book o.lines ≡ lines_of file r.book
       lines_are =
-          ap (take (r.book.lines * lineWords)) r.lines_now
-          ∙ take_at (lines_of file r.book) (drop (r.book.lines * lineWords) lines) (r.book.lines * lineWords)
-          (lines-length file r.book)
+          ap (take (r.book.lines * line_words)) r.lines_now
+          ∙ take_at (lines_of file r.book) (drop (r.book.lines * line_words) lines) (r.book.lines * line_words)
+          (lines_length file r.book)
 
-      good-read : GoodLines (bookRead o.answer) (bookLines (bookRead o.answer) o.lines)
-      good-read =
-          subst (λ (x : ReadAnswer). GoodLines (bookRead x) (bookLines (bookRead x) o.lines)) (sym r.answer)
-          (subst (λ (l : List ℤ). GoodLines r.book l) (sym lines_are) (good-lines r.book (bookIn file r.book) r.good))
+      good_read : GoodLines (book_read o.answer) (book_lines (book_read o.answer) o.lines)
+      good_read =
+          subst (λ (x : ReadAnswer). GoodLines (book_read x) (book_lines (book_read x) o.lines)) (sym r.answer)
+          (subst (λ (l : List ℤ). GoodLines r.book l) (sym lines_are) (good_lines r.book (book_in file r.book) r.good))
 
-      read-text : (text : BookText) → text (bookRead o.answer) (bookLines (bookRead o.answer) o.lines) ≡ fileText text file
-      unfolding readText
-      read-text text = rw zero at (is-text text)
+      read_text_lem : (text : BookText) → text (book_read o.answer) (book_lines (book_read o.answer) o.lines) ≡ file_text text file
+      unfolding read_text
+      read_text_lem text = rw zero at (is_text text)
 
-      pub book-filed : Filed file o.lines (Good (bookRead o.answer))
-      book-filed = record { good = good-read; its-text = read-text }
+      pub book_filed : Filed file o.lines (Good (book_read o.answer))
+      book_filed = record { good = good_read; its_text = read_text_lem }

@@ -10,90 +10,90 @@ use lib.Seq.{take-suc, take_all, take_at, length-take-le}
 use Rattle.book.specs.Good.{GoodLines}
 use Rattle.book.specs.declared.Book.{Book}
 use Rattle.network.specs.Codes.{codes}
-use Rattle.loops.specs.Loops.{Loop, loopAt}
+use Rattle.loops.specs.Loops.{Loop, loop_at}
 use Rattle.loops.specs.Row.{row}
 use Rattle.loops.specs.Report.{loops_of}
 use Rattle.loops.specs.Table.{Table}
-use Rattle.loops.proofs.Places.{loop-at-is, loop-is}
+use Rattle.loops.proofs.Places.{loop_at_is, loop_is}
 use Rattle.loops.proofs.Table.{run_is}
 use Rattle.rows.specs.Sums.{row_of, Measured, RunIn}
-use Rattle.rows.proofs.Passes.{loop-row}
-use Rattle.lists.specs.Run.{listedBy, Coded}
-use Rattle.lists.proofs.Runs.{codes-listed}
-use Rattle.text.specs.Report.{loopText}
+use Rattle.rows.proofs.Passes.{loop_row}
+use Rattle.lists.specs.Run.{listed_by, Coded}
+use Rattle.lists.proofs.Runs.{codes_listed}
+use Rattle.text.specs.Report.{loop_text}
 use Rattle.text.specs.Put.{Put}
 use Rattle.text.proofs.Puts.{nothing_put, ◌then◌}
-use Rattle.page.specs.Page.{loopLine, loopLines}
-use Rattle.page.specs.Run.{runLine}
+use Rattle.page.specs.Page.{loop_line, loop_lines}
+use Rattle.page.specs.Run.{run_line}
 
 -- the line of a loop's run is the line of the loop
-line-is : (k : Book) (ls : List ℤ) → GoodLines k ls → (t number : ℕ) (i : ℕ) → i < length (loops_of k.marks ls)
-    → runLine t number ls (codes (loopAt (loops_of k.marks ls) i)) ≡ loopLine t number (loopAt (loops_of k.marks ls) i)
-unfolding runLine loopLine row
-line-is k ls g t number i lt =
-    let lp = loopAt (loops_of k.marks ls) i in
-    ap₂ (λ (r : List ℤ) (l : List ℤ). loopText number (get_or r 2 (pos 0)) (get_or r 3 (pos 0)) (get_or r 4 (pos 0)) l)
-    (loop-row k ls g lp (loop-at-is (loops_of k.marks ls) i lt) t) (codes-listed lp)
+line_is : (k : Book) (ls : List ℤ) → GoodLines k ls → (t number : ℕ) (i : ℕ) → i < length (loops_of k.marks ls)
+    → run_line t number ls (codes (loop_at (loops_of k.marks ls) i)) ≡ loop_line t number (loop_at (loops_of k.marks ls) i)
+unfolding run_line loop_line row
+line_is k ls g t number i lt =
+    let lp = loop_at (loops_of k.marks ls) i in
+    ap₂ (λ (r : List ℤ) (l : List ℤ). loop_text number (get_or r 2 (pos 0)) (get_or r 3 (pos 0)) (get_or r 4 (pos 0)) l)
+    (loop_row k ls g lp (loop_at_is (loops_of k.marks ls) i lt) t) (codes_listed lp)
 
 -- every code of a run in a book is small
-pub run-coded : {ls : List ℤ} {run : List ℕ} → Measured ls → RunIn ls run → Coded run
-run-coded m r i h = omega (arith, m.few-lines, (r.each i h).high)
+pub run_coded : {ls : List ℤ} {run : List ℕ} → Measured ls → RunIn ls run → Coded run
+run_coded m r i h = omega (arith, m.few_lines, (r.each i h).high)
 
 -- a run's lines, listed in front
-pub list-front : (run : List ℕ) (list list' : List ℤ) → list' ≡ map listedBy run ++ drop (length run) list
-    → take (length run) list' ≡ map listedBy run
-list-front run list list' e =
-    ap (take (length run)) e ∙ take_at (map listedBy run) (drop (length run) list) (length run) (length-map run listedBy)
+pub list_front : (run : List ℕ) (list list' : List ℤ) → list' ≡ map listed_by run ++ drop (length run) list
+    → take (length run) list' ≡ map listed_by run
+list_front run list list' e =
+    ap (take (length run)) e ∙ take_at (map listed_by run) (drop (length run) list) (length run) (length-map run listed_by)
 
 -- the line of a run, from its row and its list
-pub line-put : (t number : ℕ) (ls : List ℤ) (run : List ℕ) {at after : ℕ} {vs list : List ℤ} {out out' : List ℕ} → vs ≡ row_of t ls run
-    → list ≡ map listedBy run
-    → Put out out' at after (loopText number (get_or vs 2 (pos 0)) (get_or vs 3 (pos 0)) (get_or vs 4 (pos 0)) list)
-    → Put out out' at after (runLine t number ls run)
-unfolding runLine
-line-put t number ls run {at = at} {after = after} {out = out} {out' = out'} v l p =
+pub line_put : (t number : ℕ) (ls : List ℤ) (run : List ℕ) {at after : ℕ} {vs list : List ℤ} {out out' : List ℕ} → vs ≡ row_of t ls run
+    → list ≡ map listed_by run
+    → Put out out' at after (loop_text number (get_or vs 2 (pos 0)) (get_or vs 3 (pos 0)) (get_or vs 4 (pos 0)) list)
+    → Put out out' at after (run_line t number ls run)
+unfolding run_line
+line_put t number ls run {at = at} {after = after} {out = out} {out' = out'} v l p =
     subst (λ (text : List ℕ). Put out out' at after text)
-    (ap₂ (λ (r : List ℤ) (l : List ℤ). loopText number (get_or r 2 (pos 0)) (get_or r 3 (pos 0)) (get_or r 4 (pos 0)) l) v l) p
+    (ap₂ (λ (r : List ℤ) (l : List ℤ). loop_text number (get_or r 2 (pos 0)) (get_or r 3 (pos 0)) (get_or r 4 (pos 0)) l) v l) p
 
 lines_more : (t number : ℕ) (done : List Loop) (lp : Loop)
-    → loopLines t number (done ++ (lp ∷ [])) ≡ loopLines t number done ++ loopLine t (number + length done) lp
-unfolding loopLines
-lines_more t number [] lp = append-nil (loopLine t number lp) ∙ ap (λ (k : ℕ). loopLine t k lp) (omega arith)
+    → loop_lines t number (done ++ (lp ∷ [])) ≡ loop_lines t number done ++ loop_line t (number + length done) lp
+unfolding loop_lines
+lines_more t number [] lp = append-nil (loop_line t number lp) ∙ ap (λ (k : ℕ). loop_line t k lp) (omega arith)
 lines_more t number (l ∷ done) lp =
     let e : suc number + length done ≡ number + suc (length done) = omega arith in
-    ap (λ (r : List ℕ). loopLine t number l ++ r) (lines_more t (suc number) done lp
-    ∙ ap (λ (k : ℕ). loopLines t (suc number) done ++ loopLine t k lp) e)
-    ∙ sym (append_assoc (loopLine t number l) (loopLines t (suc number) done) (loopLine t (number + suc (length done)) lp))
+    ap (λ (r : List ℕ). loop_line t number l ++ r) (lines_more t (suc number) done lp
+    ∙ ap (λ (k : ℕ). loop_lines t (suc number) done ++ loop_line t k lp) e)
+    ∙ sym (append_assoc (loop_line t number l) (loop_lines t (suc number) done) (loop_line t (number + suc (length done)) lp))
 
 -- the lines of the first i loops are put, of whatever book the table is
 pub record AllPut (lines : List ℤ) (starts runs : List ℕ) (count t : ℕ) (out₀ : List ℕ) (at : ℕ) (out : List ℕ) (after i : ℕ) : Type 0 where
   pub of : (k : Book) → GoodLines k lines → Table (loops_of k.marks lines) starts runs count
-      → Put out₀ out at after (loopLines t 1 (take i (loops_of k.marks lines)))
+      → Put out₀ out at after (loop_lines t 1 (take i (loops_of k.marks lines)))
 
 module _ {lines : List ℤ} {starts runs : List ℕ} {count t : ℕ} {out₀ : List ℕ} {at : ℕ} where
-  pub all-put-start : AllPut lines starts runs count t out₀ at out₀ at 0
-  unfolding loopLines
-  all-put-start = record { of = λ k good tb. nothing_put out₀ at }
+  pub all_put_start : AllPut lines starts runs count t out₀ at out₀ at 0
+  unfolding loop_lines
+  all_put_start = record { of = λ k good tb. nothing_put out₀ at }
 
-  pub all-put-next : {out out' : List ℕ} {after after' i : ℕ} → i < count → AllPut lines starts runs count t out₀ at out after i
-      → Put out out' after after' (runLine t (i + 1) lines (take (get_or starts (i + 1) 0 - get_or starts i 0) (drop (get_or starts i 0) runs)))
+  pub all_put_next : {out out' : List ℕ} {after after' i : ℕ} → i < count → AllPut lines starts runs count t out₀ at out after i
+      → Put out out' after after' (run_line t (i + 1) lines (take (get_or starts (i + 1) 0 - get_or starts i 0) (drop (get_or starts i 0) runs)))
       → AllPut lines starts runs count t out₀ at out' after' (i + 1)
-  all-put-next {out = out} {out' = out'} {after = after} {after' = after'} {i = i} lt w p = record {
+  all_put_next {out = out} {out' = out'} {after = after} {after' = after'} {i = i} lt w p = record {
     of = λ k good tb.
         let ls = loops_of k.marks lines in
         let left : i < length (loops_of k.marks lines) = omega (arith, tb.counted) in
-        let more : take (i + 1) ls ≡ take i ls ++ (loopAt ls i ∷ []) = rw (add-one i, loop-is ls i left) (take-suc ls i [] left) in
+        let more : take (i + 1) ls ≡ take i ls ++ (loop_at ls i ∷ []) = rw (add-one i, loop_is ls i left) (take-suc ls i [] left) in
         let numbered : i + 1 ≡ 1 + length (take i ls) = omega (arith, length-take-le i ls (omega arith)) in
         let line =
-        ap (runLine t (i + 1) lines) (run_is tb i left) ∙ line-is k lines good t (i + 1) i left
-        ∙ ap (λ (m : ℕ). loopLine t m (loopAt ls i)) numbered in
-        subst (λ (text : List ℕ). Put out₀ out' at after' text) (sym (ap (loopLines t 1) more ∙ lines_more t 1 (take i ls) (loopAt ls i)))
+        ap (run_line t (i + 1) lines) (run_is tb i left) ∙ line_is k lines good t (i + 1) i left
+        ∙ ap (λ (m : ℕ). loop_line t m (loop_at ls i)) numbered in
+        subst (λ (text : List ℕ). Put out₀ out' at after' text) (sym (ap (loop_lines t 1) more ∙ lines_more t 1 (take i ls) (loop_at ls i)))
         (w.of k good tb then subst (λ (text : List ℕ). Put out out' after after' text) line p);
   }
 
-  pub all-put-end : {out : List ℕ} {after i : ℕ} → AllPut lines starts runs count t out₀ at out after i → i ≡ count → (k : Book)
+  pub all_put_end : {out : List ℕ} {after i : ℕ} → AllPut lines starts runs count t out₀ at out after i → i ≡ count → (k : Book)
       → GoodLines k lines
-      → Table (loops_of k.marks lines) starts runs count → Put out₀ out at after (loopLines t 1 (loops_of k.marks lines))
-  all-put-end {out = out} {after = after} {i = i} w e k good tb =
-      subst (λ (l : List Loop). Put out₀ out at after (loopLines t 1 l))
+      → Table (loops_of k.marks lines) starts runs count → Put out₀ out at after (loop_lines t 1 (loops_of k.marks lines))
+  all_put_end {out = out} {after = after} {i = i} w e k good tb =
+      subst (λ (l : List Loop). Put out₀ out at after (loop_lines t 1 l))
       (take_all i (loops_of k.marks lines) (omega (arith, tb.counted))) (w.of k good tb)

@@ -1,13 +1,13 @@
 // The lines of the loops, read off the table of loops.
 ghost use Rattle.std.specs.Prelude.{◌≤◌};
-ghost use Rattle.book.specs.Limits.{mostTolerance};
+ghost use Rattle.book.specs.Limits.{most_tolerance};
 ghost use Rattle.book.specs.Good.{GoodLines};
 ghost use Rattle.loops.specs.Report.{loops_of};
 ghost use Rattle.loops.specs.Table.{Table};
 ghost use Rattle.rows.specs.Sums.{Measured, RunIn};
 ghost use Rattle.text.specs.Put.{Put};
-ghost use Rattle.page.specs.Page.{loopLines};
-ghost use Rattle.page.specs.Run.{runLine};
+ghost use Rattle.page.specs.Page.{loop_lines};
+ghost use Rattle.page.specs.Run.{run_line};
 
 use book::Book;
 
@@ -18,8 +18,8 @@ const RUN: usize = Book::MAX_MARKS as usize;
 fn put_loop(lines: &[i64], run: &[u16], t: usize, number: usize, out: &mut [u8], at: usize) -> usize
     requires fact_1 { Measured lines.now }
     requires fact_2 { RunIn lines.now run.now }
-    requires fact_3 { t ≤ mostTolerance }
-    ensures { Put out.old out.new at result (runLine t number lines.now run.now) }
+    requires fact_3 { t ≤ most_tolerance }
+    ensures { Put out.old out.new at result (run_line t number lines.now run.now) }
 {
     let mut row = [0i64; rows::ROW_WORDS];
     rows::row_of(lines, run, &mut row[..], t);
@@ -50,7 +50,7 @@ pub(crate) fn put_loops(
     requires fact_1 { GoodLines book lines.now }
     requires fact_2 { Table (loops_of book.marks lines.now) starts.now runs.now count }
     ensures { Put out.old out.new at result
-        (loopLines book.tolerance 1 (loops_of book.marks lines.now)) }
+        (loop_lines book.tolerance 1 (loops_of book.marks lines.now)) }
 {
     let t = book.tolerance;
     let mut after = at;

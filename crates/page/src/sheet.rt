@@ -1,9 +1,9 @@
 // The report of a tested book: its loops are found and printed, then the lines that are not checked.
 ghost use Rattle.book.specs.Good.{GoodLines};
-ghost use Rattle.lists.specs.NotChecked.{uncheckedOf};
+ghost use Rattle.lists.specs.NotChecked.{unchecked_of};
 ghost use Rattle.text.specs.Put.{Put};
-ghost use Rattle.text.specs.Report.{notCheckedText};
-ghost use Rattle.page.specs.Page.{loopsPage, bookPage};
+ghost use Rattle.text.specs.Report.{not_checked_text};
+ghost use Rattle.page.specs.Page.{loops_page, book_page};
 
 use crate::loop_lines;
 use book::Book;
@@ -12,7 +12,7 @@ use book::Book;
 fn put_loops_of(book: Book, lines: &[i64], out: &mut [u8]) -> usize
     requires { GoodLines book lines.now }
     ensures { Put out.old out.new 0 result
-        (loopsPage book lines.now) }
+        (loops_page book lines.now) }
 {
     let mut starts = [0u64; table::STARTS];
     let mut runs = [0u16; table::RUNS];
@@ -33,7 +33,7 @@ fn put_loops_of(book: Book, lines: &[i64], out: &mut [u8]) -> usize
 // The lines that are not checked, from place at on.
 fn put_unchecked(book: Book, lines: &[i64], out: &mut [u8], at: usize) -> usize
     requires { GoodLines book lines.now }
-    ensures { Put out.old out.new at result (notCheckedText (uncheckedOf book.marks lines.now)) }
+    ensures { Put out.old out.new at result (not_checked_text (unchecked_of book.marks lines.now)) }
 {
     let mut list = [0i64; Book::MAX_LINES];
     let listed = lists::watch::not_checked_good(book, lines, &mut list[..]);
@@ -45,7 +45,7 @@ fn put_unchecked(book: Book, lines: &[i64], out: &mut [u8], at: usize) -> usize
 pub(crate) fn put_book(book: Book, lines: &[i64], out: &mut [u8]) -> usize
     requires { GoodLines book lines.now }
     ensures { Put out.old out.new 0 result
-        (bookPage book lines.now) }
+        (book_page book lines.now) }
 {
     let at = put_loops_of(book, lines, out);
     put_unchecked(book, lines, out, at)

@@ -1,10 +1,10 @@
 // The junction sketch of a tested book: its head, then the lines of its links, its spurs and its self-closing loops.
 ghost use Rattle.std.specs.Prelude.{◌≡◌, length};
 ghost use Rattle.book.specs.Good.{GoodLines};
-ghost use Rattle.links.specs.Sketch.{entryWords};
+ghost use Rattle.links.specs.Sketch.{entry_words};
 ghost use Rattle.text.specs.Put.{Put};
-ghost use Rattle.page.specs.Sketch.{sketchText};
-ghost use Rattle.page.specs.Entries.{entryLine, SomeEntered, EntriesPut};
+ghost use Rattle.page.specs.Sketch.{sketch_text};
+ghost use Rattle.page.specs.Entries.{entry_line, SomeEntered, EntriesPut};
 
 use book::Book;
 
@@ -26,7 +26,7 @@ pub struct Place {
 // The whole sketch.
 pub(crate) fn put_sketch(book: Book, lines: &[i64], out: &mut [u8]) -> usize
     requires { GoodLines book lines.now }
-    ensures { Put out.old out.new 0 result (sketchText book lines.now) }
+    ensures { Put out.old out.new 0 result (sketch_text book lines.now) }
 {
     let mut links = [0i64; junctions::ENTRIES_WORDS];
     let mut spurs = [0i64; junctions::ENTRIES_WORDS];
@@ -84,8 +84,8 @@ fn put_entries(
 
 // The line of one entry.
 fn put_entry(kind: Kind, entry: &[i64], list: &[i64], out: &mut [u8], at: usize) -> usize
-    requires { length entry.now ≡ entryWords }
-    ensures { Put out.old out.new at result (entryLine kind entry.now list.now) }
+    requires { length entry.now ≡ entry_words }
+    ensures { Put out.old out.new at result (entry_line kind entry.now list.now) }
 {
     let first = entry[junctions::ENTRY_FIRST];
     let last = entry[junctions::ENTRY_LAST];

@@ -9,11 +9,11 @@ use lib.IntN.{ℤ, pos, negsuc, nat_abs}
 use lib.Ieee.{binary64, in_float, in_signed, to_signed, of_int}
 use lib.Ieee.Back.{positive_back, negative_back}
 use borrow.Author.Tests.{le-ltb}
-use Rattle.laws.specs.Tests.{outZ}
+use Rattle.laws.specs.Tests.{out_z}
 use Rattle.laws.proofs.Floats.{exact}
 
-inside : (z : ℤ) → nat_abs z < 2 ^ 53 → outZ (negsuc 9007199254740991) (pos 9007199254740992) z ≡ false
-unfolding outZ
+inside : (z : ℤ) → nat_abs z < 2 ^ 53 → out_z (negsuc 9007199254740991) (pos 9007199254740992) z ≡ false
+unfolding out_z
 inside (pos n) h = le-ltb 9007199254740992 n (omega arith)
 inside (negsuc n) h = rw (le-ltb 9007199254740991 n (omega arith))
 

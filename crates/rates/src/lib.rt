@@ -1,10 +1,10 @@
 // Correction rates: document 01, "Adjustment".
 ghost use Rattle.std.specs.Prelude.{◌≡◌, nat_abs, ◌-◌, ◌*◌, ◌≤◌, ◌<◌, ◌^◌, length};
-ghost use Rattle.book.specs.Line.{lineWords};
+ghost use Rattle.book.specs.Line.{line_words};
 ghost use Rattle.book.specs.Test.{refusal};
 ghost use Rattle.book.specs.Good.{GoodLine, Lines};
 ghost use Rattle.fields.specs.Heights.{Working};
-ghost use Rattle.rates.specs.Rates.{quotient, row_of, refusedWith, firstHigh, OfBook, correctionOf, lineRate, goodRate};
+ghost use Rattle.rates.specs.Rates.{quotient, row_of, refused_with, first_high, OfBook, correction_of, line_rate, good_rate};
 
 use book::height::{Height, MadeHeight};
 use book::line::{Line, MadeLine, line_of};
@@ -62,13 +62,13 @@ pub fn row_of(line: usize, correction: i64, rate: Rate) -> RateRow
 }
 
 pub fn refuse(number: usize, place: usize) -> RateAnswer
-    ensures { result ≡ refusedWith (refusal number place) }
+    ensures { result ≡ refused_with (refusal number place) }
 {
     refused(Refusal::new(number, place))
 }
 
 pub fn refused(refusal: Refusal) -> RateAnswer
-    ensures { result ≡ refusedWith refusal }
+    ensures { result ≡ refused_with refusal }
 {
     RateAnswer {
         refusal,
@@ -80,7 +80,7 @@ pub fn refused(refusal: Refusal) -> RateAnswer
 
 // The lowest mark whose lent height is outside its limit, or 0.
 fn first_high(heights: &[i64]) -> usize
-    ensures { result ≡ firstHigh heights.now }
+    ensures { result ≡ first_high heights.now }
 {
     let n = heights.len();
     let mut i = 0;
@@ -98,7 +98,7 @@ fn first_high(heights: &[i64]) -> usize
 fn correction_of(line: Line, heights: &[i64], b: usize) -> i64
     requires fact_1 { OfBook b line }
     requires fact_2 { Working heights.now b }
-    ensures { (result ≡ correctionOf heights.now line) × (nat_abs result < 2 ^ 53) }
+    ensures { (result ≡ correction_of heights.now line) × (nat_abs result < 2 ^ 53) }
 {
     let to = signed::index(line.to);
     let from = signed::index(line.from);
@@ -108,10 +108,10 @@ fn correction_of(line: Line, heights: &[i64], b: usize) -> i64
 
 // The answer of a line that there is.
 fn line_rate(lines: &[i64], heights: &[i64], b: usize, line: usize) -> RateAnswer
-    requires fact_1 { (0 < line) × (line * lineWords ≤ length lines.now) }
+    requires fact_1 { (0 < line) × (line * line_words ≤ length lines.now) }
     requires fact_2 { GoodLine b lines.now (line - 1) }
     requires fact_3 { Working heights.now b }
-    ensures { result ≡ lineRate heights.now lines.now line (line - 1) }
+    ensures { result ≡ line_rate heights.now lines.now line (line - 1) }
 {
     let at = (line - 1) * Line::WORDS;
     let made = line_of(&lines[at..at + Line::WORDS], signed::signed_count(b));
@@ -142,7 +142,7 @@ fn line_rate(lines: &[i64], heights: &[i64], b: usize, line: usize) -> RateAnswe
 pub fn good_rate(lines: &[i64], heights: &[i64], book: Book, line: i64) -> RateAnswer
     requires fact_1 { Lines lines.now book.marks book.lines }
     requires fact_2 { length heights.now ≡ book.marks }
-    ensures { result ≡ goodRate heights.now lines.now book line }
+    ensures { result ≡ good_rate heights.now lines.now book line }
 {
     if signed::outside(line, 1, signed::signed_count(book.lines)) {
         return refuse(8, 0);

@@ -11,14 +11,14 @@ use lib.ListN.{length, get_or, drop, set, drop_of_length-le}
 use lib.Seq.{drop-cons}
 use borrow.Author.Tests.{eq-eqb, ne_eqb, le-leb, lt-leb}
 use Rattle.laws.proofs.Tests.{cond_ind}
-use Rattle.laws.proofs.Size.{size-neg}
+use Rattle.laws.proofs.Size.{size_neg}
 use Rattle.laws.proofs.Lists.{filled}
-use Rattle.book.specs.Limits.{mostLines, mostDifference, mostLength, mostTolerance}
-use Rattle.book.specs.Line.{lineCount, differenceAt, class_at}
-use Rattle.book.proofs.Versions.{tolerance-at-most}
-use Rattle.loops.specs.Row.{judgedAs, rowWords, rowClosing, rowCount, rowLength, rowMisclosure, rowVerdict}
-use Rattle.rows.specs.Sums.{line_of, lengthBy, toleranceBy, allowsBy, riseBy, sum_of, length_of, allowsOf, riseOf, verdictOf, row_of}
-use Rattle.rows.specs.Sums.{mostAllowed, squareLimit, Measured, Runs, LinesIn, RunIn}
+use Rattle.book.specs.Limits.{most_lines, most_difference, most_length, most_tolerance}
+use Rattle.book.specs.Line.{line_count, difference_at, class_at}
+use Rattle.book.proofs.Versions.{tolerance_at_most}
+use Rattle.loops.specs.Row.{judged_as, row_words, row_closing, row_count, row_length, row_misclosure, row_verdict}
+use Rattle.rows.specs.Sums.{line_of, length_by, tolerance_by, allows_by, rise_by, sum_of, length_of, allows_of, rise_of, verdict_of, row_of}
+use Rattle.rows.specs.Sums.{most_allowed, square_limit, Measured, Runs, LinesIn, RunIn}
 
 -- the run from place j on begins with what stands at j
 rest_of : (run : List ℕ) (j : ℕ) → j < length run → drop j run ≡ get_or run j 0 ∷ drop (j + 1) run
@@ -33,105 +33,105 @@ pub record Summed (by : ℕ → ℕ) (most : ℕ) (run : List ℕ) (j sum : ℕ)
   pub small : sum ≤ j * most
 
 module _ {by : ℕ → ℕ} {most : ℕ} {run : List ℕ} where
-  pub none-summed : Summed by most run 0 0
-  none-summed = record { inside = omega arith; whole = omega arith; small = omega arith }
+  pub none_summed : Summed by most run 0 0
+  none_summed = record { inside = omega arith; whole = omega arith; small = omega arith }
 
-  pub one-summed : {j sum : ℕ} → j < length run → by (get_or run j 0) ≤ most → Summed by most run j sum
+  pub one_summed : {j sum : ℕ} → j < length run → by (get_or run j 0) ≤ most → Summed by most run j sum
       → Summed by most run (j + 1) (sum + by (get_or run j 0))
   unfolding sum_of
-  one-summed {j} {sum} lt size s =
+  one_summed {j} {sum} lt size s =
       record { inside = omega arith; whole = omega (arith, s.whole, ap (sum_of by) (rest_of run j lt)); small = omega (arith, s.small) }
 
-  pub all-summed : {j sum : ℕ} → length run ≤ j → Summed by most run j sum → (sum ≡ sum_of by run) × (sum ≤ length run * most)
+  pub all_summed : {j sum : ℕ} → length run ≤ j → Summed by most run j sum → (sum ≡ sum_of by run) × (sum ≤ length run * most)
   unfolding sum_of
-  all-summed {j} {sum} ge s =
+  all_summed {j} {sum} ge s =
       let e : j ≡ length run = omega (arith, s.inside) in
       (omega (arith, s.whole, ap (sum_of by) (drop_of_length-le run ge)), subst (λ (n : ℕ). sum ≤ n * most) e s.small)
 
 -- ---- the rise of a run
 
 module _ (ls : List ℤ) (run : List ℕ) where
-  pub rise-next : (j : ℕ) (sum : ℤ) → j < length run → sum +ℤ riseOf ls (drop j run) ≡ riseOf ls run
-      → (sum +ℤ riseBy ls (get_or run j 0)) +ℤ riseOf ls (drop (j + 1) run) ≡ riseOf ls run
-  unfolding riseOf
-  rise-next j sum lt h =
-      +ℤ_assoc sum (riseBy ls (get_or run j 0)) (riseOf ls (drop (j + 1) run))
-      ∙ ap (λ (z : ℤ). sum +ℤ z) (sym (ap (riseOf ls) (rest_of run j lt))) ∙ h
+  pub rise_next : (j : ℕ) (sum : ℤ) → j < length run → sum +ℤ rise_of ls (drop j run) ≡ rise_of ls run
+      → (sum +ℤ rise_by ls (get_or run j 0)) +ℤ rise_of ls (drop (j + 1) run) ≡ rise_of ls run
+  unfolding rise_of
+  rise_next j sum lt h =
+      +ℤ_assoc sum (rise_by ls (get_or run j 0)) (rise_of ls (drop (j + 1) run))
+      ∙ ap (λ (z : ℤ). sum +ℤ z) (sym (ap (rise_of ls) (rest_of run j lt))) ∙ h
 
-  pub rise-end : (j : ℕ) (sum : ℤ) → length run ≤ j → sum +ℤ riseOf ls (drop j run) ≡ riseOf ls run → sum ≡ riseOf ls run
-  unfolding riseOf
-  rise-end j sum ge h = sym (+ℤ_idr sum) ∙ ap (λ (z : ℤ). sum +ℤ z) (sym (ap (riseOf ls) (drop_of_length-le run ge))) ∙ h
+  pub rise_end : (j : ℕ) (sum : ℤ) → length run ≤ j → sum +ℤ rise_of ls (drop j run) ≡ rise_of ls run → sum ≡ rise_of ls run
+  unfolding rise_of
+  rise_end j sum ge h = sym (+ℤ_idr sum) ∙ ap (λ (z : ℤ). sum +ℤ z) (sym (ap (rise_of ls) (drop_of_length-le run ge))) ∙ h
 
 -- ---- one line
 
 -- the line that a code runs is in the book
-pub line-there : {ls : List ℤ} {code : ℕ} → Runs ls code → line_of code < lineCount ls
-line-there r = omega (arith, r.low, r.high)
+pub line_there : {ls : List ℤ} {code : ℕ} → Runs ls code → line_of code < line_count ls
+line_there r = omega (arith, r.low, r.high)
 
-pub length-size : (ls : List ℤ) (code : ℕ) → Measured ls → Runs ls code → lengthBy ls code ≤ mostLength
-unfolding lengthBy
-length-size ls code m r = (m.lengths (line_of code) (line-there r)).high
+pub length_size : (ls : List ℤ) (code : ℕ) → Measured ls → Runs ls code → length_by ls code ≤ most_length
+unfolding length_by
+length_size ls code m r = (m.lengths (line_of code) (line_there r)).high
 
-pub tolerance-size : (t : ℕ) (ls : List ℤ) (code : ℕ) → t ≤ mostTolerance → Measured ls → Runs ls code
-    → toleranceBy t ls code ≤ mostTolerance
-unfolding toleranceBy
-tolerance-size t ls code ht m r = tolerance-at-most t (class_at ls (line_of code)) ht (m.classes (line_of code) (line-there r))
+pub tolerance_size : (t : ℕ) (ls : List ℤ) (code : ℕ) → t ≤ most_tolerance → Measured ls → Runs ls code
+    → tolerance_by t ls code ≤ most_tolerance
+unfolding tolerance_by
+tolerance_size t ls code ht m r = tolerance_at_most t (class_at ls (line_of code)) ht (m.classes (line_of code) (line_there r))
 
-pub allows-size : (t : ℕ) (ls : List ℤ) (code : ℕ) → t ≤ mostTolerance → Measured ls → Runs ls code → allowsBy t ls code ≤ mostAllowed
-unfolding allowsBy
-allows-size t ls code ht m r =
-    let longest : judgedAs (lengthBy ls code) ≤ mostLength = omega (arith, length-size ls code m r) in
-    let wide = tolerance-size t ls code ht m r in
+pub allows_size : (t : ℕ) (ls : List ℤ) (code : ℕ) → t ≤ most_tolerance → Measured ls → Runs ls code → allows_by t ls code ≤ most_allowed
+unfolding allows_by
+allows_size t ls code ht m r =
+    let longest : judged_as (length_by ls code) ≤ most_length = omega (arith, length_size ls code m r) in
+    let wide = tolerance_size t ls code ht m r in
     mul-le-mul (mul-le-mul wide wide) longest
 
-pub rise-size : (ls : List ℤ) (code : ℕ) → Measured ls → Runs ls code → nat_abs (riseBy ls code) ≤ mostDifference
-unfolding riseBy
-rise-size ls code m r =
-    let d = differenceAt ls (line_of code) in
-    let h = m.differences (line_of code) (line-there r) in
-    cond_ind (λ (z : ℤ). nat_abs z ≤ mostDifference) (eqb (code % 2) 0) d (neg_ℤ d) (λ e. h) (λ e. rw size-neg h)
+pub rise_size : (ls : List ℤ) (code : ℕ) → Measured ls → Runs ls code → nat_abs (rise_by ls code) ≤ most_difference
+unfolding rise_by
+rise_size ls code m r =
+    let d = difference_at ls (line_of code) in
+    let h = m.differences (line_of code) (line_there r) in
+    cond_ind (λ (z : ℤ). nat_abs z ≤ most_difference) (eqb (code % 2) 0) d (neg_ℤ d) (λ e. h) (λ e. rw size_neg h)
 
-pub rise-fore : (ls : List ℤ) (code : ℕ) → code % 2 ≡ 0 → riseBy ls code ≡ differenceAt ls (line_of code)
-unfolding riseBy
-rise-fore ls code e = rw (eq-eqb (code % 2) 0 e)
+pub rise_fore : (ls : List ℤ) (code : ℕ) → code % 2 ≡ 0 → rise_by ls code ≡ difference_at ls (line_of code)
+unfolding rise_by
+rise_fore ls code e = rw (eq-eqb (code % 2) 0 e)
 
-pub rise-aft : (ls : List ℤ) (code : ℕ) → (code % 2 ≡ 0 → ⊥) → riseBy ls code ≡ pos 0 -ℤ differenceAt ls (line_of code)
-unfolding riseBy
-rise-aft ls code e = rw (ne_eqb (code % 2) 0 e) (sym (+ℤ_idl (neg_ℤ (differenceAt ls (line_of code)))))
+pub rise_aft : (ls : List ℤ) (code : ℕ) → (code % 2 ≡ 0 → ⊥) → rise_by ls code ≡ pos 0 -ℤ difference_at ls (line_of code)
+unfolding rise_by
+rise_aft ls code e = rw (ne_eqb (code % 2) 0 e) (sym (+ℤ_idl (neg_ℤ (difference_at ls (line_of code)))))
 
 -- ---- the verdict
 
 module _ (allowed : ℕ) (m : ℤ) (size : ℕ) (e : size ≡ nat_abs m) where
-  pub verdict-big : allowed ≤ mostLines * mostAllowed → squareLimit ≤ size → verdictOf allowed m ≡ pos 1
-  unfolding verdictOf
-  verdict-big few h =
-      let q : squareLimit * squareLimit ≤ size * size = mul-le-mul h h in
+  pub verdict_big : allowed ≤ most_lines * most_allowed → square_limit ≤ size → verdict_of allowed m ≡ pos 1
+  unfolding verdict_of
+  verdict_big few h =
+      let q : square_limit * square_limit ≤ size * size = mul-le-mul h h in
       rw (← e, lt-leb (size * size) (10 * allowed) (omega arith))
 
-  pub verdict-within : size * size ≤ 10 * allowed → verdictOf allowed m ≡ pos 0
-  unfolding verdictOf
-  verdict-within h = rw (← e, le-leb (size * size) (10 * allowed) h)
+  pub verdict_within : size * size ≤ 10 * allowed → verdict_of allowed m ≡ pos 0
+  unfolding verdict_of
+  verdict_within h = rw (← e, le-leb (size * size) (10 * allowed) h)
 
-  pub verdict-over : 10 * allowed < size * size → verdictOf allowed m ≡ pos 1
-  unfolding verdictOf
-  verdict-over h = rw (← e, lt-leb (size * size) (10 * allowed) h)
+  pub verdict_over : 10 * allowed < size * size → verdict_of allowed m ≡ pos 1
+  unfolding verdict_of
+  verdict_over h = rw (← e, lt-leb (size * size) (10 * allowed) h)
 
 -- ---- the numbers of a row, stored
 
-pub row-stored : (out : List ℤ) {a b c d e a' b' c' d' e' : ℤ} → length out ≡ rowWords → a ≡ a' → b ≡ b' → c ≡ c' → d ≡ d' → e ≡ e'
-    → set (set (set (set (set out rowClosing a) rowCount b) rowLength c) rowMisclosure d) rowVerdict e ≡ a' ∷ b' ∷ c' ∷ d' ∷ e' ∷ []
-row-stored out {a} {b} {c} {d} {e} h p q r s t = filled (a ∷ b ∷ c ∷ d ∷ e ∷ []) out h ∙ rw (p, q, r, s, t)
+pub row_stored : (out : List ℤ) {a b c d e a' b' c' d' e' : ℤ} → length out ≡ row_words → a ≡ a' → b ≡ b' → c ≡ c' → d ≡ d' → e ≡ e'
+    → set (set (set (set (set out row_closing a) row_count b) row_length c) row_misclosure d) row_verdict e ≡ a' ∷ b' ∷ c' ∷ d' ∷ e' ∷ []
+row_stored out {a} {b} {c} {d} {e} h p q r s t = filled (a ∷ b ∷ c ∷ d ∷ e ∷ []) out h ∙ rw (p, q, r, s, t)
 
 -- ---- a row by its sums
 
 pub row_made : (t : ℕ) (ls : List ℤ) (run : List ℕ) (metres allowed : ℕ) (m v : ℤ) → metres ≡ length_of ls run
-    → allowed ≡ allowsOf t ls run
-    → m ≡ riseOf ls run
-    → v ≡ verdictOf allowed m
+    → allowed ≡ allows_of t ls run
+    → m ≡ rise_of ls run
+    → v ≡ verdict_of allowed m
     → pos (get_or run 0 0 / 2) ∷ pos (length run) ∷ pos metres ∷ m ∷ v ∷ [] ≡ row_of t ls run
 unfolding row_of
 row_made t ls run metres allowed m v p a q r = rw (r, p, a, q)
 
 -- a loop's run is a run of lines
-pub loop-lines : {ls : List ℤ} {run : List ℕ} → RunIn ls run → LinesIn ls run
-loop-lines r = record { few = omega (arith, r.few); each = r.each }
+pub loop_lines : {ls : List ℤ} {run : List ℕ} → RunIn ls run → LinesIn ls run
+loop_lines r = record { few = omega (arith, r.few); each = r.each }

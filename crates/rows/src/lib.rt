@@ -1,12 +1,12 @@
 // The row of a loop, from its run in the table of loops; and the rows of a book.
 ghost use Rattle.std.specs.Prelude.{◌≡◌, [], ◌∷◌, ◌++◌, ◌*◌, ◌<◌, ◌≤◌, ◌^◌, pos, nat_abs, length, drop};
-ghost use Rattle.book.specs.Limits.{mostLines, mostDifference, mostLength, mostTolerance};
+ghost use Rattle.book.specs.Limits.{most_lines, most_difference, most_length, most_tolerance};
 ghost use Rattle.book.specs.Good.{GoodLines};
-ghost use Rattle.loops.specs.Row.{judgedAs, rowWords};
-ghost use Rattle.loops.specs.Report.{loops_of, reportOf};
+ghost use Rattle.loops.specs.Row.{judged_as, row_words};
+ghost use Rattle.loops.specs.Report.{loops_of, report_of};
 ghost use Rattle.loops.specs.Table.{Table};
-ghost use Rattle.rows.specs.Sums.{lengthBy, toleranceBy, allowsBy, riseBy, length_of, allowsOf, riseOf, verdictOf, row_of};
-ghost use Rattle.rows.specs.Sums.{mostAllowed, Measured, Runs, LinesIn, RunIn};
+ghost use Rattle.rows.specs.Sums.{length_by, tolerance_by, allows_by, rise_by, length_of, allows_of, rise_of, verdict_of, row_of};
+ghost use Rattle.rows.specs.Sums.{most_allowed, Measured, Runs, LinesIn, RunIn};
 
 use book::line::Line;
 use book::{Book, class};
@@ -33,14 +33,14 @@ const SQUARE_LIMIT: usize = 2147483648;
 fn length_by(lines: &[i64], code: usize) -> usize
     requires fact_1 { Measured lines.now }
     requires fact_2 { Runs lines.now code }
-    ensures { result ≡ lengthBy lines.now code }
+    ensures { result ≡ length_by lines.now code }
 {
     signed::index(lines[(code / 2 - 1) * Line::WORDS + Line::LENGTH])
 }
 
 // The length that the verdict takes it as.
 fn judged_as(metres: usize) -> usize
-    ensures { result ≡ judgedAs metres }
+    ensures { result ≡ judged_as metres }
 {
     if metres < Line::MIN_JUDGED {
         return Line::MIN_JUDGED;
@@ -52,8 +52,8 @@ fn judged_as(metres: usize) -> usize
 fn tolerance_by(lines: &[i64], code: usize, t: usize) -> usize
     requires fact_1 { Measured lines.now }
     requires fact_2 { Runs lines.now code }
-    requires fact_3 { t ≤ mostTolerance }
-    ensures { (result ≡ toleranceBy t lines.now code) × (result ≤ mostTolerance) }
+    requires fact_3 { t ≤ most_tolerance }
+    ensures { (result ≡ tolerance_by t lines.now code) × (result ≤ most_tolerance) }
 {
     class::tolerance(lines[(code / 2 - 1) * Line::WORDS + Line::CLASS], t)
 }
@@ -62,8 +62,8 @@ fn tolerance_by(lines: &[i64], code: usize, t: usize) -> usize
 fn allows_by(lines: &[i64], code: usize, t: usize) -> usize
     requires fact_1 { Measured lines.now }
     requires fact_2 { Runs lines.now code }
-    requires fact_3 { t ≤ mostTolerance }
-    ensures { (result ≡ allowsBy t lines.now code) × (result ≤ mostAllowed) }
+    requires fact_3 { t ≤ most_tolerance }
+    ensures { (result ≡ allows_by t lines.now code) × (result ≤ most_allowed) }
 {
     let tolerance = tolerance_by(lines, code, t);
     tolerance * tolerance * judged_as(length_by(lines, code))
@@ -73,7 +73,7 @@ fn allows_by(lines: &[i64], code: usize, t: usize) -> usize
 fn rise_by(lines: &[i64], code: usize) -> i64
     requires fact_1 { Measured lines.now }
     requires fact_2 { Runs lines.now code }
-    ensures { result ≡ riseBy lines.now code }
+    ensures { result ≡ rise_by lines.now code }
 {
     let d = lines[(code / 2 - 1) * Line::WORDS + Line::DIFFERENCE];
     if code % 2 == 0 {
@@ -86,7 +86,7 @@ fn rise_by(lines: &[i64], code: usize) -> i64
 pub fn run_length(lines: &[i64], run: &[u16]) -> usize
     requires fact_1 { Measured lines.now }
     requires fact_2 { LinesIn lines.now run.now }
-    ensures { (result ≡ length_of lines.now run.now) × (result ≤ mostLines * mostLength) }
+    ensures { (result ≡ length_of lines.now run.now) × (result ≤ most_lines * most_length) }
 {
     let mut sum = 0;
     let mut j = 0;
@@ -101,8 +101,8 @@ pub fn run_length(lines: &[i64], run: &[u16]) -> usize
 fn run_allows(lines: &[i64], run: &[u16], t: usize) -> usize
     requires fact_1 { Measured lines.now }
     requires fact_2 { LinesIn lines.now run.now }
-    requires fact_3 { t ≤ mostTolerance }
-    ensures { (result ≡ allowsOf t lines.now run.now) × (result ≤ mostLines * mostAllowed) }
+    requires fact_3 { t ≤ most_tolerance }
+    ensures { (result ≡ allows_of t lines.now run.now) × (result ≤ most_lines * most_allowed) }
 {
     let mut sum = 0;
     let mut j = 0;
@@ -117,7 +117,7 @@ fn run_allows(lines: &[i64], run: &[u16], t: usize) -> usize
 pub fn run_rise(lines: &[i64], run: &[u16]) -> i64
     requires fact_1 { Measured lines.now }
     requires fact_2 { LinesIn lines.now run.now }
-    ensures { (result ≡ riseOf lines.now run.now) × (nat_abs result ≤ mostLines * mostDifference) }
+    ensures { (result ≡ rise_of lines.now run.now) × (nat_abs result ≤ most_lines * most_difference) }
 {
     let mut sum = 0i64;
     let mut j = 0;
@@ -131,8 +131,8 @@ pub fn run_rise(lines: &[i64], run: &[u16]) -> i64
 // 0 where the misclosure is within what a loop's lines allow, 1 where it is over. A size of 2 to the 31st or more is over in any case;
 // below it the square fits.
 fn verdict(misclosure: i64, allowed: usize) -> i64
-    requires { allowed ≤ mostLines * mostAllowed }
-    ensures { result ≡ verdictOf allowed misclosure }
+    requires { allowed ≤ most_lines * most_allowed }
+    ensures { result ≡ verdict_of allowed misclosure }
 {
     let size = signed::magnitude(misclosure);
     if SQUARE_LIMIT <= size {
@@ -153,7 +153,7 @@ fn write_row(
     misclosure: i64,
     verdict: i64,
 )
-    requires fact_1 { length out.old ≡ rowWords }
+    requires fact_1 { length out.old ≡ row_words }
     requires fact_2 { (number < 2 ^ 63) × (count < 2 ^ 63) × (metres < 2 ^ 63) }
     ensures { out.new ≡ pos number ∷ pos count ∷ pos metres ∷ misclosure ∷ verdict ∷ [] }
 {
@@ -168,8 +168,8 @@ fn write_row(
 pub fn row_of(lines: &[i64], run: &[u16], out: &mut [i64], t: usize)
     requires fact_1 { Measured lines.now }
     requires fact_2 { RunIn lines.now run.now }
-    requires fact_3 { t ≤ mostTolerance }
-    requires fact_4 { length out.old ≡ rowWords }
+    requires fact_3 { t ≤ most_tolerance }
+    requires fact_4 { length out.old ≡ row_words }
     ensures { out.new ≡ row_of t lines.now run.now }
 {
     let metres = run_length(lines, run);
@@ -196,9 +196,9 @@ pub fn write_rows(
 )
     requires fact_1 { GoodLines book lines.now }
     requires fact_2 { Table (loops_of book.marks lines.now) starts.now runs.now count }
-    requires fact_3 { count * rowWords ≤ length out.old }
+    requires fact_3 { count * row_words ≤ length out.old }
     ensures { out.new
-        ≡ reportOf book.marks book.tolerance lines.now ++ drop (count * rowWords) out.old }
+        ≡ report_of book.marks book.tolerance lines.now ++ drop (count * row_words) out.old }
 {
     let t = book.tolerance;
     let mut i = 0;

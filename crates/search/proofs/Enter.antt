@@ -10,31 +10,31 @@ use lib.ListN.{get_or}
 use borrow.Author.Tests.{eq-eqb, ne_eqb}
 use Rattle.network.specs.Standing.{Line}
 use Rattle.network.specs.Tree.{Entry, entry, Tree, Candidate, candidate, distance, score, far, lowest, next, step}
-use Rattle.network.proofs.Grown.{scored, score-of, After, new, old, after, keeps, IsLowest, lowest-none, lowest-some}
+use Rattle.network.proofs.Grown.{scored, score_of_lem, After, new, old, after, keeps, IsLowest, lowest_none, lowest_some}
 use Rattle.network.proofs.Shortest.{same, never}
 use Rattle.network.specs.Sound.{Rising}
-use Rattle.network.proofs.Without.{lowest-first}
+use Rattle.network.proofs.Without.{lowest_first}
 use Rattle.nearest.specs.Heap.{Heap, Changed}
 use Rattle.nearest.specs.Heap as hp
-use Rattle.nearest.proofs.Tournament.{root-least, root-leaf}
+use Rattle.nearest.proofs.Tournament.{root_least, root_leaf}
 use Rattle.chains.specs.Chains.{Half, fore, aft, mark_of, Has, Given, AllSound, halves}
-use Rattle.chains.proofs.Halves.{half-ends, ends-half, half-low, half-no, half-ok, met-on, has_on}
+use Rattle.chains.proofs.Halves.{half_ends, ends_half, half_low, half_no, half_ok, met_on, has_on}
 use Rattle.search.specs.Front.{keys, Moved, still, moved, Relaxed, came, By, Key, Keyed, Offer, Front, Nothing, Rest, limit}
 use Rattle.search.specs.Front as f
 
 -- ---- the lowest candidate, by what it is
 
-pub lowest-is : (es : Tree) (lines : List Line) → Rising lines → (l : Line) (s : ℕ) → Memᴰ l lines → score es l ≡ some s
+pub lowest_is : (es : Tree) (lines : List Line) → Rising lines → (l : Line) (s : ℕ) → Memᴰ l lines → score es l ≡ some s
     → ((k : Line) (t : ℕ) → Memᴰ k lines → score es k ≡ some t → (s < t) ⊎ ((s ≡ t) × (l.number ≤ k.number)))
     → lowest es lines ≡ some (candidate s l)
-lowest-is es lines ris l s m e f = go (lowest es lines) refl
+lowest_is es lines ris l s m e f = go (lowest es lines) refl
   where
     go : (o : Option Candidate) → lowest es lines ≡ o → o ≡ some (candidate s l)
-    go none x = never e (lowest-none es lines x l m)
-    go (some c) x = pick (f c.line c.score w.is_line w.itsScore)
+    go none x = never e (lowest_none es lines x l m)
+    go (some c) x = pick (f c.line c.score w.is_line w.its_score)
       where
         w : IsLowest es lines c
-        w = lowest-some es lines c x
+        w = lowest_some es lines c x
 
         is : c.score ≡ s → (c.line ≡ l) ⊎ (c.line.number < l.number) → l.number ≤ c.line.number → some c ≡ some (candidate s l)
         is a (inl b) q = ap some (ap₂ candidate a b)
@@ -42,25 +42,25 @@ lowest-is es lines ris l s m e f = go (lowest es lines) refl
 
         pick : (s < c.score) ⊎ ((s ≡ c.score) × (l.number ≤ c.line.number)) → some c ≡ some (candidate s l)
         pick (inl lt) = absurd (omega (arith, w.least l s m e))
-        pick (inr (a, b)) = is (sym a) (lowest-first es lines ris c x l m (e ∙ ap some a)) b
+        pick (inr (a, b)) = is (sym a) (lowest_first es lines ris c x l m (e ∙ ap some a)) b
 
-pub lowest-gone : (es : Tree) (lines : List Line) → ((k : Line) (t : ℕ) → Memᴰ k lines → score es k ≡ some t → ⊥)
+pub lowest_gone : (es : Tree) (lines : List Line) → ((k : Line) (t : ℕ) → Memᴰ k lines → score es k ≡ some t → ⊥)
     → lowest es lines ≡ none
-lowest-gone es lines f = go (lowest es lines) refl
+lowest_gone es lines f = go (lowest es lines) refl
   where
     go : (o : Option Candidate) → lowest es lines ≡ o → o ≡ none
     go none x = refl
-    go (some c) x = let w = lowest-some es lines c x in absurd (f c.line c.score w.is_line w.itsScore)
+    go (some c) x = let w = lowest_some es lines c x in absurd (f c.line c.score w.is_line w.its_score)
 
-pub far-half : (es : Tree) (l : Line) (u v h d : ℕ) → Half l u v h → distance es u ≡ some d → distance es v ≡ none → far es l ≡ v
+pub far_half : (es : Tree) (l : Line) (u v h d : ℕ) → Half l u v h → distance es u ≡ some d → distance es v ≡ none → far es l ≡ v
 unfolding far
-far-half es l u v h d (fore p q e) a b = rw (p, a) q
-far-half es l u v h d (aft p q e) a b = rw (q, b)
+far_half es l u v h d (fore p q e) a b = rw (p, a) q
+far_half es l u v h d (aft p q e) a b = rw (q, b)
 
-pub step-some : (lines : List Line) (roots : List ℕ) (es : Tree) (c : Candidate) → lowest es lines ≡ some c
+pub step_some : (lines : List Line) (roots : List ℕ) (es : Tree) (c : Candidate) → lowest es lines ≡ some c
     → step lines roots es ≡ entry (far es c.line) c.score (some c.line) ∷ es
 unfolding step
-step-some lines roots es c h = rw h
+step_some lines roots es c h = rw h
 
 -- ---- what is popped
 
@@ -70,33 +70,33 @@ pub record Pop (sub : List Line) (n : ℕ) (es : Tree) (best ends : List ℕ) (k
   pub d : ℕ
   pub is_line : Memᴰ l sub
   pub half : Half l u (mark_of ends (key % halves)) (key % halves)
-  pub isIn : distance es u ≡ some d
-  pub isOut : distance es (mark_of ends (key % halves)) ≡ none
+  pub is_in : distance es u ≡ some d
+  pub is_out : distance es (mark_of ends (key % halves)) ≡ none
   pub small : mark_of ends (key % halves) < n
   pub sum : key ≡ (d + l.length) * halves + key % halves
   pub known : get_or best (mark_of ends (key % halves)) 0 ≡ key
-  pub isLowest : lowest es sub ≡ some (candidate (d + l.length) l)
+  pub is_lowest : lowest es sub ≡ some (candidate (d + l.length) l)
 
 module _ (sub : List Line) (n : ℕ) (es : Tree) (best seg ends : List ℕ) (ris : Rising sub) (sound : AllSound n sub)
     (marked : (l : Line) (u v h : ℕ) → Memᴰ l sub → Half l u v h → mark_of ends h ≡ v)
     (heap : Heap seg n) (fr : Front sub n es best seg ends Nothing)
     (near : (m d : ℕ) → distance es m ≡ some d → d ≤ 100000000) where
   -- each line with a score has a leaf no higher than its key
-  scored-under : (k : Line) (t : ℕ) → Memᴰ k sub → score es k ≡ some t
+  scored_under : (k : Line) (t : ℕ) → Memᴰ k sub → score es k ≡ some t
       → (h : ℕ) × (get_or seg 1 0 ≤ t * halves + h) × (h ≤ 2 * k.number + 1) × (t * halves + h < limit) × (h < halves)
-  scored-under k t m e =
+  scored_under k t m e =
       let w = scored es k t e in
-      let hh = ends-half w.ends in
-      let ok = half-ok (sound k m) hh.1 in
-      let low : hh.0 < halves = half-low (sound k m) hh.1 in
-      let num = half-no hh.1 in
-      let o = fr.opened w.away ok.1 w.isOut in
-      let r = root-least seg n heap w.away ok.1 in
-      let bound = go (fr.under k w.near w.away hh.0 w.d m hh.1 w.isIn w.isOut) in (
+      let hh = ends_half w.ends in
+      let ok = half_ok (sound k m) hh.1 in
+      let low : hh.0 < halves = half_low (sound k m) hh.1 in
+      let num = half_no hh.1 in
+      let o = fr.opened w.away ok.1 w.is_out in
+      let r = root_least seg n heap w.away ok.1 in
+      let bound = go (fr.under k w.near w.away hh.0 w.d m hh.1 w.is_in w.is_out) in (
         hh.0,
         omega (arith, o, r, bound, w.sum),
         num.1,
-        omega (arith, w.sum, low, near w.near w.d w.isIn, (sound k m).short),
+        omega (arith, w.sum, low, near w.near w.d w.is_in, (sound k m).short),
         low,
       )
     where
@@ -104,11 +104,11 @@ module _ (sub : List Line) (n : ℕ) (es : Tree) (best seg ends : List ℕ) (ris
       go (inl z) = absurd z
       go (inr z) = z
 
-  pub pop-none : limit ≤ get_or seg 1 0 → lowest es sub ≡ none
-  pop-none h = lowest-gone es sub (λ k t m e. let s = scored-under k t m e in omega (arith, s.1, s.3))
+  pub pop_none : limit ≤ get_or seg 1 0 → lowest es sub ≡ none
+  pop_none h = lowest_gone es sub (λ k t m e. let s = scored_under k t m e in omega (arith, s.1, s.3))
 
-  pub pop-some : get_or seg 1 0 < limit → Pop sub n es best ends (get_or seg 1 0)
-  pop-some lt = go (root-leaf seg n heap)
+  pub pop_some : get_or seg 1 0 < limit → Pop sub n es best ends (get_or seg 1 0)
+  pop_some lt = go (root_leaf seg n heap)
     where
       key : ℕ
       key = get_or seg 1 0
@@ -116,26 +116,26 @@ module _ (sub : List Line) (n : ℕ) (es : Tree) (best seg ends : List ℕ) (ris
       made : (m : ℕ) → m < n → get_or seg 1 0 ≡ get_or best m 0 → distance es m ≡ none → Offer sub es best m
           → Pop sub n es best ends (get_or seg 1 0)
       made m ok e out o =
-          let low : o.h < halves = half-low (sound o.l o.is_line) o.half in
+          let low : o.h < halves = half_low (sound o.l o.is_line) o.half in
           let hm : get_or seg 1 0 % halves ≡ o.h = omega (arith, e, o.key) in
           let tm : mark_of ends (get_or seg 1 0 % halves) ≡ m = ap (λ (z : ℕ). mark_of ends z) hm
           ∙ marked o.l o.u m o.h o.is_line o.half in
-          let sc : score es o.l ≡ some (o.d + o.l.length) = score-of es o.l o.u m o.d (half-ends o.half) o.isIn out in
-          let num = half-no o.half in
+          let sc : score es o.l ≡ some (o.d + o.l.length) = score_of_lem es o.l o.u m o.d (half_ends o.half) o.is_in out in
+          let num = half_no o.half in
           record {
             l = o.l;
             u = o.u;
             d = o.d;
             is_line = o.is_line;
             half = rw (hm, marked o.l o.u m o.h o.is_line o.half) o.half;
-            isIn = o.isIn;
-            isOut = rw tm out;
+            is_in = o.is_in;
+            is_out = rw tm out;
             small = rw tm ok;
             sum = omega (arith, e, o.key, hm);
             known = rw tm (sym e);
-            isLowest =
-                lowest-is es sub ris o.l (o.d + o.l.length) o.is_line sc
-                (λ k t i q. cmp k t (o.d + o.l.length) o.h low num.0 (scored-under k t i q) (e ∙ o.key));
+            is_lowest =
+                lowest_is es sub ris o.l (o.d + o.l.length) o.is_line sc
+                (λ k t i q. cmp k t (o.d + o.l.length) o.h low num.0 (scored_under k t i q) (e ∙ o.key));
           }
         where
           cmp : (k : Line) (t s h : ℕ) → h < halves → 2 * o.l.number ≤ h
@@ -164,24 +164,24 @@ module _ (sub : List Line) (n : ℕ) (es : Tree) (best seg ends : List ℕ) (ris
 
 -- ---- a mark enters
 
-pub came-new : (e : Entry) (es : Tree) (m : ℕ) → e.mark ≡ m → came (e ∷ es) m ≡ e.by
+pub came_new : (e : Entry) (es : Tree) (m : ℕ) → e.mark ≡ m → came (e ∷ es) m ≡ e.by
 unfolding came
-came-new e es m h = rw (eq-eqb e.mark m h)
+came_new e es m h = rw (eq-eqb e.mark m h)
 
-pub came-old : (e : Entry) (es : Tree) (m : ℕ) → (e.mark ≡ m → ⊥) → came (e ∷ es) m ≡ came es m
+pub came_old : (e : Entry) (es : Tree) (m : ℕ) → (e.mark ≡ m → ⊥) → came (e ∷ es) m ≡ came es m
 unfolding came
-came-old e es m h = rw (ne_eqb e.mark m h)
+came_old e es m h = rw (ne_eqb e.mark m h)
 
 pub by_old : (e : Entry) (es : Tree) (ends : List ℕ) (m d h : ℕ) → distance es e.mark ≡ none → (e.mark ≡ m → ⊥) → By es ends m d h
     → By (e ∷ es) ends m d h
-by_old e es ends m d h out x (f.root a b c) = f.root (came-old e es m x ∙ a) b c
-by_old e es ends m d h out x (f.line l u du a b c t i s) = f.line l u du (came-old e es m x ∙ a) b c t (keeps e es u du out i) s
+by_old e es ends m d h out x (f.root a b c) = f.root (came_old e es m x ∙ a) b c
+by_old e es ends m d h out x (f.line l u du a b c t i s) = f.line l u du (came_old e es m x ∙ a) b c t (keeps e es u du out i) s
 
 -- what the marks are known by stays, and the new one has its own
-pub keyed-enter : (es : Tree) (e : Entry) (best best' ends : List ℕ) → distance es e.mark ≡ none → Keyed es best ends
+pub keyed_enter : (es : Tree) (e : Entry) (best best' ends : List ℕ) → distance es e.mark ≡ none → Keyed es best ends
     → Key (e ∷ es) best' ends e.mark e.dist
     → ((m : ℕ) → (m ≡ e.mark → ⊥) → get_or best' m 0 ≡ get_or best m 0) → Keyed (e ∷ es) best' ends
-keyed-enter es e best best' ends out held mine others m d h = go (after e es m)
+keyed_enter es e best best' ends out held mine others m d h = go (after e es m)
   where
     go : After e es m → Key (e ∷ es) best' ends m d
     go (new p q) =
@@ -192,12 +192,12 @@ keyed-enter es e best best' ends out held mine others m d h = go (after e es m)
 
 module _ (sub : List Line) (n : ℕ) (head next ends : List ℕ) (gv : Given sub n head next ends) (es : Tree) (e : Entry)
     (best seg best' seg' : List ℕ) (out : distance es e.mark ≡ none) (small : e.mark < n) where
-  pub front-enter : Front sub n es best seg ends Nothing → Key (e ∷ es) best' ends e.mark e.dist
+  pub front_enter : Front sub n es best seg ends Nothing → Key (e ∷ es) best' ends e.mark e.dist
       → ((m : ℕ) → (m ≡ e.mark → ⊥) → get_or best' m 0 ≡ get_or best m 0)
       → Changed seg seg' n e.mark hp.far → Front sub n (e ∷ es) best' seg' ends (Rest next ends e.mark (get_or head e.mark 0))
-  front-enter fr mine others ch = record {
+  front_enter fr mine others ch = record {
     inside = λ m d h. inside m d h (after e es m);
-    keyed = keyed-enter es e best best' ends out fr.keyed mine others;
+    keyed = keyed_enter es e best best' ends out fr.keyed mine others;
     closed = λ m d ok h. closed m d ok h (after e es m);
     opened = λ m ok h. opened m ok h (after e es m);
     offered = λ m ok h. offered m ok h (after e es m);
@@ -226,7 +226,7 @@ module _ (sub : List Line) (n : ℕ) (head next ends : List ℕ) (gv : Given sub
         d = o.d;
         is_line = o.is_line;
         half = o.half;
-        isIn = keeps e es o.u o.d out o.isIn;
+        is_in = keeps e es o.u o.d out o.is_in;
         key = others m (λ z. p (sym z)) ∙ o.key;
       })
 
@@ -250,12 +250,12 @@ module _ (sub : List Line) (n : ℕ) (head next ends : List ℕ) (gv : Given sub
 -- ---- its nodes are offered
 
 module _ (sub : List Line) (n : ℕ) (head next ends : List ℕ) (gv : Given sub n head next ends) (es : Tree) (m dm : ℕ)
-    (best seg best' seg' : List ℕ) (ok : m < n) (isIn : distance es m ≡ some dm)
+    (best seg best' seg' : List ℕ) (ok : m < n) (is_in : distance es m ≡ some dm)
     (sound : AllSound n sub) (newest : (l : Line) (x h dx : ℕ) → Memᴰ l sub → Half l m x h → distance es x ≡ some dx
     → dx < dm + l.length)
     (rx : Relaxed n next ends (keys best seg) (keys best' seg') (get_or head m 0) (dm * halves)) where
-  pub front-relaxed : Front sub n es best seg ends (Rest next ends m (get_or head m 0)) → Front sub n es best' seg' ends Nothing
-  front-relaxed fr = record {
+  pub front_relaxed : Front sub n es best seg ends (Rest next ends m (get_or head m 0)) → Front sub n es best' seg' ends Nothing
+  front_relaxed fr = record {
     inside = fr.inside;
     keyed = λ x d h. let k = fr.keyed x d h in
         record { h = k.h; low = k.low; key = (settled x d h (rx.each x (fr.inside x d h))).0 ∙ k.key; by = k.by };
@@ -269,7 +269,7 @@ module _ (sub : List Line) (n : ℕ) (head next ends : List ℕ) (gv : Given sub
           → (get_or best' x 0 ≡ get_or best x 0) × (get_or seg' (n + x) 0 ≡ get_or seg (n + x) 0)
       settled x d h (still a b) = (a, b)
       settled x d h (moved j on leads val lt s) =
-          let nd = met-on gv m j ok on in
+          let nd = met_on gv m j ok on in
           let hf : Half nd.l m x j = subst (λ (z : ℕ). Half nd.l m z j) leads nd.half in
           let k = fr.keyed x d h in
           absurd (omega (arith, newest nd.l x j d nd.is_line hf h, val, lt, nd.sum, k.key, k.low))
@@ -289,11 +289,11 @@ module _ (sub : List Line) (n : ℕ) (head next ends : List ℕ) (gv : Given sub
         d = o.d;
         is_line = o.is_line;
         half = o.half;
-        isIn = o.isIn;
+        is_in = o.is_in;
         key = p ∙ o.key;
       })
       offered x a h (moved j on leads val lt s) z =
-          let nd = met-on gv m j ok on in
+          let nd = met_on gv m j ok on in
           inr (record {
             l = nd.l;
             u = m;
@@ -301,7 +301,7 @@ module _ (sub : List Line) (n : ℕ) (head next ends : List ℕ) (gv : Given sub
             d = dm;
             is_line = nd.is_line;
             half = subst (λ (z : ℕ). Half nd.l m z j) leads nd.half;
-            isIn = isIn;
+            is_in = is_in;
             key = omega (arith, val, nd.sum);
           })
 
@@ -313,7 +313,7 @@ module _ (sub : List Line) (n : ℕ) (head next ends : List ℕ) (gv : Given sub
           → (Rest next ends m (get_or head m 0) u v (l.length * halves + h)) ⊎ (get_or best v 0 ≤ (d + l.length) * halves + h)
           → ⊥ ⊎ (get_or best' v 0 ≤ (d + l.length) * halves + h)
       under l u v h d i j a b (inl (p, q)) =
-          let e : d ≡ dm = same (ap (distance es) (sym p) ∙ a) isIn in
+          let e : d ≡ dm = same (ap (distance es) (sym p) ∙ a) is_in in
           let t = rx.under q.h q.on in
           inr (omega (arith, e, t, q.sum, ap (λ (z : ℕ). get_or best' z 0) q.leads))
-      under l u v h d i j a b (inr z) = inr (omega (arith, z, less v (rx.each v (half-ok (sound l i) j).1)))
+      under l u v h d i j a b (inr z) = inr (omega (arith, z, less v (rx.each v (half_ok (sound l i) j).1)))

@@ -7,18 +7,18 @@ use mathlib.Core.Logic.{◌⊎◌, inl, inr}
 use mathlib.Core.List.{List}
 use lib.ListN.{length, get_or, set, length-set}
 use lib.Seq.{get_or-set_same, get_or-set_other}
-use Rattle.nearest.specs.Heap.{far, Changed, leafLimit}
+use Rattle.nearest.specs.Heap.{far, Changed, leaf_limit}
 use Rattle.nearest.proofs.Tournament.{cleared}
 use Rattle.chains.specs.Chains.{mark_of, sum_of, On, here, later}
-use Rattle.chains.proofs.Halves.{on-zero, on-split}
+use Rattle.chains.proofs.Halves.{on_zero, on_split}
 use Rattle.search.specs.Front.{Keys, keys, Stage, Offered, kept, fell, Moved, still, moved, Relaxed}
 
 -- ---- offer
 
 module _ (n : ℕ) (best seg best' seg' : List ℕ) (o k : ℕ) (st : Stage n best seg) (lt : o < n) where
-  pub offered-stage : Offered n (keys best seg) (keys best' seg') o k → Stage n best' seg'
-  offered-stage (kept a p q) = subst (λ (x : List ℕ). Stage n x seg') (sym p) (subst (λ (y : List ℕ). Stage n best y) (sym q) st)
-  offered-stage (fell a p ch) = record {
+  pub offered_stage : Offered n (keys best seg) (keys best' seg') o k → Stage n best' seg'
+  offered_stage (kept a p q) = subst (λ (x : List ℕ). Stage n x seg') (sym p) (subst (λ (y : List ℕ). Stage n best y) (sym q) st)
+  offered_stage (fell a p ch) = record {
     heap = ch.heap;
     places = rw p (simp length-set st.places);
     over = λ m h. go m h (ℕ_discrete m o);
@@ -34,13 +34,13 @@ module _ (n : ℕ) (best seg best' seg' : List ℕ) (o k : ℕ) (st : Stage n be
       go m h (no e) = rw (p, get_or-set_other best o m k 0 e, ch.others m h e) (st.over m h)
 
   -- what the mark is known by is no more than k then, and no more than it was
-  pub offered-at : Offered n (keys best seg) (keys best' seg') o k → get_or best' o 0 ≤ k
-  offered-at (kept a p q) = rw p a
-  offered-at (fell a p ch) = rw (p, get_or-set_same best o k 0 (omega (arith, st.places))) (omega arith)
+  pub offered_at : Offered n (keys best seg) (keys best' seg') o k → get_or best' o 0 ≤ k
+  offered_at (kept a p q) = rw p a
+  offered_at (fell a p ch) = rw (p, get_or-set_same best o k 0 (omega (arith, st.places))) (omega arith)
 
-  pub offered-le : Offered n (keys best seg) (keys best' seg') o k → (m : ℕ) → get_or best' m 0 ≤ get_or best m 0
-  offered-le (kept a p q) m = rw p (omega arith)
-  offered-le (fell a p ch) m = go (ℕ_discrete m o)
+  pub offered_le : Offered n (keys best seg) (keys best' seg') o k → (m : ℕ) → get_or best' m 0 ≤ get_or best m 0
+  offered_le (kept a p q) m = rw p (omega arith)
+  offered_le (fell a p ch) m = go (ℕ_discrete m o)
     where
       go : Dec (m ≡ o) → get_or best' m 0 ≤ get_or best m 0
       go (yes e) = rw (p, e, get_or-set_same best o k 0 (omega (arith, st.places))) (omega arith)
@@ -54,19 +54,19 @@ pub record Relaxing (n : ℕ) (next ends : List ℕ) (a z : Keys) (first base i 
   pub under : (j : ℕ) → On next first j → (On next i j) ⊎ (get_or z.best (mark_of ends j) 0 ≤ base + sum_of ends j)
   pub part : (j : ℕ) → On next i j → On next first j
 
-pub relax-start : (n : ℕ) (next ends best seg : List ℕ) (first base : ℕ) → Stage n best seg
+pub relax_start : (n : ℕ) (next ends best seg : List ℕ) (first base : ℕ) → Stage n best seg
     → Relaxing n next ends (keys best seg) (keys best seg) first base first
-relax-start n next ends best seg first base st = record {
+relax_start n next ends best seg first base st = record {
   stage = st;
   each = λ m h. still refl refl;
   under = λ j o. inl o;
   part = λ j o. o;
 }
 
-pub relax-end : (n : ℕ) (next ends best seg best' seg' : List ℕ) (first base i : ℕ)
+pub relax_end : (n : ℕ) (next ends best seg best' seg' : List ℕ) (first base i : ℕ)
     → Relaxing n next ends (keys best seg) (keys best' seg') first base i → i ≤ 0
     → Relaxed n next ends (keys best seg) (keys best' seg') first base
-relax-end n next ends best seg best' seg' first base i x z = record {
+relax_end n next ends best seg best' seg' first base i x z = record {
   stage = x.stage;
   each = x.each;
   under = λ j o. go j
@@ -75,7 +75,7 @@ relax-end n next ends best seg best' seg' first base i x z = record {
   where
     go : (j : ℕ) → (On next i j) ⊎ (get_or best' (mark_of ends j) 0 ≤ base + sum_of ends j)
         → get_or best' (mark_of ends j) 0 ≤ base + sum_of ends j
-    go j (inl o) = on-zero (omega arith) o
+    go j (inl o) = on_zero (omega arith) o
     go j (inr h) = h
 
 module _ (n : ℕ) (next ends best seg b₁ s₁ b₂ s₂ : List ℕ) (first base i : ℕ)
@@ -106,29 +106,29 @@ module _ (n : ℕ) (next ends best seg b₁ s₁ b₂ s₂ : List ℕ) (first ba
           below (still u v) = omega (arith, val, u, a')
           below (moved j on u v l s) = omega (arith, val, l, a')
 
-  pub relax-turn : Relaxing n next ends (keys best seg) (keys b₂ s₂) first base (get_or next i 0)
-  relax-turn = record {
-    stage = offered-stage n b₁ s₁ b₂ s₂ (mark_of ends i) (base + sum_of ends i) x.stage lt y;
+  pub relax_turn : Relaxing n next ends (keys best seg) (keys b₂ s₂) first base (get_or next i 0)
+  relax_turn = record {
+    stage = offered_stage n b₁ s₁ b₂ s₂ (mark_of ends i) (base + sum_of ends i) x.stage lt y;
     each = λ m h. each_next m h (x.each m h) y;
     under = λ j o. go j (x.under j o);
     part = λ j o. x.part j (later pos o);
   }
     where
       hit : (j : ℕ) → (j ≡ i) ⊎ On next (get_or next i 0) j → (On next (get_or next i 0) j) ⊎ (get_or b₂ (mark_of ends j) 0 ≤ base + sum_of ends j)
-      hit j (inl e) = inr (rw e (offered-at n b₁ s₁ b₂ s₂ (mark_of ends i) (base + sum_of ends i) x.stage lt y))
+      hit j (inl e) = inr (rw e (offered_at n b₁ s₁ b₂ s₂ (mark_of ends i) (base + sum_of ends i) x.stage lt y))
       hit j (inr o) = inl o
 
       go : (j : ℕ) → (On next i j) ⊎ (get_or b₁ (mark_of ends j) 0 ≤ base + sum_of ends j)
           → (On next (get_or next i 0) j) ⊎ (get_or b₂ (mark_of ends j) 0 ≤ base + sum_of ends j)
-      go j (inl o) = hit j (on-split o)
-      go j (inr h) = inr (omega (arith, h, offered-le n b₁ s₁ b₂ s₂ (mark_of ends i) (base + sum_of ends i) x.stage lt y (mark_of ends j)))
+      go j (inl o) = hit j (on_split o)
+      go j (inr h) = inr (omega (arith, h, offered_le n b₁ s₁ b₂ s₂ (mark_of ends i) (base + sum_of ends i) x.stage lt y (mark_of ends j)))
 
 -- ---- stages of a search
 
-pub stage-start : (n r : ℕ) (best seg : List ℕ) → n ≤ leafLimit → r < n → n ≤ length best → 2 * n ≤ length seg
+pub stage_start : (n r : ℕ) (best seg : List ℕ) → n ≤ leaf_limit → r < n → n ≤ length best → 2 * n ≤ length seg
     → ((i : ℕ) → i < n → get_or best i 0 ≡ far)
     → ((i : ℕ) → i < 2 * n → get_or seg i 0 ≡ far) → Stage n (set best r 0) seg
-stage-start n r best seg few ok lb ls fb fs = record {
+stage_start n r best seg few ok lb ls fb fs = record {
   heap = cleared seg n few (omega arith) ls fs;
   places = simp length-set lb;
   over = λ m h. go m h (ℕ_discrete m r);
@@ -143,8 +143,8 @@ stage-start n r best seg few ok lb ls fb fs = record {
     go m h (yes e) = omega (arith, ap (λ (z : ℕ). get_or (set best r 0) z 0) e, get_or-set_same best r 0 0 (omega arith))
     go m h (no e) = omega (arith, get_or-set_other best r m 0 0 e, fb m h, fs (n + m) (omega arith))
 
-pub stage-close : (n m : ℕ) (best seg seg' : List ℕ) → Stage n best seg → m < n → Changed seg seg' n m far → Stage n best seg'
-stage-close n m best seg seg' st lt ch = record {
+pub stage_close : (n m : ℕ) (best seg seg' : List ℕ) → Stage n best seg → m < n → Changed seg seg' n m far → Stage n best seg'
+stage_close n m best seg seg' st lt ch = record {
   heap = ch.heap;
   places = st.places;
   over = λ x h. go x h (ℕ_discrete x m);
@@ -156,8 +156,8 @@ stage-close n m best seg seg' st lt ch = record {
     go x h (no e) = omega (arith, ch.others x h e, st.over x h)
 
 -- a mark's key falls to 0
-pub stage-set : (n r : ℕ) (best seg : List ℕ) → Stage n best seg → r < n → Stage n (set best r 0) seg
-stage-set n r best seg st ok = record {
+pub stage_set : (n r : ℕ) (best seg : List ℕ) → Stage n best seg → r < n → Stage n (set best r 0) seg
+stage_set n r best seg st ok = record {
   heap = st.heap;
   places = simp length-set st.places;
   over = λ m h. go m h (ℕ_discrete m r);

@@ -10,25 +10,25 @@ use mathlib.Core.Option.{Option, none, some}
 use lib.Dec.{eqb}
 use borrow.Author.Tests.{eq-eqb, ne_eqb}
 use Rattle.network.specs.Standing.{Line}
-use Rattle.network.specs.Tree.{Entry, entry, Tree, Candidate, distance, score, far, lowest, firstOut, step, grow}
+use Rattle.network.specs.Tree.{Entry, entry, Tree, Candidate, distance, score, far, lowest, first_out, step, grow}
 use Rattle.network.specs.Tree as tr
 use Rattle.network.specs.Path.{Pass, start, stop, down, descent, onward, descend, or_zero, shortest}
-use Rattle.network.proofs.Grown.{Scored, scored, score-of, After, new, old, after, keeps, lowest-some, firstOut-some, grown, Stepped}
-use Rattle.network.proofs.Grown.{line, root, stepped, isNew}
+use Rattle.network.proofs.Grown.{Scored, scored, score_of_lem, After, new, old, after, keeps, lowest_some, first_out_some, grown, Stepped}
+use Rattle.network.proofs.Grown.{line, root, stepped, is_new}
 use Rattle.network.specs.Walk.{Ends}
 use Rattle.network.specs.Walk as walk
 use Rattle.network.proofs.Grown as gr
-use Rattle.network.proofs.Shortest.{same, never, turn, last, rising, endsOf}
-use Rattle.network.proofs.Descent.{Down, down-true, down-of, Found, found, none_found, first_found}
+use Rattle.network.proofs.Shortest.{same, never, turn, last, rising, ends_of}
+use Rattle.network.proofs.Descent.{Down, down_true, down_of, Found, found, none_found, first_found}
 use Rattle.network.specs.Sound.{Rising, Long}
-use Rattle.network.proofs.Without.{lowest-first}
+use Rattle.network.proofs.Without.{lowest_first}
 use Rattle.chains.specs.Chains.{Sound, AllSound}
-use Rattle.search.specs.Front.{back, backOf, other_of, viaOf, lineage}
-use Rattle.search.proofs.Lineage.{lineage-new, lineage-old}
+use Rattle.search.specs.Front.{back, back_of, other_of, via_of, lineage}
+use Rattle.search.proofs.Lineage.{lineage_new, lineage_old}
 
-stop-back : (t : Bool) (l : Line) → stop (backOf t l) ≡ other_of t l
-stop-back true l = refl
-stop-back false l = refl
+stop_back : (t : Bool) (l : Line) → stop (back_of t l) ≡ other_of t l
+stop_back true l = refl
+stop_back false l = refl
 
 -- run back over l from m, when m is one of its ends and u the other
 pub record Runs (l : Line) (m u : ℕ) : Type 0 where
@@ -55,17 +55,17 @@ module _ (n : ℕ) (sub : List Line) (sound : AllSound n sub) (ris : Rising sub)
   root_in zero = go (stepped sub (r ∷ []) [])
     where
       go : {es : Tree} → Stepped sub (r ∷ []) [] es → distance es r ≡ some 0
-      go (line x) = never x.sc.isIn refl
+      go (line x) = never x.sc.is_in refl
       go (root {e = e} x m) = hit (after e [] r)
         where
           hit : After e [] r → distance (e ∷ []) r ≡ some 0
-          hit (new p q) = q ∙ ap some x.zero-at
+          hit (new p q) = q ∙ ap some x.zero_at
           hit (old p q) = absurd (p (Memᴰ.eq_of_singleton m))
       go (gr.stop d f) = absurd (f r (Memᴰ.head refl) refl)
   root_in (suc k) = go (root_in k) (stepped sub (r ∷ []) (at (suc k)))
     where
       go : {es : Tree} → distance (at (suc k)) r ≡ some 0 → Stepped sub (r ∷ []) (at (suc k)) es → distance es r ≡ some 0
-      go h (line {e = e} x) = keeps e (at (suc k)) r 0 (isNew x) h
+      go h (line {e = e} x) = keeps e (at (suc k)) r 0 (is_new x) h
       go h (root {e = e} x m) = keeps e (at (suc k)) r 0 x.out h
       go h (gr.stop d f) = h
 
@@ -78,7 +78,7 @@ module _ (n : ℕ) (sub : List Line) (sound : AllSound n sub) (ris : Rising sub)
       ap (λ (z : ℕ). distance (at z) m) p ∙ go (stepped sub (r ∷ []) (at (j + k))) (extends j k m d h (j + k) refl)
     where
       go : {es : Tree} → Stepped sub (r ∷ []) (at (j + k)) es → distance (at (j + k)) m ≡ some d → distance es m ≡ some d
-      go (line {e = e} x) ih = keeps e (at (j + k)) m d (isNew x) ih
+      go (line {e = e} x) ih = keeps e (at (j + k)) m d (is_new x) ih
       go (root {e = e} x i) ih = keeps e (at (j + k)) m d x.out ih
       go (gr.stop a b) ih = ih
 
@@ -112,15 +112,15 @@ module _ (n : ℕ) (sub : List Line) (sound : AllSound n sub) (ris : Rising sub)
 
   -- ---- the line that a mark comes in by is the one that `descent` finds
 
-  module _ (k b : ℕ) (le : suc k ≤ b) (c : Candidate) (isLow : lowest (at k) sub ≡ some c) where
+  module _ (k b : ℕ) (le : suc k ≤ b) (c : Candidate) (is_low : lowest (at k) sub ≡ some c) where
     l : Line
     l = c.line
 
     sc : Scored (at k) c.line c.score
-    sc = scored (at k) c.line c.score (lowest-some (at k) sub c isLow).itsScore
+    sc = scored (at k) c.line c.score (lowest_some (at k) sub c is_low).its_score
 
     mem : Memᴰ c.line sub
-    mem = (lowest-some (at k) sub c isLow).is_line
+    mem = (lowest_some (at k) sub c is_low).is_line
 
     m : ℕ
     m = sc.away
@@ -130,20 +130,20 @@ module _ (n : ℕ) (sub : List Line) (sound : AllSound n sub) (ris : Rising sub)
 
     at_next : at (suc k) ≡ entry (far (at k) c.line) c.score (some c.line) ∷ at k
     unfolding grow step
-    at_next = rw isLow
+    at_next = rw is_low
 
     late : last (at (suc k)) ≡ c.score
     late = ap last at_next
 
     run : Runs c.line (far (at k) c.line) sc.near
-    run = runs c.line (far (at k) c.line) sc.near (sound c.line mem) (gr.ends-to (sym sc.isFar) sc.ends)
+    run = runs c.line (far (at k) c.line) sc.near (sound c.line mem) (gr.ends_to (sym sc.is_far) sc.ends)
 
-    farOut : distance (at k) (far (at k) c.line) ≡ none
-    farOut = ap (distance (at k)) sc.isFar ∙ sc.isOut
+    far_out : distance (at k) (far (at k) c.line) ≡ none
+    far_out = ap (distance (at k)) sc.is_far ∙ sc.is_out
 
     -- distances when all is in
-    here-k : distance (at (suc k)) (far (at k) c.line) ≡ some c.score
-    here-k = ap (λ (t : Tree). distance t (far (at k) c.line)) at_next ∙ hit (after en (at k) (far (at k) c.line))
+    here_k : distance (at (suc k)) (far (at k) c.line) ≡ some c.score
+    here_k = ap (λ (t : Tree). distance t (far (at k) c.line)) at_next ∙ hit (after en (at k) (far (at k) c.line))
       where
         hit : After en (at k) (far (at k) c.line) → distance (en ∷ at k) (far (at k) c.line) ≡ some c.score
         hit (new p q) = q
@@ -153,32 +153,32 @@ module _ (n : ℕ) (sub : List Line) (sound : AllSound n sub) (ris : Rising sub)
     at_b w d j h q = extends (b - j) j w d h b (omega arith)
 
     leads : down (at b) (back c.line (far (at k) c.line)) ≡ true
-    leads = down-of (at b) (back c.line (far (at k) c.line)) c.score sc.d
-        (ap (distance (at b)) run.begins ∙ at_b (far (at k) c.line) c.score (suc k) here-k le)
-        (ap (distance (at b)) run.ends ∙ at_b sc.near sc.d k sc.isIn (omega arith))
+    leads = down_of (at b) (back c.line (far (at k) c.line)) c.score sc.d
+        (ap (distance (at b)) run.begins ∙ at_b (far (at k) c.line) c.score (suc k) here_k le)
+        (ap (distance (at b)) run.ends ∙ at_b sc.near sc.d k sc.is_in (omega arith))
         (ap (λ (z : Line). sc.d + z.length) run.its ∙ sym sc.sum)
 
     -- whatever else leads down there has no lower number
     not_lower : (p : Pass) → Found (at b) (far (at k) c.line) sub p → (c.line ≡ p.line) ⊎ (c.line.number < p.line.number)
-    not_lower p f = lowest-first (at k) sub ris c isLow p.line f.is_line sco
+    not_lower p f = lowest_first (at k) sub ris c is_low p.line f.is_line sco
       where
         w : Down (at b) p
-        w = down-true (at b) p f.leads
+        w = down_true (at b) p f.leads
 
-        isD : w.d ≡ c.score
-        isD = same w.at_start (ap (distance (at b)) f.begins ∙ at_b (far (at k) c.line) c.score (suc k) here-k le)
+        is_d : w.d ≡ c.score
+        is_d = same w.at_start (ap (distance (at b)) f.begins ∙ at_b (far (at k) c.line) c.score (suc k) here_k le)
 
         lt : w.e < last (at (suc k))
-        lt = omega (arith, late, isD, w.sum, (sound p.line f.is_line).long)
+        lt = omega (arith, late, is_d, w.sum, (sound p.line f.is_line).long)
 
-        inNext : distance (at (suc k)) (stop p) ≡ some w.e
-        inNext = (early (b - suc k) k b (omega arith)).1 (stop p) w.e w.atStop lt
+        in_next : distance (at (suc k)) (stop p) ≡ some w.e
+        in_next = (early (b - suc k) k b (omega arith)).1 (stop p) w.e w.at_stop lt
 
-        inOld : distance (at k) (stop p) ≡ some w.e
-        inOld = hit (after en (at k) (stop p))
+        in_old : distance (at k) (stop p) ≡ some w.e
+        in_old = hit (after en (at k) (stop p))
           where
             there : distance (en ∷ at k) (stop p) ≡ some w.e
-            there = ap (λ (t : Tree). distance t (stop p)) (sym at_next) ∙ inNext
+            there = ap (λ (t : Tree). distance t (stop p)) (sym at_next) ∙ in_next
 
             hit : After en (at k) (stop p) → distance (at k) (stop p) ≡ some w.e
             hit (new z q) = absurd (omega (arith, same q there, lt, late))
@@ -186,20 +186,20 @@ module _ (n : ℕ) (sub : List Line) (sound : AllSound n sub) (ris : Rising sub)
 
         sco : score (at k) p.line ≡ some c.score
         sco =
-            score-of (at k) p.line (stop p) (start p) w.e (turn (endsOf p)) inOld (ap (distance (at k)) f.begins ∙ farOut)
-            ∙ ap some (w.sum ∙ isD)
+            score_of_lem (at k) p.line (stop p) (start p) w.e (turn (ends_of p)) in_old (ap (distance (at k)) f.begins ∙ far_out)
+            ∙ ap some (w.sum ∙ is_d)
 
     pub finds : descent (at b) (far (at k) c.line) sub ≡ some (back c.line (far (at k) c.line))
     finds = go (descent (at b) (far (at k) c.line) sub) refl
       where
-        memB : Memᴰ (back c.line (far (at k) c.line)).line sub
-        memB = Memᴰ.cast run.its mem
+        mem_b : Memᴰ (back c.line (far (at k) c.line)).line sub
+        mem_b = Memᴰ.cast run.its mem
 
         go : (o : Option Pass) → descent (at b) (far (at k) c.line) sub ≡ o → o ≡ some (back c.line (far (at k) c.line))
         go none x =
-            absurd (none_found (at b) (far (at k) c.line) sub x (back c.line (far (at k) c.line)) memB run.begins leads)
+            absurd (none_found (at b) (far (at k) c.line) sub x (back c.line (far (at k) c.line)) mem_b run.begins leads)
         go (some p) x =
-            pick (first_found (at b) (far (at k) c.line) sub p ris long x (back c.line (far (at k) c.line)) memB
+            pick (first_found (at b) (far (at k) c.line) sub p ris long x (back c.line (far (at k) c.line)) mem_b
             run.begins leads)
             (not_lower p (found (at b) (far (at k) c.line) sub p x))
           where
@@ -210,77 +210,77 @@ module _ (n : ℕ) (sub : List Line) (sound : AllSound n sub) (ris : Rising sub)
             pick (inl lt) (inr g) = absurd (omega (arith, lt, ap (λ (z : Line). z.number) run.its, g))
 
     -- one mark more
-    descend-new : ((u d f : ℕ) → distance (at k) u ≡ some d → d ≤ f → descend sub (at b) f u ≡ lineage (at k) u)
+    descend_new : ((u d f : ℕ) → distance (at k) u ≡ some d → d ≤ f → descend sub (at b) f u ≡ lineage (at k) u)
         → (f : ℕ) → c.score ≤ f → descend sub (at b) f (far (at k) c.line) ≡ back c.line (far (at k) c.line) ∷ lineage (at k)
         sc.near
     unfolding descend
-    descend-new ih zero h = absurd (omega (arith, sc.sum, (sound c.line mem).long))
-    descend-new ih (suc f) h =
+    descend_new ih zero h = absurd (omega (arith, sc.sum, (sound c.line mem).long))
+    descend_new ih (suc f) h =
         ap (λ (o : Option Pass). onward o (λ z. descend sub (at b) f z)) finds
         ∙ ap (λ (z : ℕ). back c.line (far (at k) c.line) ∷ descend sub (at b) f z) run.ends
         ∙ ap (λ (w : List Pass). back c.line (far (at k) c.line) ∷ w)
-        (ih sc.near sc.d f sc.isIn (omega (arith, sc.sum, (sound c.line mem).long)))
+        (ih sc.near sc.d f sc.is_in (omega (arith, sc.sum, (sound c.line mem).long)))
 
-    lineage-here : lineage (en ∷ at k) (far (at k) c.line) ≡ back c.line (far (at k) c.line) ∷ lineage (at k) sc.near
-    lineage-here = lineage-new en (at k) (far (at k) c.line) refl
+    lineage_here : lineage (en ∷ at k) (far (at k) c.line) ≡ back c.line (far (at k) c.line) ∷ lineage (at k) sc.near
+    lineage_here = lineage_new en (at k) (far (at k) c.line) refl
         ∙ ap (λ (z : ℕ). back c.line (far (at k) c.line) ∷ lineage (at k) z)
-        (sym (stop-back (eqb c.line.from (far (at k) c.line)) c.line) ∙ run.ends)
+        (sym (stop_back (eqb c.line.from (far (at k) c.line)) c.line) ∙ run.ends)
 
-    pub by-line : ((u d f : ℕ) → distance (at k) u ≡ some d → d ≤ f → descend sub (at b) f u ≡ lineage (at k) u)
+    pub by_line_lem : ((u d f : ℕ) → distance (at k) u ≡ some d → d ≤ f → descend sub (at b) f u ≡ lineage (at k) u)
         → (x d f : ℕ) → distance (en ∷ at k) x ≡ some d → d ≤ f → descend sub (at b) f x ≡ lineage (en ∷ at k) x
-    by-line ih x d f h q = go (after en (at k) x)
+    by_line_lem ih x d f h q = go (after en (at k) x)
       where
         go : After en (at k) x → descend sub (at b) f x ≡ lineage (en ∷ at k) x
         go (new p s) =
             subst (λ (z : ℕ). descend sub (at b) f z ≡ lineage (en ∷ at k) z) p
-            (descend-new ih f (omega (arith, same s h)) ∙ sym lineage-here)
-        go (old p s) = ih x d f (sym s ∙ h) q ∙ sym (lineage-old en (at k) x p)
+            (descend_new ih f (omega (arith, same s h)) ∙ sym lineage_here)
+        go (old p s) = ih x d f (sym s ∙ h) q ∙ sym (lineage_old en (at k) x p)
 
   -- ---- nothing leads down from the root
 
-  descend-root : (b f : ℕ) → distance (at b) r ≡ some 0 → descend sub (at b) f r ≡ []
+  descend_root : (b f : ℕ) → distance (at b) r ≡ some 0 → descend sub (at b) f r ≡ []
   unfolding descend
-  descend-root b zero h = refl
-  descend-root b (suc f) h = go (descent (at b) r sub) refl
+  descend_root b zero h = refl
+  descend_root b (suc f) h = go (descent (at b) r sub) refl
     where
       go : (o : Option Pass) → descent (at b) r sub ≡ o → onward o (λ z. descend sub (at b) f z) ≡ []
       go none x = refl
       go (some p) x =
           let w = found (at b) r sub p x in
-          let d = down-true (at b) p w.leads in
+          let d = down_true (at b) p w.leads in
           absurd (omega (arith, d.sum, same d.at_start (ap (distance (at b)) w.begins ∙ h), (sound p.line w.is_line).long))
 
-  by-root : (k b : ℕ) → suc k ≤ b → (e : Entry) → e.mark ≡ r → e.by ≡ none
+  by_root : (k b : ℕ) → suc k ≤ b → (e : Entry) → e.mark ≡ r → e.by ≡ none
       → ((u d f : ℕ) → distance (at k) u ≡ some d → d ≤ f → descend sub (at b) f u ≡ lineage (at k) u)
       → (x d f : ℕ) → distance (e ∷ at k) x ≡ some d → d ≤ f → descend sub (at b) f x ≡ lineage (e ∷ at k) x
-  by-root k b le e er eb ih x d f h q = go (after e (at k) x)
+  by_root k b le e er eb ih x d f h q = go (after e (at k) x)
     where
       go : After e (at k) x → descend sub (at b) f x ≡ lineage (e ∷ at k) x
       go (new p s) =
-          ap (descend sub (at b) f) (sym p ∙ er) ∙ descend-root b f (extends (b - 1) 1 r 0 (root_in 0) b (omega arith))
-          ∙ sym (lineage-new e (at k) x p ∙ ap (λ (o : Option Line). viaOf o x (λ z. lineage (at k) z)) eb)
-      go (old p s) = ih x d f (sym s ∙ h) q ∙ sym (lineage-old e (at k) x p)
+          ap (descend sub (at b) f) (sym p ∙ er) ∙ descend_root b f (extends (b - 1) 1 r 0 (root_in 0) b (omega arith))
+          ∙ sym (lineage_new e (at k) x p ∙ ap (λ (o : Option Line). via_of o x (λ z. lineage (at k) z)) eb)
+      go (old p s) = ih x d f (sym s ∙ h) q ∙ sym (lineage_old e (at k) x p)
 
-  pub descend-lineage : (b k : ℕ) → k ≤ b → (x d f : ℕ) → distance (at k) x ≡ some d → d ≤ f → descend sub (at b) f x ≡ lineage (at k) x
+  pub descend_lineage : (b k : ℕ) → k ≤ b → (x d f : ℕ) → distance (at k) x ≡ some d → d ≤ f → descend sub (at b) f x ≡ lineage (at k) x
   unfolding grow step distance
-  descend-lineage b zero le = λ x d f h q. never h refl
-  descend-lineage b (suc k) le = go (lowest (at k) sub) (firstOut (at k) (r ∷ [])) refl refl (descend-lineage b k (omega arith))
+  descend_lineage b zero le = λ x d f h q. never h refl
+  descend_lineage b (suc k) le = go (lowest (at k) sub) (first_out (at k) (r ∷ [])) refl refl (descend_lineage b k (omega arith))
     where
-      go : (o : Option Candidate) (p : Option ℕ) → lowest (at k) sub ≡ o → firstOut (at k) (r ∷ []) ≡ p
+      go : (o : Option Candidate) (p : Option ℕ) → lowest (at k) sub ≡ o → first_out (at k) (r ∷ []) ≡ p
           → ((u d f : ℕ) → distance (at k) u ≡ some d → d ≤ f → descend sub (at b) f u ≡ lineage (at k) u)
           → (x d f : ℕ) → distance (tr.next (at k) o p) x ≡ some d → d ≤ f → descend sub (at b) f x ≡ lineage (tr.next (at k) o p) x
-      go (some c) p a g ih = by-line k b le c a ih
-      go none (some y) a g ih = by-root k b le (entry y 0 none) (Memᴰ.eq_of_singleton (firstOut-some (at k) (r ∷ []) y g).1) refl ih
+      go (some c) p a g ih = by_line_lem k b le c a ih
+      go none (some y) a g ih = by_root k b le (entry y 0 none) (Memᴰ.eq_of_singleton (first_out_some (at k) (r ∷ []) y g).1) refl ih
       go none none a g ih = ih
 
   -- ---- the path
 
-  pub shortest-lineage : (b k x d : ℕ) → k ≤ b → distance (at k) x ≡ some d → shortest b sub x r ≡ lineage (at k) x
+  pub shortest_lineage : (b k x d : ℕ) → k ≤ b → distance (at k) x ≡ some d → shortest b sub x r ≡ lineage (at k) x
   unfolding shortest
-  shortest-lineage b k x d le h =
+  shortest_lineage b k x d le h =
       let e : distance (at b) x ≡ some d = extends (b - k) k x d h b (omega arith) in
-      descend-lineage b k le x d (or_zero (distance (at b) x)) h (omega (arith, ap or_zero e))
+      descend_lineage b k le x d (or_zero (distance (at b) x)) h (omega (arith, ap or_zero e))
 
-  pub shortest-none : (b x : ℕ) → distance (at b) x ≡ none → shortest b sub x r ≡ []
+  pub shortest_none : (b x : ℕ) → distance (at b) x ≡ none → shortest b sub x r ≡ []
   unfolding shortest descend
-  shortest-none b x h = ap (λ (f : Option ℕ). descend sub (at b) (or_zero f) x) h
+  shortest_none b x h = ap (λ (f : Option ℕ). descend sub (at b) (or_zero f) x) h

@@ -10,31 +10,31 @@ use mathlib.Core.Option.{Option, none, some, some-ne-none}
 use lib.ListN.{length, get_or, set, length-set}
 use lib.Seq.{sets}
 use lib.Dec.{eqb}
-use Rattle.book.specs.Limits.{leastLength}
+use Rattle.book.specs.Limits.{least_length}
 use Rattle.network.specs.Standing.{Line}
 use Rattle.network.specs.Tree.{Tree, distance, grow}
 use Rattle.network.specs.Path.{Pass, shortest}
 use Rattle.network.specs.Codes.{codes}
 use Rattle.chains.specs.Chains.{flip, mark_of, AllSound, Given, halves}
-use Rattle.chains.proofs.Halves.{half-ok}
-use Rattle.search.specs.Front.{came, orBy, viaOf, orPath, lineage, By, Key, Keyed, Way, rooted, onward, Leads, Put, Walked, Written}
+use Rattle.chains.proofs.Halves.{half_ok}
+use Rattle.search.specs.Front.{came, or_by, via_of, or_path, lineage, By, Key, Keyed, Way, rooted, onward, Leads, Put, Walked, Written}
 use Rattle.search.specs.Front.{Outcome, reached, cut_off}
 use Rattle.search.specs.Front as f
-use Rattle.search.proofs.Lineage.{Back, backed, root-came, way-few, code-half}
-use Rattle.search.proofs.Same.{shortest-lineage, shortest-none}
+use Rattle.search.proofs.Lineage.{Back, backed, root_came, way_few, code_half}
+use Rattle.search.proofs.Same.{shortest_lineage, shortest_none}
 
-pub length-codes : (ps : List Pass) → length (codes ps) ≡ length ps
+pub length_codes : (ps : List Pass) → length (codes ps) ≡ length ps
 unfolding codes
-length-codes [] = refl
-length-codes (p ∷ ps) = ap suc (length-codes ps)
+length_codes [] = refl
+length_codes (p ∷ ps) = ap suc (length_codes ps)
 
-lineage-none : (es : Tree) (m : ℕ) → came es m ≡ none → lineage es m ≡ []
+lineage_none : (es : Tree) (m : ℕ) → came es m ≡ none → lineage es m ≡ []
 unfolding lineage came
-lineage-none [] m h = refl
-lineage-none (e ∷ es) m h = go (eqb e.mark m) e.by h (lineage-none es m)
+lineage_none [] m h = refl
+lineage_none (e ∷ es) m h = go (eqb e.mark m) e.by h (lineage_none es m)
   where
-    go : (t : Bool) (o : Option Line) → orBy t o (came es m) ≡ none → (came es m ≡ none → lineage es m ≡ [])
-        → orPath t (viaOf o m (λ u. lineage es u)) (lineage es m) ≡ []
+    go : (t : Bool) (o : Option Line) → or_by t o (came es m) ≡ none → (came es m ≡ none → lineage es m ≡ [])
+        → or_path t (via_of o m (λ u. lineage es u)) (lineage es m) ≡ []
     go true none h ih = refl
     go true (some l) h ih = absurd (some-ne-none _ h)
     go false o h ih = ih h
@@ -55,38 +55,38 @@ module _ (n : ℕ) (sub : List Line) (sound : AllSound n sub) (roots : List ℕ)
       go ky = pick ky.by
         where
           pick : By at ends m d ky.h → Way best ends m (codes (lineage at m))
-          pick (f.root c a b) = subst (λ (p : List Pass). Way best ends m (codes p)) (sym (lineage-none at m c))
-              (rooted (omega (arith, low m (root-came n sub sound roots k m d c h))) (omega (arith, ky.key, a, b)))
+          pick (f.root c a b) = subst (λ (p : List Pass). Way best ends m (codes p)) (sym (lineage_none at m c))
+              (rooted (omega (arith, low m (root_came n sub sound roots k m d c h))) (omega (arith, ky.key, a, b)))
           pick (f.line l u du c hf lo t i s) =
               subst (λ (g : List ℕ). Way best ends m g) (sym spelt)
-              (onward (flip ky.h) u (omega (arith, (half-ok (sound l bk.is_line) hf).1)) (omega (arith, ky.key, s, ten))
+              (onward (flip ky.h) u (omega (arith, (half_ok (sound l bk.is_line) hf).1)) (omega (arith, ky.key, s, ten))
               (omega (arith, ky.key, ky.low)) (sym t) (omega (arith, ku.key, ku.low, ky.key, ky.low, s, ten))
               (ih u du (omega (arith, s, ten)) i))
             where
               bk : Back n sub sound roots at l m u
               bk = backed n sub sound roots k l u m ky.h c hf
 
-              ten : leastLength ≤ l.length
+              ten : least_length ≤ l.length
               ten = (sound l bk.is_line).long
 
               ku : Key at best ends u du
               ku = keyed u du i
 
               spelt : codes (lineage at m) ≡ flip ky.h ∷ codes (lineage at u)
-              spelt = ap codes bk.way ∙ ap (λ (x : ℕ). x ∷ codes (lineage at u)) (code-half l u m ky.h (sound l bk.is_line) hf)
+              spelt = ap codes bk.way ∙ ap (λ (x : ℕ). x ∷ codes (lineage at u)) (code_half l u m ky.h (sound l bk.is_line) hf)
 
   way_by : (f m d : ℕ) → d ≤ f → distance at m ≡ some d → Way best ends m (codes (lineage at m))
   way_by zero m d le h = way_step m d h (λ u du lt i. absurd (omega arith))
   way_by (suc f) m d le h = way_step m d h (λ u du lt i. way_by f u du (omega arith) i)
 
-  pub keyed-way : (m d : ℕ) → distance at m ≡ some d → Way best ends m (codes (lineage at m))
-  keyed-way m d h = way_by d m d (omega arith) h
+  pub keyed_way : (m d : ℕ) → distance at m ≡ some d → Way best ends m (codes (lineage at m))
+  keyed_way m d h = way_by d m d (omega arith) h
 
 -- ---- one line of the walk
 
-pub way-low : {best ends : List ℕ} {m : ℕ} {hs : List ℕ} → Way best ends m hs → m < length best
-way-low (rooted l z) = l
-way-low (onward g u l p q e s w) = l
+pub way_low : {best ends : List ℕ} {m : ℕ} {hs : List ℕ} → Way best ends m hs → m < length best
+way_low (rooted l z) = l
+way_low (onward g u l p q e s w) = l
 
 pub walk_end : {best ends : List ℕ} {m : ℕ} {hs : List ℕ} → Way best ends m hs → get_or best m 0 ≡ 0 → (out : List ℕ) (c : ℕ)
     → Put hs out out c c
@@ -94,31 +94,31 @@ walk_end (rooted l z) e out c = record { places = refl; count = omega arith }
 walk_end (onward g u l p q e s w) z out c = absurd (omega arith)
 
 -- the half that leads back from m, and the mark it leads to
-abbrev pub back-half : List ℕ → ℕ → ℕ
-back-half best m = flip (get_or best m 0 % halves)
+abbrev pub back_half : List ℕ → ℕ → ℕ
+back_half best m = flip (get_or best m 0 % halves)
 
-abbrev pub back-mark : List ℕ → List ℕ → ℕ → ℕ
-back-mark best ends m = mark_of ends (flip (get_or best m 0 % halves))
+abbrev pub back_mark : List ℕ → List ℕ → ℕ → ℕ
+back_mark best ends m = mark_of ends (flip (get_or best m 0 % halves))
 
 module _ (best ends out : List ℕ) (c m : ℕ) (pos : get_or best m 0 ≡ 0 → ⊥) where
   room_of : {hs : List ℕ} → Way best ends m hs → c + length hs ≤ length out → c < length out
   room_of (rooted l z) r = absurd (pos z)
   room_of (onward g u l p q e s w) r = omega arith
 
-  pub walk-room : Leads best ends out c m → c < length out
-  walk-room l = room_of l.way l.room
+  pub walk_room : Leads best ends out c m → c < length out
+  walk_room l = room_of l.way l.room
 
-  falls_of : {hs : List ℕ} → Way best ends m hs → get_or best (back-mark best ends m) 0 / halves < get_or best m 0 / halves
+  falls_of : {hs : List ℕ} → Way best ends m hs → get_or best (back_mark best ends m) 0 / halves < get_or best m 0 / halves
   falls_of (rooted l z) = absurd (pos z)
-  falls_of (onward g u l p q e s w) = let z : u ≡ (back-mark best ends m) = e
+  falls_of (onward g u l p q e s w) = let z : u ≡ (back_mark best ends m) = e
       ∙ ap (λ (x : ℕ). mark_of ends x) q in omega (arith, s, ap (λ (x : ℕ). get_or best x 0) z)
 
   -- "the distance falls at each step"
-  pub walk-falls : Leads best ends out c m → (t : ℕ) → get_or best m 0 / halves ≡ t → get_or best (back-mark best ends m) 0 / halves < t
-  walk-falls l t e = omega (arith, falls_of l.way)
+  pub walk_falls : Leads best ends out c m → (t : ℕ) → get_or best m 0 / halves ≡ t → get_or best (back_mark best ends m) 0 / halves < t
+  walk_falls l t e = omega (arith, falls_of l.way)
 
   next_of : {hs : List ℕ} → Way best ends m hs → halves ≤ length ends → c + length hs ≤ length out
-      → Leads best ends (set out c (back-half best m)) (c + 1) (back-mark best ends m)
+      → Leads best ends (set out c (back_half best m)) (c + 1) (back_mark best ends m)
   next_of (rooted l z) t r = absurd (pos z)
   next_of (onward g u {hs = hs} l p q e s w) t r = record {
     ends_at = t;
@@ -127,10 +127,10 @@ module _ (best ends out : List ℕ) (c m : ℕ) (pos : get_or best m 0 ≡ 0 →
     room = simp length-set (omega arith);
   }
 
-  pub walk-next : Leads best ends out c m → Leads best ends (set out c (back-half best m)) (c + 1) (back-mark best ends m)
-  walk-next l = next_of l.way l.ends_at l.room
+  pub walk_next : Leads best ends out c m → Leads best ends (set out c (back_half best m)) (c + 1) (back_mark best ends m)
+  walk_next l = next_of l.way l.ends_at l.room
 
-  pub walk_put : {out' : List ℕ} {a : ℕ} → Walked best ends (set out c (back-half best m)) out' (c + 1) (back-mark best ends m) a
+  pub walk_put : {out' : List ℕ} {a : ℕ} → Walked best ends (set out c (back_half best m)) out' (c + 1) (back_mark best ends m) a
       → Walked best ends out out' c m a
   walk_put f hs (rooted l z) = absurd (pos z)
   walk_put {out' = out'} {a = a} f hs (onward g u {hs = rest} l p q e s w) =
@@ -144,50 +144,50 @@ module _ (best ends out : List ℕ) (c m : ℕ) (pos : get_or best m 0 ≡ 0 →
 
 module _ (sub : List Line) (n : ℕ) (head next ends : List ℕ) (gv : Given sub n head next ends) (best : List ℕ) (r to : ℕ) (low : r < n)
     (places : n ≤ length best) where
-  one-root : (m : ℕ) → Memᴰ m (r ∷ []) → m < n
-  one-root m i = omega (arith, Memᴰ.eq_of_singleton i)
+  one_root : (m : ℕ) → Memᴰ m (r ∷ []) → m < n
+  one_root m i = omega (arith, Memᴰ.eq_of_singleton i)
 
-  found-way : (k d : ℕ) → k < n → Keyed (grow sub (r ∷ []) k) best ends → distance (grow sub (r ∷ []) k) to ≡ some d
+  found_way : (k d : ℕ) → k < n → Keyed (grow sub (r ∷ []) k) best ends → distance (grow sub (r ∷ []) k) to ≡ some d
       → Way best ends to (codes (shortest (n - 1) sub to r))
-  found-way k d few ky i =
+  found_way k d few ky i =
       subst (λ (p : List Pass). Way best ends to (codes p))
-      (sym (shortest-lineage n sub gv.sound gv.rising r (n - 1) k to d (omega arith) i))
-      (keyed-way n sub gv.sound (r ∷ []) k best ends places one-root ky to d i)
+      (sym (shortest_lineage n sub gv.sound gv.rising r (n - 1) k to d (omega arith) i))
+      (keyed_way n sub gv.sound (r ∷ []) k best ends places one_root ky to d i)
 
-  found-few : (k d : ℕ) → k < n → distance (grow sub (r ∷ []) k) to ≡ some d → length (shortest (n - 1) sub to r) < n
-  found-few k d few i =
+  found_few : (k d : ℕ) → k < n → distance (grow sub (r ∷ []) k) to ≡ some d → length (shortest (n - 1) sub to r) < n
+  found_few k d few i =
       omega (
         arith,
-        way-few n sub gv.sound (r ∷ []) k to,
+        way_few n sub gv.sound (r ∷ []) k to,
         ap length
-            (shortest-lineage n sub gv.sound gv.rising r (n - 1) k to d (omega arith) i),
+            (shortest_lineage n sub gv.sound gv.rising r (n - 1) k to d (omega arith) i),
       )
 
-  pub path-leads : {a : Bool} → Outcome sub n best ends r to a → a ≡ true → (out : List ℕ) → halves ≤ length ends → n ≤ length out
+  pub path_leads : {a : Bool} → Outcome sub n best ends r to a → a ≡ true → (out : List ℕ) → halves ≤ length ends → n ≤ length out
       → Leads best ends out 0 to
-  path-leads (reached x k d few ky i) e out t o = record {
+  path_leads (reached x k d few ky i) e out t o = record {
     ends_at = t;
     hs = codes (shortest (n - 1) sub to r);
-    way = found-way k d few ky i;
-    room = omega (arith, found-few k d few i, length-codes (shortest (n - 1) sub to r));
+    way = found_way k d few ky i;
+    room = omega (arith, found_few k d few i, length_codes (shortest (n - 1) sub to r));
   }
-  path-leads (cut_off x z) e out t o = absurd (true≢false (sym e ∙ x))
+  path_leads (cut_off x z) e out t o = absurd (true≢false (sym e ∙ x))
 
-  pub path-walked : {a : Bool} → Outcome sub n best ends r to a → a ≡ true → (out out' : List ℕ) (c : ℕ)
+  pub path_walked : {a : Bool} → Outcome sub n best ends r to a → a ≡ true → (out out' : List ℕ) (c : ℕ)
       → Walked best ends out out' 0 to c → Written n (shortest (n - 1) sub to r) out out' c
-  path-walked (reached x k d few ky i) e out out' c w =
-      let z = w (codes (shortest (n - 1) sub to r)) (found-way k d few ky i) in
+  path_walked (reached x k d few ky i) e out out' c w =
+      let z = w (codes (shortest (n - 1) sub to r)) (found_way k d few ky i) in
       record {
         places = z.places;
-        count = omega (arith, z.count, length-codes (shortest (n - 1) sub to r));
+        count = omega (arith, z.count, length_codes (shortest (n - 1) sub to r));
         few = omega
-            (arith, z.count, length-codes (shortest (n - 1) sub to r), found-few k d few i);
+            (arith, z.count, length_codes (shortest (n - 1) sub to r), found_few k d few i);
       }
-  path-walked (cut_off x z) e out out' c w = absurd (true≢false (sym e ∙ x))
+  path_walked (cut_off x z) e out out' c w = absurd (true≢false (sym e ∙ x))
 
-  pub path-cut : {a : Bool} → Outcome sub n best ends r to a → a ≡ false → (out : List ℕ) → Written n (shortest (n - 1) sub to r) out out 0
+  pub path_cut : {a : Bool} → Outcome sub n best ends r to a → a ≡ false → (out : List ℕ) → Written n (shortest (n - 1) sub to r) out out 0
   unfolding codes
-  path-cut (reached x k d few ky i) e out = absurd (true≢false (sym x ∙ e))
-  path-cut (cut_off x z) e out =
-      subst (λ (p : List Pass). Written n p out out 0) (sym (shortest-none n sub gv.sound gv.rising r (n - 1) to z))
+  path_cut (reached x k d few ky i) e out = absurd (true≢false (sym x ∙ e))
+  path_cut (cut_off x z) e out =
+      subst (λ (p : List Pass). Written n p out out 0) (sym (shortest_none n sub gv.sound gv.rising r (n - 1) to z))
       (record { places = refl; count = refl; few = omega arith })

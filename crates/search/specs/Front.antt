@@ -3,13 +3,13 @@ use Rattle.std.specs.Prelude.{ℕ, ◌+◌, ◌*◌, ◌-◌, ◌/◌, ◌%◌, 
 use mathlib.Core.List.{List, [], ◌∷◌, Memᴰ}
 use Rattle.std.proofs.Math.Option.{Option, none, some}
 use Rattle.std.proofs.lemmas.List.Edits.{sets}
-use Rattle.book.specs.Limits.{leastLength}
+use Rattle.book.specs.Limits.{least_length}
 use Rattle.network.specs.Standing.{Line}
 use Rattle.network.specs.Tree.{Tree, distance, grow}
 use Rattle.network.specs.Path.{Pass, pass, shortest}
 use Rattle.network.specs.Codes.{codes}
 use Rattle.chains.specs.Chains.{Half, flip, mark_of, sum_of, On, Has, Bounded, Heads, Given, halves}
-use Rattle.nearest.specs.Heap.{far, Heap, Changed, leafLimit}
+use Rattle.nearest.specs.Heap.{far, Heap, Changed, leaf_limit}
 
 -- ---- what `offer` and `relax` do, with no word of lines
 
@@ -52,7 +52,7 @@ pub record Relaxed (n : ℕ) (next ends : List ℕ) (a z : Keys) (i base : ℕ) 
 
 -- room for a search
 pub record RoomSearch (n : ℕ) (best seg : List ℕ) : Type 0 where
-  pub few : n ≤ leafLimit
+  pub few : n ≤ leaf_limit
   pub bests : n ≤ length best
   pub segs : 2 * n ≤ length seg
 
@@ -61,8 +61,8 @@ pub record RoomPath (n : ℕ) (best seg out : List ℕ) : Type 0 where
   pub outs : n ≤ length out
 
 pub record Two (n r to : ℕ) : Type 0 where
-  pub r-ok : r < n
-  pub to-ok : to < n
+  pub r_ok : r < n
+  pub to_ok : to < n
   pub apart : r ≡ to → ⊥
 
 pub record Begun (n : ℕ) (head next ends best' seg' : List ℕ) (r : ℕ) : Type 0 where
@@ -96,37 +96,37 @@ pub data Turned (n : ℕ) (head next ends : List ℕ) (a z : Keys) (to m : ℕ) 
 
 -- ---- the line by which a mark came in, and the way back by such lines
 
-abbrev pub orBy : Bool → Option Line → Option Line → Option Line
-orBy true a b = a
-orBy false a b = b
+abbrev pub or_by : Bool → Option Line → Option Line → Option Line
+or_by true a b = a
+or_by false a b = b
 
 unfoldable pub came : Tree → ℕ → Option Line
 came [] m = none
-came (e ∷ es) m = orBy (eqb e.mark m) e.by (came es m)
+came (e ∷ es) m = or_by (eqb e.mark m) e.by (came es m)
 
 -- line l run from mark m to its other end
-abbrev pub backOf : Bool → Line → Pass
-backOf true l = pass l true
-backOf false l = pass l false
+abbrev pub back_of : Bool → Line → Pass
+back_of true l = pass l true
+back_of false l = pass l false
 
 abbrev pub back : Line → ℕ → Pass
-back l m = backOf (eqb l.from m) l
+back l m = back_of (eqb l.from m) l
 
 abbrev pub other_of : Bool → Line → ℕ
 other_of true l = l.to
 other_of false l = l.from
 
-abbrev pub orPath : Bool → List Pass → List Pass → List Pass
-orPath true a b = a
-orPath false a b = b
+abbrev pub or_path : Bool → List Pass → List Pass → List Pass
+or_path true a b = a
+or_path false a b = b
 
-abbrev pub viaOf : Option Line → ℕ → (ℕ → List Pass) → List Pass
-viaOf none m go = []
-viaOf (some l) m go = back l m ∷ go (other_of (eqb l.from m) l)
+abbrev pub via_of : Option Line → ℕ → (ℕ → List Pass) → List Pass
+via_of none m go = []
+via_of (some l) m go = back l m ∷ go (other_of (eqb l.from m) l)
 
 unfoldable pub lineage : Tree → ℕ → List Pass
 lineage [] m = []
-lineage (e ∷ es) m = orPath (eqb e.mark m) (viaOf e.by m (λ u. lineage es u)) (lineage es m)
+lineage (e ∷ es) m = or_path (eqb e.mark m) (via_of e.by m (λ u. lineage es u)) (lineage es m)
 
 -- ---- the state of a search over sub when the marks of es are in
 
@@ -151,7 +151,7 @@ pub record Offer (sub : List Line) (es : Tree) (best : List ℕ) (m : ℕ) : Typ
   pub d : ℕ
   pub is_line : Memᴰ l sub
   pub half : Half l u m h
-  pub isIn : distance es u ≡ some d
+  pub is_in : distance es u ≡ some d
   pub key : get_or best m 0 ≡ (d + l.length) * halves + h
 
 -- `todo u v a`: a half from u to v with the sum a is still to be offered
@@ -188,7 +188,7 @@ Searched n head next ends best r to a = (sub : List Line) → Given sub n head n
 pub data Way (best ends : List ℕ) : ℕ → List ℕ → Type 0 where
   rooted : {m : ℕ} → m < length best → get_or best m 0 ≡ 0 → Way best ends m []
   onward : {m : ℕ} (g u : ℕ) {hs : List ℕ} → m < length best → 0 < get_or best m 0 → g ≡ flip (get_or best m 0 % halves) → u ≡ mark_of ends g
-      → get_or best u 0 / halves + leastLength ≤ get_or best m 0 / halves → Way best ends u hs → Way best ends m (g ∷ hs)
+      → get_or best u 0 / halves + least_length ≤ get_or best m 0 / halves → Way best ends u hs → Way best ends m (g ∷ hs)
 
 -- there is a way from m, and room for it from place c on
 pub record Leads (best ends out : List ℕ) (c m : ℕ) : Type 0 where

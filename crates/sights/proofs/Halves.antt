@@ -9,74 +9,74 @@ use mathlib.Core.List.{List}
 use lib.ListN.{length, get_or, set, length-set}
 use lib.Seq.{get_or-set_same, get_or-set_other}
 use lib.IntN.{ℤ, pos, nat_abs, neg_ℤ}
-use Rattle.book.specs.Limits.{mostDifference, leastLength}
-use Rattle.book.specs.Line.{fromAt, to_at, differenceAt, length_at}
-use Rattle.divisions.specs.Weight.{weightOf, mostWeight}
+use Rattle.book.specs.Limits.{most_difference, least_length}
+use Rattle.book.specs.Line.{from_at, to_at, difference_at, length_at}
+use Rattle.divisions.specs.Weight.{weight_of, most_weight}
 use Rattle.sights.specs.Sights.{Sight, sight}
 use Rattle.sights.specs.Table.{Columns, columns, InRange}
-use Rattle.sights.specs.Halves.{place_of, side_of, sightAt, HalfHere, WeightsOf}
+use Rattle.sights.specs.Halves.{place_of, side_of, sight_at, HalfHere, WeightsOf}
 use Rattle.fields.proofs.Setting.{set_all}
 
 module _ (lines : List ℤ) (h : ℕ) where
-  abbrev weightHere : ℕ
-  weightHere = weightOf (nat_abs (length_at lines (place_of h)))
+  abbrev weight_here : ℕ
+  weight_here = weight_of (nat_abs (length_at lines (place_of h)))
 
-  pub along-half : h % 2 ≡ 0 → sightAt lines h ≡ sight (nat_abs (to_at lines (place_of h))) (neg_ℤ (differenceAt lines (place_of h))) weightHere
-  unfolding sightAt
-  along-half e = rw e
+  pub along_half : h % 2 ≡ 0 → sight_at lines h ≡ sight (nat_abs (to_at lines (place_of h))) (neg_ℤ (difference_at lines (place_of h))) weight_here
+  unfolding sight_at
+  along_half e = rw e
 
-  pub against-half : (h % 2 ≡ 0 → ⊥)
-      → sightAt lines h ≡ sight (nat_abs (fromAt lines (place_of h))) (differenceAt lines (place_of h)) weightHere
-  unfolding sightAt
-  against-half e = let m : h % 2 ≡ 1 = omega arith in rw m
+  pub against_half : (h % 2 ≡ 0 → ⊥)
+      → sight_at lines h ≡ sight (nat_abs (from_at lines (place_of h))) (difference_at lines (place_of h)) weight_here
+  unfolding sight_at
+  against_half e = let m : h % 2 ≡ 1 = omega arith in rw m
 
-  either : (P : Sight → Type 0) → P (sight (nat_abs (to_at lines (place_of h))) (neg_ℤ (differenceAt lines (place_of h))) weightHere)
-      → P (sight (nat_abs (fromAt lines (place_of h))) (differenceAt lines (place_of h)) weightHere) → P (sightAt lines h)
-  unfolding sightAt
+  either : (P : Sight → Type 0) → P (sight (nat_abs (to_at lines (place_of h))) (neg_ℤ (difference_at lines (place_of h))) weight_here)
+      → P (sight (nat_abs (from_at lines (place_of h))) (difference_at lines (place_of h)) weight_here) → P (sight_at lines h)
+  unfolding sight_at
   either P a z = by (h % 2)
     where
-      by : (k : ℕ) → P (side_of k (sight (nat_abs (to_at lines (place_of h))) (neg_ℤ (differenceAt lines (place_of h))) weightHere)
-          (sight (nat_abs (fromAt lines (place_of h))) (differenceAt lines (place_of h)) weightHere))
+      by : (k : ℕ) → P (side_of k (sight (nat_abs (to_at lines (place_of h))) (neg_ℤ (difference_at lines (place_of h))) weight_here)
+          (sight (nat_abs (from_at lines (place_of h))) (difference_at lines (place_of h)) weight_here))
       by zero = a
       by (suc k) = z
 
   -- either half has the line's weight
-  weight-here : (sightAt lines h).weight ≡ weightHere
-  weight-here = either (λ s. s.weight ≡ weightHere) refl refl
+  weight_here_lem : (sight_at lines h).weight ≡ weight_here
+  weight_here_lem = either (λ s. s.weight ≡ weight_here) refl refl
 
   -- a half leads to a mark
-  pub other-low : {b n : ℕ} → HalfHere lines b n h → 0 < (sightAt lines h).other
-  other-low p = either (λ s. 0 < s.other) p.place.good.to.low p.place.good.from.low
+  pub other_low : {b n : ℕ} → HalfHere lines b n h → 0 < (sight_at lines h).other
+  other_low p = either (λ s. 0 < s.other) p.place.good.to.low p.place.good.from.low
 
 -- the weight of a line of at least 10 metres
-weight-most : (l : ℕ) → leastLength ≤ l → weightOf l ≤ mostWeight
-unfolding weightOf
-weight-most l h = div-le_of_le-mul l (omega arith)
+weight_most : (l : ℕ) → least_length ≤ l → weight_of l ≤ most_weight
+unfolding weight_of
+weight_most l h = div-le_of_le-mul l (omega arith)
 
-pub range-set : (cols : Columns) (b c o w : ℕ) (r : ℤ) → InRange cols b → o < b → nat_abs r ≤ mostDifference → w ≤ mostWeight
+pub range_set : (cols : Columns) (b c o w : ℕ) (r : ℤ) → InRange cols b → o < b → nat_abs r ≤ most_difference → w ≤ most_weight
     → InRange (columns (set cols.other c o) (set cols.rise c r) (set cols.weight c w)) b
-range-set cols b c o w r h ho hr hw = record {
-  otherIn = set_all (λ (x : ℕ). x < b) cols.other c o 0 ho h.otherIn;
-  riseIn = set_all (λ (x : ℤ). nat_abs x ≤ mostDifference) cols.rise c r (pos 0) hr h.riseIn;
-  weightIn = set_all (λ (x : ℕ). x ≤ mostWeight) cols.weight c w 0 hw h.weightIn;
+range_set cols b c o w r h ho hr hw = record {
+  other_in = set_all (λ (x : ℕ). x < b) cols.other c o 0 ho h.other_in;
+  rise_in = set_all (λ (x : ℤ). nat_abs x ≤ most_difference) cols.rise c r (pos 0) hr h.rise_in;
+  weight_in = set_all (λ (x : ℕ). x ≤ most_weight) cols.weight c w 0 hw h.weight_in;
 }
 
 -- ---- the weights of the lines, one after another
 
-pub weights-none : (lines : List ℤ) (weights : List ℕ) → WeightsOf lines 0 weights
-weights-none lines weights = record { room = zero-le; each = λ j l. absurd (omega arith) }
+pub weights_none : (lines : List ℤ) (weights : List ℕ) → WeightsOf lines 0 weights
+weights_none lines weights = record { room = zero-le; each = λ j l. absurd (omega arith) }
 
-pub weights-next : (lines : List ℤ) (i w : ℕ) (weights : List ℕ) → i < length weights → w ≡ weightOf (nat_abs (length_at lines i))
+pub weights_next : (lines : List ℤ) (i w : ℕ) (weights : List ℕ) → i < length weights → w ≡ weight_of (nat_abs (length_at lines i))
     → WeightsOf lines i weights → WeightsOf lines (i + 1) (set weights i w)
-weights-next lines i w weights l e h = record {
+weights_next lines i w weights l e h = record {
   room = simp length-set (omega arith);
   each = λ j s. ⊎_elim (λ (q : j ≡ i). rw (q, get_or-set_same weights i w 0 l) e)
       (λ (p : j < i). rw (get_or-set_other weights i j w 0 (λ q. omega arith)) (h.each j p)) (eq-or-lt_of_le (omega arith));
 }
 
 -- the weight of either half of a line
-pub half-weight : (lines : List ℤ) (b n h : ℕ) (weights : List ℕ) → HalfHere lines b n h → WeightsOf lines n weights
-    → (get_or weights (place_of h) 0 ≡ (sightAt lines h).weight) × (get_or weights (place_of h) 0 ≤ mostWeight)
-half-weight lines b n h weights p w =
+pub half_weight : (lines : List ℤ) (b n h : ℕ) (weights : List ℕ) → HalfHere lines b n h → WeightsOf lines n weights
+    → (get_or weights (place_of h) 0 ≡ (sight_at lines h).weight) × (get_or weights (place_of h) 0 ≤ most_weight)
+half_weight lines b n h weights p w =
     let e = w.each (place_of h) p.place.inside in
-    (e ∙ sym (weight-here lines h), rw e (weight-most (nat_abs (length_at lines (place_of h))) p.place.good.long.low))
+    (e ∙ sym (weight_here_lem lines h), rw e (weight_most (nat_abs (length_at lines (place_of h))) p.place.good.long.low))

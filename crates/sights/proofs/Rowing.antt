@@ -9,48 +9,48 @@ use mathlib.Core.Logic.{⊎_elim}
 use mathlib.Core.List.{List}
 use lib.ListN.{length, get_or, set}
 use lib.Seq.{get_or-set_same, get_or-set_other}
-use Rattle.divisions.specs.Weight.{mostWeight}
+use Rattle.divisions.specs.Weight.{most_weight}
 use Rattle.sights.specs.Sights.{Sight, weights}
-use Rattle.sights.proofs.Filling.{room-less}
+use Rattle.sights.proofs.Filling.{room_less}
 use Rattle.sights.specs.Table.{Columns, seen, rows, InRange, RoomUpto, Filled, weighed, taken, Rowed, RoomRows, Table, Weighable}
 
 -- the weights of the sights from place a on
-pub weighed-is : (cols : Columns) (a k : ℕ) → weights (seen cols a k) ≡ weighed cols.weight a k
+pub weighed_is : (cols : Columns) (a k : ℕ) → weights (seen cols a k) ≡ weighed cols.weight a k
 unfolding weights seen weighed
-weighed-is cols a zero = refl
-weighed-is cols a (suc k) = ap (λ (x : ℕ). get_or cols.weight a 0 + x) (weighed-is cols (suc a) k)
+weighed_is cols a zero = refl
+weighed_is cols a (suc k) = ap (λ (x : ℕ). get_or cols.weight a 0 + x) (weighed_is cols (suc a) k)
 
 -- one turn of that sum, and its end
-pub weighed-turn : (weight : List ℕ) (a e j s : ℕ) → j < e → s + weighed weight j (e - j) ≡ weighed weight a (e - a)
+pub weighed_turn : (weight : List ℕ) (a e j s : ℕ) → j < e → s + weighed weight j (e - j) ≡ weighed weight a (e - a)
     → s + get_or weight j 0 + weighed weight (j + 1) (e - (j + 1)) ≡ weighed weight a (e - a)
 unfolding weighed
-weighed-turn weight a e j s l inv =
+weighed_turn weight a e j s l inv =
     let k : e - j ≡ suc (e - (j + 1)) = omega arith in
     let i : s + weighed weight j (suc (e - (j + 1))) ≡ weighed weight a (e - a) = rw k at inv in
     rw (add-one j) (omega (arith, rw (add-one j) at i))
 
-pub weighed-end : (weight : List ℕ) (a e j s : ℕ) → e ≤ j → s + weighed weight j (e - j) ≡ weighed weight a (e - a)
+pub weighed_end : (weight : List ℕ) (a e j s : ℕ) → e ≤ j → s + weighed weight j (e - j) ≡ weighed weight a (e - a)
     → s ≡ weighed weight a (e - a)
 unfolding weighed
-weighed-end weight a e j s l inv = let k : e - j ≡ 0 = omega arith in omega (arith, rw k at inv)
+weighed_end weight a e j s l inv = let k : e - j ≡ 0 = omega arith in omega (arith, rw k at inv)
 
 module _ (sights : ℕ → List Sight) where
   pub taken_more : (v : ℕ) → taken sights (suc v) ≡ taken sights v + length (sights (suc v))
   unfolding taken
   taken_more v = refl
 
-  pub taken-le : (v k : ℕ) → taken sights v ≤ taken sights (k + v)
+  pub taken_le : (v k : ℕ) → taken sights v ≤ taken sights (k + v)
   unfolding taken
-  taken-le v zero = let e : 0 + v ≡ v = omega arith in rw e (omega arith)
-  taken-le v (suc k) = let e : suc k + v ≡ suc (k + v) = omega arith in rw e (omega (arith, taken-le v k))
+  taken_le v zero = let e : 0 + v ≡ v = omega arith in rw e (omega arith)
+  taken_le v (suc k) = let e : suc k + v ≡ suc (k + v) = omega arith in rw e (omega (arith, taken_le v k))
 
-  pub taken-up : (v b : ℕ) → v ≤ b → taken sights v ≤ taken sights b
-  taken-up v b l = let e : b - v + v ≡ b = omega arith in subst (λ (x : ℕ). taken sights v ≤ taken sights x) e (taken-le v (b - v))
+  pub taken_up : (v b : ℕ) → v ≤ b → taken sights v ≤ taken sights b
+  taken_up v b l = let e : b - v + v ≡ b = omega arith in subst (λ (x : ℕ). taken sights v ≤ taken sights x) e (taken_le v (b - v))
 
-  pub rowed-none : (first : List ℕ) (cols : Columns) (total : List ℕ) (b : ℕ) → InRange cols b
+  pub rowed_none : (first : List ℕ) (cols : Columns) (total : List ℕ) (b : ℕ) → InRange cols b
       → Rowed sights first cols total b 0 0
   unfolding taken
-  rowed-none first cols total b r =
+  rowed_none first cols total b r =
       record {
         range = r;
         next = refl;
@@ -69,13 +69,13 @@ module _ (sights : ℕ → List Sight) where
     total_here : t ≡ weights (sights (suc v))
     total_here =
         let e : r - c ≡ length (sights (suc v)) = omega arith in
-        ew ∙ ap (weighed cols'.weight c) e ∙ sym (weighed-is cols' c (length (sights (suc v)))) ∙ ap weights filled.here
+        ew ∙ ap (weighed cols'.weight c) e ∙ sym (weighed_is cols' c (length (sights (suc v)))) ∙ ap weights filled.here
 
     old : (u : ℕ) → u < v
         → (get_or first' u 0 ≡ taken sights u) × (seen cols' (taken sights u) (length (sights (suc u))) ≡ sights (suc u))
         × (get_or total' u 0 ≡ weights (sights (suc u)))
     old u s =
-        let w : taken sights u + length (sights (suc u)) ≤ c = omega (arith, h.next, taken_more u, taken-up (suc u) v s) in (
+        let w : taken sights u + length (sights (suc u)) ≤ c = omega (arith, h.next, taken_more u, taken_up (suc u) v s) in (
           rw (ef, get_or-set_other first v u c 0 (λ e. omega arith)) (h.firsts u s),
           filled.before (taken sights u) (length (sights (suc u))) w ∙ h.row_at u s,
           rw (et, get_or-set_other total v u t 0 (λ e. omega arith)) (h.totals u s),
@@ -99,8 +99,8 @@ module _ (sights : ℕ → List Sight) where
         × (get_or total' x 0 ≡ weights (sights (suc x)))) (sym e) new)
         (λ (p : u < v). old u p) (eq-or-lt_of_le q)
 
-    pub rowed-next : Rowed sights first' cols' total' b (v + 1) r
-    rowed-next = record {
+    pub rowed_next : Rowed sights first' cols' total' b (v + 1) r
+    rowed_next = record {
       range = filled.range;
       next = rw add-one (omega (arith, er, h.next, taken_more v));
       firsts = λ u s. (each u s).0;
@@ -112,8 +112,8 @@ module _ (sights : ℕ → List Sight) where
   module _ (first : List ℕ) (cols : Columns) (total first' : List ℕ) (b c : ℕ)
       (room : RoomRows sights first' cols total b)
       (h : Rowed sights first cols total b b c) (l : b < length first) (ef : first' ≡ set first b c) where
-    first-at : (u : ℕ) → u ≤ b → get_or first' u 0 ≡ taken sights u
-    first-at u s =
+    first_at : (u : ℕ) → u ≤ b → get_or first' u 0 ≡ taken sights u
+    first_at u s =
         ⊎_elim (λ (e : u ≡ b). rw (e, ef, get_or-set_same first b c 0 l) h.next)
         (λ (p : u < b). rw (ef, get_or-set_other first b u c 0 (λ e. omega arith)) (h.firsts u p)) (eq-or-lt_of_le s)
 
@@ -122,16 +122,16 @@ module _ (sights : ℕ → List Sight) where
     rows_are v s =
         let e : suc v - 1 ≡ v = omega arith in
         let k : taken sights (suc v) - taken sights v ≡ length (sights (suc v)) = omega (arith, taken_more v) in
-        rw (e, first-at v (omega arith), first-at (suc v) s, k) (h.row_at v s)
+        rw (e, first_at v (omega arith), first_at (suc v) s, k) (h.row_at v s)
 
     pub table_is : Table first' cols total b
     table_is = record {
       firsts = room.firsts;
       totals = room.totals;
-      span = λ v s. rw (add-one v, first-at v (omega arith), first-at (suc v) s)
+      span = λ v s. rw (add-one v, first_at v (omega arith), first_at (suc v) s)
           (record { order = omega (arith, taken_more v); few = omega (arith, taken_more v, room.few (suc v)) });
-      ends = λ v s. rw (add-one v, first-at (suc v) s)
-          (record { room = room-less room.upto (taken-up (suc v) b s); range = h.range });
+      ends = λ v s. rw (add-one v, first_at (suc v) s)
+          (record { room = room_less room.upto (taken_up (suc v) b s); range = h.range });
       sum = λ v s. h.totals v s ∙ ap weights (sym (rows_are v s));
     }
 
@@ -139,26 +139,26 @@ module _ (sights : ℕ → List Sight) where
   module _ (first : List ℕ) (cols : Columns) (total : List ℕ) (b v c : ℕ)
       (room : RoomRows sights first cols total b) (h : Rowed sights first cols total b v c) (l : v < b)
       (ss : List Sight) (es : ss ≡ sights (suc v)) where
-    end-here : c + length ss ≤ taken sights b
-    end-here = let e = ap length es in omega (arith, h.next, taken_more v, taken-up (suc v) b l)
+    end_here : c + length ss ≤ taken sights b
+    end_here = let e = ap length es in omega (arith, h.next, taken_more v, taken_up (suc v) b l)
 
     pub row_room : RoomUpto cols (c + length ss)
-    row_room = room-less room.upto end-here
+    row_room = room_less room.upto end_here
 
-    pub row-weights : (weight' : List ℕ) (e : ℕ) → e ≡ c + length ss → length weight' ≡ length cols.weight
-        → ((j : ℕ) → get_or weight' j 0 ≤ mostWeight) → Weighable weight' c e
-    row-weights weight' e ee k s =
+    pub row_weights : (weight' : List ℕ) (e : ℕ) → e ≡ c + length ss → length weight' ≡ length cols.weight
+        → ((j : ℕ) → get_or weight' j 0 ≤ most_weight) → Weighable weight' c e
+    row_weights weight' e ee k s =
         let f = room.few (suc v) in
         let n = ap length es in
-        record { long = omega (arith, end-here, room.upto.weighed); span = record { order = omega arith; few = omega arith }; small = s }
+        record { long = omega (arith, end_here, room.upto.weighed); span = record { order = omega arith; few = omega arith }; small = s }
 
   -- room is kept where lengths are
-  pub room-kept : (first : List ℕ) (cols : Columns) (total first' : List ℕ) (cols' : Columns) (total' : List ℕ) (b : ℕ)
+  pub room_kept : (first : List ℕ) (cols : Columns) (total first' : List ℕ) (cols' : Columns) (total' : List ℕ) (b : ℕ)
       → RoomRows sights first cols total b → length first' ≡ length first → length cols'.other ≡ length cols.other
       → length cols'.rise ≡ length cols.rise → length cols'.weight ≡ length cols.weight
       → length total' ≡ length total
       → RoomRows sights first' cols' total' b
-  room-kept first cols total first' cols' total' b h ef eo er ew et = record {
+  room_kept first cols total first' cols' total' b h ef eo er ew et = record {
     firsts = omega (arith, h.firsts);
     totals = omega (arith, h.totals);
     upto = record {

@@ -2,7 +2,7 @@
 -- Assumes nothing.
 use Rattle.std.specs.Prelude.{ℕ, ◌+◌, Bool, true, false, List, [], ◌∷◌, eqb, ℤ, pos, neg_ℤ, ◌+ℤ◌, ◌-ℤ◌, ◌*ℤ◌}
 use Rattle.network.specs.Standing.{Line}
-use Rattle.divisions.specs.Weight.{weightOf}
+use Rattle.divisions.specs.Weight.{weight_of}
 use Rattle.fields.specs.Heights.{height}
 
 -- A line as it is seen from one of its two marks: the mark at its other end, the rise from there to here, and its weight
@@ -14,17 +14,17 @@ pub record Sight : Type 0 where
 abbrev pub sight : ℕ → ℤ → ℕ → Sight
 sight o r w = record { other = o; rise = r; weight = w }
 
-abbrev pub sightIf : Bool → Sight → List Sight → List Sight
-sightIf true s rest = s ∷ rest
-sightIf false s rest = rest
+abbrev pub sight_if : Bool → Sight → List Sight → List Sight
+sight_if true s rest = s ∷ rest
+sight_if false s rest = rest
 
 -- the lines at mark m, as they are seen from it, by rising number
 unfoldable pub sights_of : List Line → ℕ → List Sight
-unfolding weightOf
+unfolding weight_of
 sights_of [] m = []
 sights_of (l ∷ ls) m =
-    sightIf (eqb l.to m) (sight l.from l.difference (weightOf l.length))
-    (sightIf (eqb l.from m) (sight l.to (neg_ℤ l.difference) (weightOf l.length))
+    sight_if (eqb l.to m) (sight l.from l.difference (weight_of l.length))
+    (sight_if (eqb l.from m) (sight l.to (neg_ℤ l.difference) (weight_of l.length))
     (sights_of ls m))
 
 -- "height given from the other end"

@@ -2,8 +2,8 @@
 -- A mark is named there by its place among the heights, one less than its number.
 -- Assumes nothing.
 use Rattle.std.specs.Prelude.{ℕ, zero, suc, ◌+◌, ◌-◌, ◌≤◌, ◌<◌, ◌≡◌, List, [], ◌∷◌, ◌++◌, length, get_or, set, ℤ, pos, nat_abs}
-use Rattle.book.specs.Limits.{mostDifference, mostLines}
-use Rattle.divisions.specs.Weight.{mostWeight}
+use Rattle.book.specs.Limits.{most_difference, most_lines}
+use Rattle.divisions.specs.Weight.{most_weight}
 use Rattle.sights.specs.Sights.{Sight, sight, weights}
 
 -- the three columns: a place has the place of the other mark, the rise from there and the weight
@@ -28,9 +28,9 @@ rows first cols m = seen cols (get_or first (m - 1) 0) (get_or first m 0 - get_o
 
 -- Marks, rises and weights in their ranges
 pub record InRange (cols : Columns) (b : ℕ) : Type 0 where
-  pub otherIn : (j : ℕ) → get_or cols.other j 0 < b
-  pub riseIn : (j : ℕ) → nat_abs (get_or cols.rise j (pos 0)) ≤ mostDifference
-  pub weightIn : (j : ℕ) → get_or cols.weight j 0 ≤ mostWeight
+  pub other_in : (j : ℕ) → get_or cols.other j 0 < b
+  pub rise_in : (j : ℕ) → nat_abs (get_or cols.rise j (pos 0)) ≤ most_difference
+  pub weight_in : (j : ℕ) → get_or cols.weight j 0 ≤ most_weight
 
 -- Room up to place e
 pub record RoomUpto (cols : Columns) (e : ℕ) : Type 0 where
@@ -46,7 +46,7 @@ pub record Ends (cols : Columns) (b e : ℕ) : Type 0 where
 -- At most 512 lines at a mark, from place a to place e
 pub record Span (a e : ℕ) : Type 0 where
   pub order : a ≤ e
-  pub few : e - a ≤ mostLines
+  pub few : e - a ≤ most_lines
 
 -- The whole table of b marks; total[m - 1] is D of mark m
 pub record Table (first : List ℕ) (cols : Columns) (total : List ℕ) (b : ℕ) : Type 0 where
@@ -99,13 +99,13 @@ pub record RoomRows (sights : ℕ → List Sight) (first : List ℕ) (cols : Col
   pub firsts : b < length first
   pub totals : b ≤ length total
   pub upto : RoomUpto cols (taken sights b)
-  pub few : (m : ℕ) → length (sights m) ≤ mostLines
+  pub few : (m : ℕ) → length (sights m) ≤ most_lines
 
 -- Weights from place a to place e, few and small enough for their sum
 pub record Weighable (weight : List ℕ) (a e : ℕ) : Type 0 where
   pub long : e ≤ length weight
   pub span : Span a e
-  pub small : (j : ℕ) → get_or weight j 0 ≤ mostWeight
+  pub small : (j : ℕ) → get_or weight j 0 ≤ most_weight
 
 -- Two tables agree on the marks 1 to b
 abbrev pub Sighted : (ℕ → List Sight) → (ℕ → List Sight) → ℕ → Type 0

@@ -1,16 +1,16 @@
 // The lines at each mark, as they are seen from it, in a table of arrays: the chains of the drawn book are written out mark by mark.
 ghost use Rattle.std.specs.Prelude.{◌≡◌, ◌+◌, ◌-◌, ◌≤◌, ◌<◌, length, nat_abs};
-ghost use Rattle.book.specs.Limits.{mostDifference};
+ghost use Rattle.book.specs.Limits.{most_difference};
 ghost use Rattle.book.specs.Line.{length_at};
 ghost use Rattle.book.specs.Good.{Lines};
 ghost use Rattle.network.specs.Standing.{standing};
 ghost use Rattle.chains.specs.Chains.{InOrder};
-ghost use Rattle.divisions.specs.Weight.{weightOf};
+ghost use Rattle.divisions.specs.Weight.{weight_of};
 ghost use Rattle.fields.specs.Places.{Place};
 ghost use Rattle.sights.specs.Sights.{sights_of};
 ghost use Rattle.sights.specs.Table.{columns, RoomUpto, InRange, Written, Filled, Weighable, weighed};
 ghost use Rattle.sights.specs.Table.{RoomRows, Table, rows, Sighted};
-ghost use Rattle.sights.specs.Halves.{sightAt, HalfHere, WeightsOf};
+ghost use Rattle.sights.specs.Halves.{sight_at, HalfHere, WeightsOf};
 
 use book::Book;
 use book::line::Line;
@@ -18,7 +18,7 @@ use book::line::Line;
 // Half h as it is seen from the mark that it leaves: the place of the mark that it leads to, and the rise from there.
 fn other_of(lines: &[i64], b: usize, n: usize, h: usize) -> usize
     requires { HalfHere lines.now b n h }
-    ensures { (result ≡ (sightAt lines.now h).other - 1) × (result < b) }
+    ensures { (result ≡ (sight_at lines.now h).other - 1) × (result < b) }
 {
     let at = (h / 2 - 1) * Line::WORDS;
     if h % 2 == 0 {
@@ -30,7 +30,7 @@ fn other_of(lines: &[i64], b: usize, n: usize, h: usize) -> usize
 
 fn rise_of(lines: &[i64], b: usize, n: usize, h: usize) -> i64
     requires { HalfHere lines.now b n h }
-    ensures { (result ≡ (sightAt lines.now h).rise) × (nat_abs result ≤ mostDifference) }
+    ensures { (result ≡ (sight_at lines.now h).rise) × (nat_abs result ≤ most_difference) }
 {
     let d = lines[(h / 2 - 1) * Line::WORDS + Line::DIFFERENCE];
     if h % 2 == 0 { signed::sub(0, d) } else { d }
@@ -39,7 +39,7 @@ fn rise_of(lines: &[i64], b: usize, n: usize, h: usize) -> i64
 // The weight of the line at place i.
 fn weight_of(lines: &[i64], b: usize, n: usize, i: usize) -> usize
     requires { Place lines.now b n i }
-    ensures { result ≡ weightOf (nat_abs (length_at lines.now i)) }
+    ensures { result ≡ weight_of (nat_abs (length_at lines.now i)) }
 {
     divisions::weight(signed::index(lines[i * Line::WORDS + Line::LENGTH]))
 }
@@ -74,7 +74,7 @@ fn write_half(
     requires fact_3 { RoomUpto (columns other.old rise.old weight.old) (c + 1) }
     requires fact_4 { InRange (columns other.old rise.old weight.old) b }
     ensures fact_1 { Written (columns other.old rise.old weight.old)
-        (columns other.new rise.new weight.new) c (sightAt lines.now h) }
+        (columns other.new rise.new weight.new) c (sight_at lines.now h) }
     ensures fact_2 { InRange (columns other.new rise.new weight.new) b }
 {
     other[c] = other_of(lines, b, n, h);

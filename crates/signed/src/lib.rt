@@ -2,17 +2,17 @@
 // whose contracts speak of whole numbers and not of bits.
 ghost use Rattle.std.specs.Prelude.{◌≡◌, false, ℤ, pos, nat_abs, ◌+ℤ◌, ◌-ℤ◌, ◌*ℤ◌, ◌+◌, ◌*◌, ◌<◌, ◌^◌};
 ghost use Rattle.std.specs.Int.Signed.{lt_z};
-ghost use Rattle.laws.specs.Tests.{outZ, eqZ, outN};
+ghost use Rattle.laws.specs.Tests.{out_z, eq_z, out_n};
 
 // Whether x < lo or hi < x.
 pub fn outside(x: i64, lo: i64, hi: i64) -> bool
-    ensures { result ≡ outZ lo hi x }
+    ensures { result ≡ out_z lo hi x }
 {
     if x < lo { true } else { hi < x }
 }
 
 pub fn same(x: i64, y: i64) -> bool
-    ensures { result ≡ eqZ x y }
+    ensures { result ≡ eq_z x y }
 {
     x == y
 }
@@ -27,7 +27,7 @@ pub fn index(x: i64) -> usize
 
 // Whether n < lo or hi < n, of counts.
 pub fn outside_count(n: usize, lo: usize, hi: usize) -> bool
-    ensures { result ≡ outN lo hi n }
+    ensures { result ≡ out_n lo hi n }
 {
     if n < lo { true } else { hi < n }
 }

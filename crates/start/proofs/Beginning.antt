@@ -12,36 +12,36 @@ use lib.IntN.{ℤ, pos}
 use Rattle.network.specs.Standing.{standing}
 use Rattle.network.specs.Tree.{tree}
 use Rattle.fields.specs.Heights.{height}
-use Rattle.start.specs.Start.{heldHeight, rootedBy, start_of, heightsFrom, start, startHeights}
+use Rattle.start.specs.Start.{held_height, rooted_by, start_of, heights_from, start, start_heights}
 
 -- one place more
-pub fill-next : {A : Type 0} (d : A) (f : ℕ → A) (l : List A) (v : ℕ) (x : A) → v < length l → x ≡ f v
+pub fill_next : {A : Type 0} (d : A) (f : ℕ → A) (l : List A) (v : ℕ) (x : A) → v < length l → x ≡ f v
     → ((u : ℕ) → u < v → get_or l u d ≡ f u) → (u : ℕ) → u < v + 1 → get_or (set l v x) u d ≡ f u
-fill-next d f l v x h e g u s =
+fill_next d f l v x h e g u s =
     let q : u ≤ v = omega arith in
     ⊎_elim (λ (p : u ≡ v). rw (p, get_or-set_same l v x d h) e) (λ (p : u < v). rw (get_or-set_other l v u x d (λ r. omega arith)) (g u p))
     (eq-or-lt_of_le q)
 
 -- the heights of k marks from m on
-length_from : (f : ℕ → ℤ) (m k : ℕ) → length (heightsFrom f m k) ≡ k
-unfolding heightsFrom
+length_from : (f : ℕ → ℤ) (m k : ℕ) → length (heights_from f m k) ≡ k
+unfolding heights_from
 length_from f m zero = refl
 length_from f m (suc k) = ap suc (length_from f (suc m) k)
 
-at_from : (f : ℕ → ℤ) (m k i : ℕ) → i < k → get_or (heightsFrom f m k) i (pos 0) ≡ f (m + i)
-unfolding heightsFrom
+at_from : (f : ℕ → ℤ) (m k i : ℕ) → i < k → get_or (heights_from f m k) i (pos 0) ≡ f (m + i)
+unfolding heights_from
 at_from f m zero i l = absurd (omega arith)
 at_from f m (suc k) zero l = rw add-zero
 at_from f m (suc k) (suc i) l = at_from f (suc m) k i (omega arith) ∙ ap f (omega arith)
 
-pub start-length : (b : ℕ) (held lines : List ℤ) → length (startHeights b held lines) ≡ b
-unfolding startHeights start
-start-length b held lines = length_from (λ m. start_of (rootedBy (tree b (standing lines))) (heldHeight held) b m) 1 b
+pub start_length : (b : ℕ) (held lines : List ℤ) → length (start_heights b held lines) ≡ b
+unfolding start_heights start
+start_length b held lines = length_from (λ m. start_of (rooted_by (tree b (standing lines))) (held_height held) b m) 1 b
 
-pub start-height : (b : ℕ) (held lines : List ℤ) (m : ℕ) → 0 < m → m ≤ b
-    → height (startHeights b held lines) m ≡ start_of (rootedBy (tree b (standing lines))) (heldHeight held) b m
-unfolding startHeights start
-start-height b held lines m l u =
-    let f : ℕ → ℤ = λ k. start_of (rootedBy (tree b (standing lines))) (heldHeight held) b k in
+pub start_height : (b : ℕ) (held lines : List ℤ) (m : ℕ) → 0 < m → m ≤ b
+    → height (start_heights b held lines) m ≡ start_of (rooted_by (tree b (standing lines))) (held_height held) b m
+unfolding start_heights start
+start_height b held lines m l u =
+    let f : ℕ → ℤ = λ k. start_of (rooted_by (tree b (standing lines))) (held_height held) b k in
     let e : 1 + (m - 1) ≡ m = omega arith in
     at_from f 1 b (m - 1) (omega arith) ∙ ap f e

@@ -1,13 +1,13 @@
 // The heights before the first sweep: document 01, "Adjustment", "Start". The tree comes as it was planted: `order` has the marks as they
 // enter, `best` of each mark a key that ends with the half by which it came in.
 ghost use Rattle.std.specs.Prelude.{◌≡◌, cond, ◌+◌, ◌≤◌, ◌<◌, length};
-ghost use Rattle.book.specs.Limits.{mostMarks, mostHeldHeight};
+ghost use Rattle.book.specs.Limits.{most_marks, most_held_height};
 ghost use Rattle.book.specs.Good.{Lines, HeldEntries};
-ghost use Rattle.laws.specs.Scan.{firstBad};
-ghost use Rattle.start.specs.Along.{Growth, cameIn, rooting, spots, Spotted, Spot, Placing, Given, heldFrom, HeldPlace};
-ghost use Rattle.start.specs.Along.{rootsFrom, mostRoot, gives, HeldIn, Known, Seeded};
+ghost use Rattle.laws.specs.Scan.{first_bad};
+ghost use Rattle.start.specs.Along.{Growth, came_in, rooting, spots, Spotted, Spot, Placing, Given, held_from, HeldPlace};
+ghost use Rattle.start.specs.Along.{roots_from, most_root, gives, HeldIn, Known, Seeded};
 ghost use Rattle.start.specs.Along.{Rooting, Based, unheld, start_at, Begun, Blank, Bare, Started, Raised};
-ghost use Rattle.start.specs.Start.{heldHeight};
+ghost use Rattle.start.specs.Start.{held_height};
 
 use book::Book;
 use book::held::Held;
@@ -36,8 +36,8 @@ fn come_in(
 ) -> Rooted
     requires fact_1 { Lines lines.now b n }
     requires fact_2 { Spotted root.now over.now b k }
-    requires fact_3 { (0 < m) × (m ≤ b) × (j ≤ n) × (k ≤ mostMarks) }
-    ensures { Spot (cameIn (spots root.now over.now) lines.now m j) b (k + 1) result.root
+    requires fact_3 { (0 < m) × (m ≤ b) × (j ≤ n) × (k ≤ most_marks) }
+    ensures { Spot (came_in (spots root.now over.now) lines.now m j) b (k + 1) result.root
         result.over }
 {
     if j == 0 {
@@ -72,7 +72,7 @@ fn enter(
     requires fact_1 { Lines lines.now b n }
     requires fact_2 { Growth order.now best.now b n }
     requires fact_3 { Placing (rooting lines.now order.now best.now k) root.old over.old b k }
-    requires fact_4 { (k < b) × (b ≤ mostMarks) }
+    requires fact_4 { (k < b) × (b ≤ most_marks) }
     ensures { Placing (rooting lines.now order.now best.now (k + 1)) root.new
         over.new b (k + 1) }
 {
@@ -98,7 +98,7 @@ fn place_all(
     requires fact_1 { Lines lines.now b n }
     requires fact_2 { Growth order.now best.now b n }
     requires fact_3 { Placing (rooting lines.now order.now best.now 0) root.old over.old b 0 }
-    requires fact_4 { b ≤ mostMarks }
+    requires fact_4 { b ≤ most_marks }
     ensures { Placing (rooting lines.now order.now best.now b) root.new
         over.new b b }
 {
@@ -112,8 +112,8 @@ fn place_all(
 // The held entry at place i: its mark has its height.
 fn hold(held: &[i64], flags: &mut [bool], own: &mut [i64], b: usize, i: usize)
     requires fact_1 { HeldPlace held.now b i }
-    requires fact_2 { Given (heldFrom held.now (i + 1)) flags.old own.old b mostHeldHeight }
-    ensures { Given (heldFrom held.now i) flags.new own.new b mostHeldHeight }
+    requires fact_2 { Given (held_from held.now (i + 1)) flags.old own.old b most_held_height }
+    ensures { Given (held_from held.now i) flags.new own.new b most_held_height }
 {
     let at = i * Held::WORDS;
     let v = signed::index(held[at + Held::MARK]) - 1;
@@ -126,7 +126,7 @@ fn hold(held: &[i64], flags: &mut [bool], own: &mut [i64], b: usize, i: usize)
 pub fn hold_all(held: &[i64], flags: &mut [bool], own: &mut [i64], b: usize, h: usize)
     requires fact_1 { HeldEntries held.now b h }
     requires fact_2 { Blank flags.old own.old b }
-    ensures { Given (heldHeight held.now) flags.new own.new b mostHeldHeight }
+    ensures { Given (held_height held.now) flags.new own.new b most_held_height }
 {
     let mut i = h;
     while 0 < i {
@@ -148,9 +148,9 @@ fn lift(
 )
     requires fact_1 { v < b }
     requires fact_2 { Known flags.now own.now root.now over.now b }
-    requires fact_3 { Given (rootsFrom (spots root.now over.now) (gives flags.now own.now) b (v + 1)) has.old base.old b mostRoot }
-    ensures { Given (rootsFrom (spots root.now over.now) (gives flags.now own.now) b
-        v) has.new base.new b mostRoot }
+    requires fact_3 { Given (roots_from (spots root.now over.now) (gives flags.now own.now) b (v + 1)) has.old base.old b most_root }
+    ensures { Given (roots_from (spots root.now over.now) (gives flags.now own.now) b
+        v) has.new base.new b most_root }
 {
     if flags[v] {
         let r = root[v] - 1;
@@ -171,9 +171,9 @@ fn lift_all(
     b: usize,
 )
     requires fact_1 { Known flags.now own.now root.now over.now b }
-    requires fact_2 { Given (rootsFrom (spots root.now over.now) (gives flags.now own.now) b b) has.old base.old b mostRoot }
-    ensures { Given (rootsFrom (spots root.now over.now) (gives flags.now own.now) b
-        0) has.new base.new b mostRoot }
+    requires fact_2 { Given (roots_from (spots root.now over.now) (gives flags.now own.now) b b) has.old base.old b most_root }
+    ensures { Given (roots_from (spots root.now over.now) (gives flags.now own.now) b
+        0) has.new base.new b most_root }
 {
     let mut v = b;
     while 0 < v {
@@ -198,7 +198,7 @@ fn seed(root: &mut [usize], b: usize)
 fn first_unheld(root: &[usize], has: &[bool], b: usize) -> usize
     requires fact_1 { Rooting root.now b }
     requires fact_2 { length has.now ≡ b }
-    ensures { result ≡ firstBad (unheld root.now has.now) b }
+    ensures { result ≡ first_bad (unheld root.now has.now) b }
 {
     let mut v = 0;
     while v < b {

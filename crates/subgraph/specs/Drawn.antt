@@ -1,7 +1,7 @@
 -- The subgraph of document 01, "the tree with the closing lines added so far", as chains. Assumes nothing.
 use Rattle.std.specs.Prelude.{ℕ, ◌-◌, ◌/◌, ◌%◌, ◌≤◌, ◌<◌, ◌≡◌, List, length}
 use Rattle.network.specs.Standing.{Line}
-use Rattle.network.specs.Tree.{tree, treeLines}
+use Rattle.network.specs.Tree.{tree, tree_lines}
 use Rattle.network.specs.Subgraph.{only, numbers}
 use Rattle.chains.specs.Chains.{Drawn, halves}
 use Rattle.chains.specs.Link.{RoomChains, Joined}
@@ -15,7 +15,7 @@ pub data Laid (ends head next head' next' : List ℕ) (key r : ℕ) : Type 0 whe
 
 -- the order of entry of the marks below n, and room for the chains of their tree
 pub record RoomLay (n : ℕ) (best order head next : List ℕ) : Type 0 where
-  pub some-mark : 0 < n
+  pub some_mark : 0 < n
   pub bests : n ≤ length best
   pub orders : n ≤ length order
   pub below : Below n order
@@ -23,8 +23,8 @@ pub record RoomLay (n : ℕ) (best order head next : List ℕ) : Type 0 where
 
 -- the chains hold the tree's lines, which are r
 pub record TreeDrawn (lines : List Line) (n : ℕ) (head next : List ℕ) (r : ℕ) : Type 0 where
-  pub drawn : Drawn (only (numbers (treeLines (tree (n - 1) lines))) lines) n head next
-  pub count : r ≡ length (treeLines (tree (n - 1) lines))
+  pub drawn : Drawn (only (numbers (tree_lines (tree (n - 1) lines))) lines) n head next
+  pub count : r ≡ length (tree_lines (tree (n - 1) lines))
 
 abbrev pub TreeLaid : ℕ → List ℕ → List ℕ → List ℕ → List ℕ → List ℕ → ℕ → Type 0
 TreeLaid n ends best order head next r =

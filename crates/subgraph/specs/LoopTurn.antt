@@ -5,9 +5,9 @@ use Rattle.std.specs.Prelude.{ℕ, suc, ◌-◌, ◌≡◌, false, length, get_o
 use mathlib.Core.List.{List, [], ◌∷◌, ◌++◌, Memᴰ}
 use Rattle.network.specs.Standing.{Line}
 use Rattle.network.specs.Path.{shortest}
-use Rattle.network.specs.Subgraph.{isIn, only}
+use Rattle.network.specs.Subgraph.{is_in, only}
 use Rattle.network.specs.ClosingOrder.{Distinct}
-use Rattle.loops.specs.Loops.{Loop, added, loopsFrom, loops}
+use Rattle.loops.specs.Loops.{Loop, added, loops_from, loops}
 use Rattle.chains.specs.Chains.{Bounded, Drawn}
 use Rattle.chains.specs.Listed.{Listed}
 use Rattle.search.specs.Front.{RoomPath, Written}
@@ -17,7 +17,7 @@ pub record Taking (lines : List Line) (sub : List ℕ) (c : Line) (n q number : 
   pub listed : Listed lines n q ends
   pub drawn : Drawn (only sub lines) n head next
   pub is_line : Memᴰ c lines
-  pub notYet : isIn c.number sub ≡ false
+  pub not_yet : is_in c.number sub ≡ false
   pub its : c.number ≡ number
 
 -- what the turn asks for: room, and that there is such a line
@@ -52,15 +52,15 @@ Taken n number ends a z count =
 -- ---- how far the turns have come: these loops are done, these closing lines are left, and the subgraph has the lines sub
 
 pub record Reached (b : ℕ) (lines : List Line) (done : List Loop) (rest : List Line) (sub : List ℕ) : Type 0 where
-  pub all : loops b lines ≡ done ++ loopsFrom b lines rest sub
+  pub all : loops b lines ≡ done ++ loops_from b lines rest sub
   pub lines_left : (c : Line) → Memᴰ c rest → Memᴰ c lines
   pub differ : Distinct rest
-  pub notYet : (c : Line) → Memᴰ c rest → isIn c.number sub ≡ false
+  pub not_yet : (c : Line) → Memᴰ c rest → is_in c.number sub ≡ false
 
 -- from place i on the numbers of the closing lines cs
 pub data Queue (close : List ℕ) : ℕ → List Line → Type 0 where
   empty : {i : ℕ} → Queue close i []
-  next-is : {i : ℕ} {c : Line} {cs : List Line} → get_or close i 0 ≡ c.number → Queue close (suc i) cs → Queue close i (c ∷ cs)
+  next_is : {i : ℕ} {c : Line} {cs : List Line} → get_or close i 0 ≡ c.number → Queue close (suc i) cs → Queue close i (c ∷ cs)
 
 -- after the first i loops: what is done, what is left, and the subgraph then
 pub record Going (n i : ℕ) (lines : List Line) (close head next : List ℕ) : Type 0 where

@@ -1,13 +1,13 @@
 // Re-run and withdrawal of a line of a tested book.
 ghost use Rattle.std.specs.Prelude.{◌≡◌, ◌≤◌, ◌<◌, nat_abs};
 ghost use Rattle.laws.specs.Range.{Between};
-ghost use Rattle.book.specs.Limits.{mostDifference, mostLines};
-ghost use Rattle.book.specs.Line.{lineWords};
+ghost use Rattle.book.specs.Limits.{most_difference, most_lines};
+ghost use Rattle.book.specs.Line.{line_words};
 ghost use Rattle.book.specs.Good.{GoodLines};
 ghost use Rattle.loops.specs.Report.{loops_of};
 ghost use Rattle.table.specs.Filled.{RoomTable};
-ghost use Rattle.survey.specs.Kept.{keptOf, OwnTable, Refresh, Refreshed};
-ghost use Rattle.survey.specs.Correction.{noLine, place_of, rerunLines, withdrawLines, corrected, correctGood};
+ghost use Rattle.survey.specs.Kept.{kept_of, OwnTable, Refresh, Refreshed};
+ghost use Rattle.survey.specs.Correction.{no_line, place_of, rerun_lines, withdraw_lines, corrected, correct_good};
 
 use crate::{Answer, report};
 use book::line::Line;
@@ -23,7 +23,7 @@ pub enum Kept {
 
 // Whether no line of this number stands.
 fn no_line(lines: &[i64], number: i64) -> bool
-    ensures { result ≡ noLine lines.now number }
+    ensures { result ≡ no_line lines.now number }
 {
     let n = lines.len() / Line::WORDS;
     if signed::outside(number, 1, signed::signed_count(n)) {
@@ -44,7 +44,7 @@ fn kept_report(
 ) -> Kept
     requires fact_1 { GoodLines book lines.now }
     requires fact_2 { RoomTable starts.old runs.old }
-    ensures fact_1 { result ≡ keptOf book lines.now report.now number }
+    ensures fact_1 { result ≡ kept_of book lines.now report.now number }
     ensures fact_2 { OwnTable result (loops_of book.marks lines.now) starts.new runs.new }
 {
     if no_line(lines, number) {
@@ -63,14 +63,14 @@ fn kept_report(
 
 // Where number k of the line of this number stands in the book.
 fn place_of(number: i64, k: usize) -> usize
-    requires fact_1 { Between 1 mostLines number }
-    requires fact_2 { k < lineWords }
+    requires fact_1 { Between 1 most_lines number }
+    requires fact_2 { k < line_words }
     ensures { result ≡ place_of number k }
 {
     (signed::magnitude(number) - 1) * Line::WORDS + k
 }
 
-// Refusals 8 and 9, or the line's difference is set and the report brought up to date. A re-run keeps every loop's lines, so that the
+// Refusals 8 and 9, or the line's difference is set and the report brought up to date. A re_run keeps every loop's lines, so that the
 // loops are found once.
 pub(crate) fn rerun_good(
     book: Book,
@@ -80,9 +80,9 @@ pub(crate) fn rerun_good(
     difference: i64,
 ) -> Answer
     requires fact_1 { GoodLines book lines.old }
-    requires fact_2 { nat_abs difference ≤ mostDifference }
+    requires fact_2 { nat_abs difference ≤ most_difference }
     ensures { corrected result lines.new report.new
-        ≡ correctGood book lines.old report.old number (rerunLines lines.old number difference) }
+        ≡ correct_good book lines.old report.old number (rerun_lines lines.old number difference) }
 {
     let mut starts = [0u64; table::STARTS];
     let mut runs = [0u16; table::RUNS];
@@ -119,7 +119,7 @@ pub(crate) fn withdraw_good(
 ) -> Answer
     requires { GoodLines book lines.old }
     ensures { corrected result lines.new report.new
-        ≡ correctGood book lines.old report.old number (withdrawLines lines.old number) }
+        ≡ correct_good book lines.old report.old number (withdraw_lines lines.old number) }
 {
     let mut starts = [0u64; table::STARTS];
     let mut runs = [0u16; table::RUNS];

@@ -1,10 +1,10 @@
-// The public calls on a lent book and its report: survey, re-run and withdrawal.
+// The public calls on a lent book and its report: survey, re_run and withdrawal.
 ghost use Rattle.std.specs.Prelude.{◌≡◌};
 ghost use Rattle.book.specs.Lent.{lent};
 ghost use Rattle.book.specs.Test.{refusal};
-ghost use Rattle.survey.specs.Report.{refusedWith, count_of};
-ghost use Rattle.survey.specs.Survey.{surveyed, surveyOf};
-ghost use Rattle.survey.specs.Correction.{corrected, rerunOf, withdrawOf};
+ghost use Rattle.survey.specs.Report.{refused_with, count_of};
+ghost use Rattle.survey.specs.Survey.{surveyed, survey_of};
+ghost use Rattle.survey.specs.Correction.{corrected, rerun_of, withdraw_of};
 
 mod correct;
 mod report;
@@ -13,7 +13,7 @@ use book::line::Line;
 use book::{Refusal, Tested};
 use table::Found;
 
-// What survey, re-run and withdrawal answer.
+// What survey, re_run and withdrawal answer.
 #[derive(Drop)]
 pub struct Answer {
     pub refusal: Refusal,
@@ -22,13 +22,13 @@ pub struct Answer {
 }
 
 pub(crate) fn refuse(number: usize, place: usize) -> Answer
-    ensures { result ≡ refusedWith (refusal number place) }
+    ensures { result ≡ refused_with (refusal number place) }
 {
     refused(Refusal::new(number, place))
 }
 
 pub(crate) fn refused(refusal: Refusal) -> Answer
-    ensures { result ≡ refusedWith refusal }
+    ensures { result ≡ refused_with refusal }
 {
     Answer {
         refusal,
@@ -51,7 +51,7 @@ pub(crate) fn count_of(found: Found) -> Answer
 // The loops of the book as rows. A refusal leaves the rows as they were.
 pub fn survey(version: i64, b: i64, t: i64, held: &[i64], lines: &[i64], rows: &mut [i64]) -> Answer
     ensures { surveyed result rows.new
-        ≡ surveyOf (lent version b t held.now lines.now) rows.old }
+        ≡ survey_of (lent version b t held.now lines.now) rows.old }
 {
     match book::test(version, b, t, held, lines) {
         Tested::Refused(r) => refused(r),
@@ -72,7 +72,7 @@ pub fn rerun(
     difference: i64,
 ) -> Answer
     ensures { corrected result lines.new report.new
-        ≡ rerunOf (lent version b t held.now lines.old) report.old line difference }
+        ≡ rerun_of (lent version b t held.now lines.old) report.old line difference }
 {
     let outside = Line::outside_difference(difference);
     match book::test_beside(outside, version, b, t, held, lines) {
@@ -92,7 +92,7 @@ pub fn withdraw(
     line: i64,
 ) -> Answer
     ensures { corrected result lines.new report.new
-        ≡ withdrawOf (lent version b t held.now lines.old) report.old line }
+        ≡ withdraw_of (lent version b t held.now lines.old) report.old line }
 {
     match book::test(version, b, t, held, lines) {
         Tested::Refused(r) => refused(r),

@@ -67,7 +67,7 @@ fn withdraw(
     put_call(name, a, lines, report);
 }
 
-// The line is re-run to a difference of its number in centimetres, and withdrawn.
+// The line is re_run to a difference of its number in centimetres, and withdrawn.
 fn correct_line(
     version: i64,
     b: i64,

@@ -9,8 +9,8 @@ use Rattle.sweeps.specs.declared.End.{End}
 use Rattle.sweeps.specs.declared.End.TheVariants as end
 
 -- what the line at place j adds to the g of a mark that stands at z
-unfoldable pub termAt : Columns → List ℤ → ℤ → ℕ → ℤ
-termAt cols hs z j = pos (get_or cols.weight j 0) *ℤ (get_or hs (get_or cols.other j 0) (pos 0) +ℤ get_or cols.rise j (pos 0) -ℤ z)
+unfoldable pub term_at : Columns → List ℤ → ℤ → ℕ → ℤ
+term_at cols hs z j = pos (get_or cols.weight j 0) *ℤ (get_or hs (get_or cols.other j 0) (pos 0) +ℤ get_or cols.rise j (pos 0) -ℤ z)
 
 -- the marks that are held
 abbrev pub flags : List Bool → ℕ → Bool
@@ -22,23 +22,23 @@ swept turn.Still hs = still hs
 swept turn.Moved hs = moved hs
 swept (turn.Outside m) hs = Swept.outside m
 
-abbrev pub endedAt : End → List ℤ → Settled
-endedAt (end.Settled n) hs = settled n hs
-endedAt (end.Outside m) hs = Settled.outside m
-endedAt end.Unsettled hs = unsettled
+abbrev pub ended_at : End → List ℤ → Settled
+ended_at (end.Settled n) hs = settled n hs
+ended_at (end.Outside m) hs = Settled.outside m
+ended_at end.Unsettled hs = unsettled
 
 -- a visit that found r, in a sweep that stood at s
-abbrev pub movedTurn : Turn → Turn
-movedTurn turn.Still = turn.Moved
-movedTurn turn.Moved = turn.Moved
-movedTurn (turn.Outside m) = turn.Outside m
+abbrev pub moved_turn : Turn → Turn
+moved_turn turn.Still = turn.Moved
+moved_turn turn.Moved = turn.Moved
+moved_turn (turn.Outside m) = turn.Outside m
 
-abbrev pub joinedTurn : Turn → Turn → Turn
-joinedTurn turn.Still r = r
-joinedTurn turn.Moved r = movedTurn r
-joinedTurn (turn.Outside m) r = turn.Outside m
+abbrev pub joined_turn : Turn → Turn → Turn
+joined_turn turn.Still r = r
+joined_turn turn.Moved r = moved_turn r
+joined_turn (turn.Outside m) r = turn.Outside m
 
-abbrev pub outsideTurn : Turn → Bool
-outsideTurn turn.Still = false
-outsideTurn turn.Moved = false
-outsideTurn (turn.Outside m) = true
+abbrev pub outside_turn : Turn → Bool
+outside_turn turn.Still = false
+outside_turn turn.Moved = false
+outside_turn (turn.Outside m) = true

@@ -2,12 +2,12 @@
 ghost use Rattle.std.specs.Prelude.{◌≡◌, suc, ◌+◌, ◌-◌, ◌<◌, ◌≤◌, ◌^◌, length, nat_abs};
 ghost use Rattle.book.specs.Good.{Lines};
 ghost use Rattle.network.specs.Standing.{standing};
-ghost use Rattle.book.specs.Limits.{mostHeight, mostMarks};
+ghost use Rattle.book.specs.Limits.{most_height, most_marks};
 ghost use Rattle.chains.specs.Chains.{InOrder};
 ghost use Rattle.fields.specs.Heights.{Working};
 ghost use Rattle.sights.specs.Sights.{sights_of, pull};
 ghost use Rattle.sights.specs.Table.{columns, seen, rows, Ends, Span, Table};
-ghost use Rattle.sweeps.specs.MarkTurns.{termAt, flags, swept, endedAt, joinedTurn, movedTurn, outsideTurn};
+ghost use Rattle.sweeps.specs.MarkTurns.{term_at, flags, swept, ended_at, joined_turn, moved_turn, outside_turn};
 ghost use Rattle.sweeps.specs.Sweeps.{move_of, visited, visit, sweep, settle};
 
 use book::Book;
@@ -49,8 +49,8 @@ fn term(
 ) -> i64
     requires fact_1 { Ends (columns other.now rise.now weight.now) b (j + 1) }
     requires fact_2 { Working h.now b }
-    requires fact_3 { nat_abs z ≤ mostHeight }
-    ensures { result ≡ termAt (columns other.now rise.now weight.now) h.now z j }
+    requires fact_3 { nat_abs z ≤ most_height }
+    ensures { result ≡ term_at (columns other.now rise.now weight.now) h.now z j }
 {
     let given = signed::add(h[other[j]], rise[j]);
     signed::mul(signed::signed_count(weight[j]), signed::sub(given, z))
@@ -69,7 +69,7 @@ fn pull_of(
 ) -> i64
     requires fact_1 { Ends (columns other.now rise.now weight.now) b e }
     requires fact_2 { Working h.now b }
-    requires fact_3 { nat_abs z ≤ mostHeight }
+    requires fact_3 { nat_abs z ≤ most_height }
     requires fact_4 { Span a e }
     ensures { result ≡ pull h.now z
         (seen (columns other.now rise.now weight.now) a (e - a)) }
@@ -139,7 +139,7 @@ fn visit(
 
 // What a visit found, after what the sweep had found before it.
 fn joined(s: Turn, r: Turn) -> Turn
-    ensures { result ≡ joinedTurn s r }
+    ensures { result ≡ joined_turn s r }
 {
     match s {
         Turn::Still => r,
@@ -149,7 +149,7 @@ fn joined(s: Turn, r: Turn) -> Turn
 }
 
 fn has_moved(r: Turn) -> Turn
-    ensures { result ≡ movedTurn r }
+    ensures { result ≡ moved_turn r }
 {
     match r {
         Turn::Still => Turn::Moved,
@@ -159,7 +159,7 @@ fn has_moved(r: Turn) -> Turn
 }
 
 fn is_outside(s: Turn) -> bool
-    ensures { result ≡ outsideTurn s }
+    ensures { result ≡ outside_turn s }
 {
     match s {
         Turn::Still => false,
@@ -239,7 +239,7 @@ fn settle(
     requires fact_1 { Table first.now (columns other.now rise.now weight.now) total.now b }
     requires fact_2 { Working h.old b }
     requires fact_3 { b ≤ length held.now }
-    ensures { endedAt result h.new ≡ settle
+    ensures { ended_at result h.new ≡ settle
         (rows first.now (columns other.now rise.now weight.now))
         (flags held.now) b h.old }
 {
@@ -268,10 +268,10 @@ pub fn settle_lines(
 ) -> End
     requires fact_1 { Lines lines.now b n }
     requires fact_2 { InOrder (standing lines.now) (b + 1) head.now next.now }
-    requires fact_3 { (0 < b) × (b ≤ mostMarks) }
+    requires fact_3 { (0 < b) × (b ≤ most_marks) }
     requires fact_4 { Working h.old b }
     requires fact_5 { b ≤ length held.now }
-    ensures { endedAt result h.new ≡ settle (sights_of (standing lines.now)) (flags held.now) b
+    ensures { ended_at result h.new ≡ settle (sights_of (standing lines.now)) (flags held.now) b
         h.old }
 {
     let mut first = [0usize; MARKS + 1];

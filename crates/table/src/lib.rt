@@ -3,7 +3,7 @@ ghost use Rattle.std.specs.Prelude.{◌≡◌};
 ghost use Rattle.book.specs.Good.{GoodLines};
 ghost use Rattle.loops.specs.Report.{loops_of};
 ghost use Rattle.loops.specs.Table.{Table};
-ghost use Rattle.table.specs.Filled.{RoomTable, RoomWork, foundIn, Fills, Filled};
+ghost use Rattle.table.specs.Filled.{RoomTable, RoomWork, found_in, Fills, Filled};
 
 mod order;
 
@@ -69,7 +69,7 @@ fn find_in(
     requires fact_1 { GoodLines book lines.now }
     requires fact_2 { RoomTable starts.old runs.old }
     requires fact_3 { RoomWork ends.old head.old next.old best.old seg.old order.old close.old }
-    ensures fact_1 { result ≡ foundIn book.marks lines.now }
+    ensures fact_1 { result ≡ found_in book.marks lines.now }
     ensures fact_2 { Table (loops_of book.marks lines.now) starts.new runs.new result.count }
 {
     let n = book.marks + 1;
@@ -85,7 +85,7 @@ fn find_in(
 pub fn find_loops(book: Book, lines: &[i64], starts: &mut [u64], runs: &mut [u16]) -> Found
     requires fact_1 { GoodLines book lines.now }
     requires fact_2 { RoomTable starts.old runs.old }
-    ensures fact_1 { result ≡ foundIn book.marks lines.now }
+    ensures fact_1 { result ≡ found_in book.marks lines.now }
     ensures fact_2 { Table (loops_of book.marks lines.now) starts.new runs.new result.count }
 {
     let mut ends = [0u64; prepare::HALVES];

@@ -10,15 +10,15 @@ use lib.IntN.{ℤ, pos, negsuc, nat_abs}
 use lib.Signed.{lt_z}
 use borrow.Author.Tests.{lt-ltb, le-ltb, ltb-true, ltb-false}
 use Rattle.text.specs.Bytes.{bytes}
-use Rattle.text.specs.Number.{lastDigit, digits, decimal, signedText}
+use Rattle.text.specs.Number.{last_digit, digits, decimal, signed_text}
 use Rattle.text.specs.Put.{Put}
 use Rattle.text.proofs.Puts.{◌then◌}
 
-digits-one : (f n : ℕ) → n < 10 → digits (suc f) n ≡ lastDigit n
+digits_one : (f n : ℕ) → n < 10 → digits (suc f) n ≡ last_digit n
 unfolding digits
-digits-one f n h = rw (digits, lt-ltb n 10 h)
+digits_one f n h = rw (digits, lt-ltb n 10 h)
 
-digits_more : (f n : ℕ) → 10 ≤ n → digits (suc f) n ≡ digits f (n / 10) ++ lastDigit n
+digits_more : (f n : ℕ) → 10 ≤ n → digits (suc f) n ≡ digits f (n / 10) ++ last_digit n
 unfolding digits
 digits_more f n h = rw (digits, le-ltb n 10 h)
 
@@ -31,22 +31,22 @@ by_size P n one more = by (ltb n 10) refl
     by false e = more (ltb-false n 10 e)
 
 -- more digits allowed than n has change nothing
-digits-enough : (f g n : ℕ) → n < f → n < g → digits f n ≡ digits g n
-digits-enough zero g n p q = absurd (omega arith)
-digits-enough (suc f) zero n p q = absurd (omega arith)
-digits-enough (suc f) (suc g) n p q =
-    by_size (digits (suc f) n ≡ digits (suc g) n) n (λ h. digits-one f n h ∙ sym (digits-one g n h))
-    (λ h. digits_more f n h ∙ ap (λ (ds : List ℕ). ds ++ lastDigit n) (digits-enough f g (n / 10) (omega arith) (omega arith))
+digits_enough : (f g n : ℕ) → n < f → n < g → digits f n ≡ digits g n
+digits_enough zero g n p q = absurd (omega arith)
+digits_enough (suc f) zero n p q = absurd (omega arith)
+digits_enough (suc f) (suc g) n p q =
+    by_size (digits (suc f) n ≡ digits (suc g) n) n (λ h. digits_one f n h ∙ sym (digits_one g n h))
+    (λ h. digits_more f n h ∙ ap (λ (ds : List ℕ). ds ++ last_digit n) (digits_enough f g (n / 10) (omega arith) (omega arith))
     ∙ sym (digits_more g n h))
 
-pub decimal-one : (n : ℕ) → n < 10 → decimal n ≡ lastDigit n
+pub decimal_one : (n : ℕ) → n < 10 → decimal n ≡ last_digit n
 unfolding decimal
-decimal-one n h = digits-one n n h
+decimal_one n h = digits_one n n h
 
-pub decimal-more : (n : ℕ) → 10 ≤ n → decimal n ≡ decimal (n / 10) ++ lastDigit n
+pub decimal_more : (n : ℕ) → 10 ≤ n → decimal n ≡ decimal (n / 10) ++ last_digit n
 unfolding decimal
-decimal-more n h =
-    digits_more n n h ∙ ap (λ (ds : List ℕ). ds ++ lastDigit n) (digits-enough n (suc (n / 10)) (n / 10) (omega arith) (omega arith))
+decimal_more n h =
+    digits_more n n h ∙ ap (λ (ds : List ℕ). ds ++ last_digit n) (digits_enough n (suc (n / 10)) (n / 10) (omega arith) (omega arith))
 
 -- what one digit more keeps holds of every number
 pub by_digits : (P : ℕ → Type 0) → ((n : ℕ) → n < 10 → P n) → ((n : ℕ) → 10 ≤ n → P (n / 10) → P n) → (n : ℕ) → P n
@@ -58,18 +58,18 @@ by_digits P one more n = up_to (suc n) n (omega arith)
 
 -- a number is put digit by digit
 module _ {l l₁ : List ℕ} {at r n : ℕ} where
-  pub put_one : n < 10 → Put l l₁ at r (lastDigit n) → Put l l₁ at r (decimal n)
-  put_one h p = rw (decimal-one n h) p
+  pub put_one : n < 10 → Put l l₁ at r (last_digit n) → Put l l₁ at r (decimal n)
+  put_one h p = rw (decimal_one n h) p
 
-  pub put-more : {l₂ : List ℕ} {s : ℕ} → 10 ≤ n → Put l l₁ at r (decimal (n / 10)) → Put l₁ l₂ r s (lastDigit n) → Put l l₂ at s (decimal n)
-  put-more h p q = rw (decimal-more n h) (p then q)
+  pub put_more : {l₂ : List ℕ} {s : ℕ} → 10 ≤ n → Put l l₁ at r (decimal (n / 10)) → Put l₁ l₂ r s (last_digit n) → Put l l₂ at s (decimal n)
+  put_more h p q = rw (decimal_more n h) (p then q)
 
-pub signed_below : (z : ℤ) → lt_z z (pos 0) ≡ true → signedText z ≡ bytes "-" ++ decimal (nat_abs z)
-unfolding signedText
+pub signed_below : (z : ℤ) → lt_z z (pos 0) ≡ true → signed_text z ≡ bytes "-" ++ decimal (nat_abs z)
+unfolding signed_text
 signed_below (pos n) h = let l = ltb-true n 0 h in absurd (omega arith)
 signed_below (negsuc n) h = refl
 
-pub signed-plain : (z : ℤ) → lt_z z (pos 0) ≡ false → signedText z ≡ decimal (nat_abs z)
-unfolding signedText
-signed-plain (pos n) h = refl
-signed-plain (negsuc n) h = absurd (true≢false h)
+pub signed_plain : (z : ℤ) → lt_z z (pos 0) ≡ false → signed_text z ≡ decimal (nat_abs z)
+unfolding signed_text
+signed_plain (pos n) h = refl
+signed_plain (negsuc n) h = absurd (true≢false h)

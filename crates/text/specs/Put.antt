@@ -7,4 +7,4 @@ use Rattle.std.proofs.lemmas.List.Edits.{sets}
 -- place after them
 pub record Put (out out' : List ℕ) (at next : ℕ) (text : List ℕ) : Type 0 where
   pub written : out' ≡ sets out at text
-  pub next-is : next ≡ at + min (length text) (length out - at)
+  pub next_is : next ≡ at + min (length text) (length out - at)

@@ -1,9 +1,9 @@
 // What the report program prints, as bytes that are put into a lent buffer, from the place `at` on. The answer is the
 // place after them. What has no room is left out, so that nothing is asked of the caller.
 ghost use Rattle.std.specs.Prelude.{[], ◌∷◌};
-ghost use Rattle.text.specs.Number.{lastDigit, decimal, signedText};
+ghost use Rattle.text.specs.Number.{last_digit, decimal, signed_text};
 ghost use Rattle.text.specs.Put.{Put};
-ghost use Rattle.text.specs.Report.{headText, listedText, verdictText, loopText, notCheckedText, refusedText};
+ghost use Rattle.text.specs.Report.{head_text, listed_text, verdict_text, loop_text, not_checked_text, refused_text};
 
 pub mod sketch;
 
@@ -17,7 +17,7 @@ pub fn head_text(
     pieces: usize,
     loops: usize,
 ) -> usize
-    ensures { Put out.old out.new at result (headText version marks lines pieces loops) }
+    ensures { Put out.old out.new at result (head_text version marks lines pieces loops) }
 {
     let at = put(out, at, b"LEVEL BOOK ");
     let at = put_number(out, at, version);
@@ -42,7 +42,7 @@ pub fn loop_text(
     verdict: i64,
     listing: &[i64],
 ) -> usize
-    ensures { Put out.old out.new at result (loopText number length misclosure verdict listing.now) }
+    ensures { Put out.old out.new at result (loop_text number length misclosure verdict listing.now) }
 {
     let at = put(out, at, b"LOOP ");
     let at = put_number(out, at, number);
@@ -57,7 +57,7 @@ pub fn loop_text(
 
 // `NOT CHECKED 1: 2`
 pub fn not_checked_text(out: &mut [u8], at: usize, list: &[i64]) -> usize
-    ensures { Put out.old out.new at result (notCheckedText list.now) }
+    ensures { Put out.old out.new at result (not_checked_text list.now) }
 {
     let at = put(out, at, b"NOT CHECKED ");
     let at = put_number(out, at, list.len());
@@ -68,7 +68,7 @@ pub fn not_checked_text(out: &mut [u8], at: usize, list: &[i64]) -> usize
 
 // `REFUSED 7 AT 3`
 pub fn refused_text(out: &mut [u8], at: usize, number: usize, place: usize) -> usize
-    ensures { Put out.old out.new at result (refusedText number place) }
+    ensures { Put out.old out.new at result (refused_text number place) }
 {
     let at = put(out, at, b"REFUSED ");
     let at = put_number(out, at, number);
@@ -79,7 +79,7 @@ pub fn refused_text(out: &mut [u8], at: usize, number: usize, place: usize) -> u
 
 // ` WITHIN:` or ` OVER:`
 fn put_verdict(out: &mut [u8], at: usize, verdict: i64) -> usize
-    ensures { Put out.old out.new at result (verdictText verdict) }
+    ensures { Put out.old out.new at result (verdict_text verdict) }
 {
     if signed::same(verdict, 0) {
         put(out, at, b" WITHIN:")
@@ -90,7 +90,7 @@ fn put_verdict(out: &mut [u8], at: usize, verdict: i64) -> usize
 
 // Each line of a list, after a space.
 pub fn put_listed(out: &mut [u8], at: usize, list: &[i64]) -> usize
-    ensures { Put out.old out.new at result (listedText list.now) }
+    ensures { Put out.old out.new at result (listed_text list.now) }
 {
     let mut next = at;
     let mut i = 0;
@@ -103,7 +103,7 @@ pub fn put_listed(out: &mut [u8], at: usize, list: &[i64]) -> usize
 
 // One line of a list, after its space.
 pub fn put_line(out: &mut [u8], at: usize, line: i64) -> usize
-    ensures { Put out.old out.new at result (listedText (line ∷ [])) }
+    ensures { Put out.old out.new at result (listed_text (line ∷ [])) }
 {
     let at = put_byte(out, at, b' ');
     put_signed(out, at, line)
@@ -111,7 +111,7 @@ pub fn put_line(out: &mut [u8], at: usize, line: i64) -> usize
 
 // A number with its sign, if it is below 0.
 pub(crate) fn put_signed(out: &mut [u8], at: usize, x: i64) -> usize
-    ensures { Put out.old out.new at result (signedText x) }
+    ensures { Put out.old out.new at result (signed_text x) }
 {
     let size = signed::magnitude(x);
     if x < 0 {
@@ -134,7 +134,7 @@ pub fn put_number(out: &mut [u8], at: usize, n: usize) -> usize
 
 // The last digit of n.
 fn put_digit(out: &mut [u8], at: usize, n: usize) -> usize
-    ensures { Put out.old out.new at result (lastDigit n) }
+    ensures { Put out.old out.new at result (last_digit n) }
 {
     put_byte(out, at, b'0' + (n % 10) as u8)
 }

@@ -1,6 +1,6 @@
 // What the sketch program prints.
 ghost use Rattle.text.specs.Put.{Put};
-ghost use Rattle.text.specs.Sketch.{sketchHeadText, measuredText, linkText, spurText, selfClosingText};
+ghost use Rattle.text.specs.Sketch.{sketch_head_text, measured_text, link_text, spur_text, self_closing_text};
 
 use crate::{put, put_byte, put_listed, put_number, put_signed};
 
@@ -14,7 +14,7 @@ pub fn head_text(
     spurs: usize,
     loops: usize,
 ) -> usize
-    ensures { Put out.old out.new at result (sketchHeadText marks lines links spurs loops) }
+    ensures { Put out.old out.new at result (sketch_head_text marks lines links spurs loops) }
 {
     let at = put(out, at, b"JUNCTION SKETCH\nMARKS ");
     let at = put_number(out, at, marks);
@@ -39,7 +39,7 @@ pub fn link_text(
     difference: i64,
     listing: &[i64],
 ) -> usize
-    ensures { Put out.old out.new at result (linkText first last length difference listing.now) }
+    ensures { Put out.old out.new at result (link_text first last length difference listing.now) }
 {
     let at = put(out, at, b"LINK ");
     let at = put_signed(out, at, first);
@@ -57,7 +57,7 @@ pub fn spur_text(
     difference: i64,
     listing: &[i64],
 ) -> usize
-    ensures { Put out.old out.new at result (spurText mark length difference listing.now) }
+    ensures { Put out.old out.new at result (spur_text mark length difference listing.now) }
 {
     let at = put(out, at, b"SPUR ");
     let at = put_signed(out, at, mark);
@@ -73,7 +73,7 @@ pub fn loop_text(
     misclosure: i64,
     listing: &[i64],
 ) -> usize
-    ensures { Put out.old out.new at result (selfClosingText mark length misclosure listing.now) }
+    ensures { Put out.old out.new at result (self_closing_text mark length misclosure listing.now) }
 {
     let at = put(out, at, b"LOOP ");
     let at = put_signed(out, at, mark);
@@ -90,7 +90,7 @@ fn put_measured(
     listing: &[i64],
 ) -> usize
     ensures { Put out.old out.new at result
-        (measuredText word.now length difference listing.now) }
+        (measured_text word.now length difference listing.now) }
 {
     let at = put(out, at, b" LENGTH ");
     let at = put_signed(out, at, length);

@@ -10,51 +10,51 @@ use mathlib.Core.Option.{Option, none, some}
 use lib.ListN.{length, get_or, set}
 use lib.Seq.{get_or-set_same, get_or-set_other, set_out}
 use Rattle.network.specs.Standing.{Line}
-use Rattle.network.specs.Tree.{Entry, entry, Tree, Candidate, candidate, distance, far, lowest, firstOut, first_of, step, grow, up_to}
+use Rattle.network.specs.Tree.{Entry, entry, Tree, Candidate, candidate, distance, far, lowest, first_out, first_of, step, grow, up_to}
 use Rattle.network.specs.Tree.{marks, tree}
 use Rattle.network.specs.Tree as tr
-use Rattle.network.proofs.Grown.{scored, score-of, After, new, old, after, keeps, lowest-none, lowest-some, ByLine, Stepped, line, root}
-use Rattle.network.proofs.Grown.{stepped, isNew}
+use Rattle.network.proofs.Grown.{scored, score_of_lem, After, new, old, after, keeps, lowest_none, lowest_some, ByLine, Stepped, line, root}
+use Rattle.network.proofs.Grown.{stepped, is_new}
 use Rattle.network.proofs.Grown as gr
 use Rattle.network.proofs.Shortest.{same, never, turn}
 use Rattle.network.specs.Sound.{Placed}
 use Rattle.network.proofs.Marks.{one_each}
-use Rattle.nearest.specs.Heap.{Changed, leafLimit}
+use Rattle.nearest.specs.Heap.{Changed, leaf_limit}
 use Rattle.nearest.specs.Heap as hp
 use Rattle.nearest.proofs.Tournament.{cleared}
 use Rattle.chains.specs.Chains.{Half, flip, Bounded, Given, halves}
 use Rattle.search.specs.Front.{keys, Stage, Relaxed, Key, Offer, Front, Nothing, limit, top, lead, Turned, more, found, nothing}
 use Rattle.search.specs.Front as f
-use Rattle.chains.proofs.Halves.{half-ends, half-flip, half-low-end, mark-of}
-use Rattle.search.proofs.Enter.{far-half, step-some, Pop, pop-none, pop-some, came-new, front-enter, front-relaxed}
-use Rattle.search.proofs.Searched.{near, newest-line, turned-any}
-use Rattle.tree.specs.Plant.{FirstFar, growing, Sprouted, by-line, by-root, ended, Entered, none_yet, enters, Holding, Below}
+use Rattle.chains.proofs.Halves.{half_ends, half_flip, half_low_end, mark_of_lem}
+use Rattle.search.proofs.Enter.{far_half, step_some, Pop, pop_none, pop_some, came_new, front_enter, front_relaxed}
+use Rattle.search.proofs.Searched.{near, newest_line, turned_any}
+use Rattle.tree.specs.Plant.{FirstFar, growing, Sprouted, by_line_lem, by_root, ended, Entered, none_yet, enters, Holding, Below}
 
 -- ---- the first mark that is out
 
-out-past : (es : Tree) (b : ℕ) (ms : List ℕ) → ((m : ℕ) → 0 < m → m ≤ b → distance es m ≡ none → ⊥)
-    → firstOut es (up_to b ms) ≡ firstOut es ms
-unfolding up_to firstOut
-out-past es zero ms f = refl
-out-past es (suc b) ms f = out-past es b (suc b ∷ ms) (λ m l h. f m l (omega arith)) ∙ go (distance es (suc b)) refl
+out_past : (es : Tree) (b : ℕ) (ms : List ℕ) → ((m : ℕ) → 0 < m → m ≤ b → distance es m ≡ none → ⊥)
+    → first_out es (up_to b ms) ≡ first_out es ms
+unfolding up_to first_out
+out_past es zero ms f = refl
+out_past es (suc b) ms f = out_past es b (suc b ∷ ms) (λ m l h. f m l (omega arith)) ∙ go (distance es (suc b)) refl
   where
-    go : (o : Option ℕ) → distance es (suc b) ≡ o → first_of o (suc b) (firstOut es ms) ≡ firstOut es ms
+    go : (o : Option ℕ) → distance es (suc b) ≡ o → first_of o (suc b) (first_out es ms) ≡ first_out es ms
     go none e = absurd (f (suc b) (omega arith) (omega arith) e)
     go (some d) e = refl
 
 out_first : (es : Tree) (b : ℕ) (ms : List ℕ) (r : ℕ) → 0 < r → r ≤ b → distance es r ≡ none
     → ((m : ℕ) → 0 < m → m < r → distance es m ≡ none → ⊥)
-    → firstOut es (up_to b ms) ≡ some r
-unfolding up_to firstOut
+    → first_out es (up_to b ms) ≡ some r
+unfolding up_to first_out
 out_first es zero ms r l h o f = absurd (omega arith)
 out_first es (suc b) ms r l h o f = go (ℕ_discrete r (suc b)) (out_first es b (suc b ∷ ms) r l)
   where
-    go : Dec (r ≡ suc b) → (r ≤ b → distance es r ≡ none → ((m : ℕ) → 0 < m → m < r → distance es m ≡ none → ⊥) → firstOut es
+    go : Dec (r ≡ suc b) → (r ≤ b → distance es r ≡ none → ((m : ℕ) → 0 < m → m < r → distance es m ≡ none → ⊥) → first_out es
         (up_to b (suc b ∷ ms)) ≡ some r)
-        → firstOut es (up_to b (suc b ∷ ms)) ≡ some r
+        → first_out es (up_to b (suc b ∷ ms)) ≡ some r
     go (yes e) ih =
-        out-past es b (suc b ∷ ms) (λ m p q. f m p (omega arith))
-        ∙ ap (λ (x : Option ℕ). first_of x (suc b) (firstOut es ms)) (ap (distance es) (sym e) ∙ o) ∙ ap some (sym e)
+        out_past es b (suc b ∷ ms) (λ m p q. f m p (omega arith))
+        ∙ ap (λ (x : Option ℕ). first_of x (suc b) (first_out es ms)) (ap (distance es) (sym e) ∙ o) ∙ ap some (sym e)
     go (no e) ih = ih (omega arith) o f
 
 -- ---- a step keeps what is in
@@ -65,7 +65,7 @@ unfolding grow
 step_keeps lines roots k m d h = go (stepped lines roots (grow lines roots k))
   where
     go : {es : Tree} → Stepped lines roots (grow lines roots k) es → distance es m ≡ some d
-    go (line {e = e} x) = keeps e (grow lines roots k) m d (isNew x) h
+    go (line {e = e} x) = keeps e (grow lines roots k) m d (is_new x) h
     go (root {e = e} x i) = keeps e (grow lines roots k) m d x.out h
     go (gr.stop a b) = h
 
@@ -79,15 +79,15 @@ below_set n xs k v lt f j h = go (ℕ_discrete j k) (dec_lt k (length xs))
     go (yes e) (no l) = rw (set_out xs k v (omega arith)) (f j h)
     go (no e) l = rw (get_or-set_other xs k j v 0 e) (f j h)
 
-pub entered-other : {order : List ℕ} {es : Tree} → (k v : ℕ) → length es ≤ k → Entered order es → Entered (set order k v) es
-entered-other k v h none_yet = none_yet
-entered-other {order = order} k v h (enters {es = es} a x) =
-    enters (get_or-set_other order k (length es) v 0 (λ e. omega arith) ∙ a) (entered-other k v (omega arith) x)
+pub entered_other : {order : List ℕ} {es : Tree} → (k v : ℕ) → length es ≤ k → Entered order es → Entered (set order k v) es
+entered_other k v h none_yet = none_yet
+entered_other {order = order} k v h (enters {es = es} a x) =
+    enters (get_or-set_other order k (length es) v 0 (λ e. omega arith) ∙ a) (entered_other k v (omega arith) x)
 
-pub entered-new : (order : List ℕ) (e : Entry) (es : Tree) (k v : ℕ) → length es ≡ k → k < length order → v ≡ e.mark → Entered order es
+pub entered_new : (order : List ℕ) (e : Entry) (es : Tree) (k v : ℕ) → length es ≡ k → k < length order → v ≡ e.mark → Entered order es
     → Entered (set order k v) (e ∷ es)
-entered-new order e es k v h lt q x =
-    enters (ap (λ (z : ℕ). get_or (set order k v) z 0) h ∙ get_or-set_same order k v 0 lt ∙ q) (entered-other k v (omega arith) x)
+entered_new order e es k v h lt q x =
+    enters (ap (λ (z : ℕ). get_or (set order k v) z 0) h ∙ get_or-set_same order k v 0 lt ∙ q) (entered_other k v (omega arith) x)
 
 module _ (lines : List Line) (n : ℕ) (head next ends : List ℕ) (gv : Given lines n head next ends) where
   abbrev rts : List ℕ
@@ -98,7 +98,7 @@ module _ (lines : List Line) (n : ℕ) (head next ends : List ℕ) (gv : Given l
 
   placed : (l : Line) → Memᴰ l lines → Placed (n - 1) l
   placed l i = let x = gv.sound l i in
-      record { from_low = x.from_low; from-high = omega (arith, x.from-high); to_low = x.to_low; to_high = omega (arith, x.to_high) }
+      record { from_low = x.from_low; from_high = omega (arith, x.from_high); to_low = x.to_low; to_high = omega (arith, x.to_high) }
 
   sized : (k : ℕ) → k < n → length (at k) ≡ k
   sized k h = (one_each (n - 1) lines placed k (omega arith)).1
@@ -109,10 +109,10 @@ module _ (lines : List Line) (n : ℕ) (head next ends : List ℕ) (gv : Given l
     pub passed : (m : ℕ) → 0 < m → m < root → distance (grow lines (marks (n - 1)) k) m ≡ none → ⊥
     pub entered : Entered order (grow lines (marks (n - 1)) k)
 
-  pub plant-start : (best seg order : List ℕ) → ((i : ℕ) → i < n → get_or best i 0 ≡ hp.far) → ((i : ℕ) → i < 2 * n → get_or seg i 0 ≡ hp.far)
+  pub plant_start : (best seg order : List ℕ) → ((i : ℕ) → i < n → get_or best i 0 ≡ hp.far) → ((i : ℕ) → i < 2 * n → get_or seg i 0 ≡ hp.far)
       → Planting 0 best seg order 1
   unfolding grow distance
-  plant-start best seg order fb fs = record {
+  plant_start best seg order fb fs = record {
     front = record {
       inside = λ m d h. never h refl;
       keyed = λ m d h. never h refl;
@@ -127,12 +127,12 @@ module _ (lines : List Line) (n : ℕ) (head next ends : List ℕ) (gv : Given l
   }
 
   module _ (k : ℕ) (best seg order : List ℕ) (root : ℕ) (st : Stage n best seg) (pl : Planting k best seg order root)
-      (few : k < leafLimit) (le : k + 1 < n) (space : k < length order) where
+      (few : k < leaf_limit) (le : k + 1 < n) (space : k < length order) where
     small : (m d : ℕ) → distance (at k) m ≡ some d → d ≤ 100000000
     small m d h = omega (arith, near n lines gv.sound rts k m d h)
 
-    still-in : (m : ℕ) → (distance (at k) m ≡ none → ⊥) → distance (at (k + 1)) m ≡ none → ⊥
-    still-in m f h = go (distance (at k) m) refl
+    still_in : (m : ℕ) → (distance (at k) m ≡ none → ⊥) → distance (at (k + 1)) m ≡ none → ⊥
+    still_in m f h = go (distance (at k) m) refl
       where
         go : (o : Option ℕ) → distance (at k) m ≡ o → ⊥
         go none e = f e
@@ -142,36 +142,36 @@ module _ (lines : List Line) (n : ℕ) (head next ends : List ℕ) (gv : Given l
 
     module _ (lt : top seg < limit) where
       pop : Pop lines n (at k) best ends (get_or seg 1 0)
-      pop = pop-some lines n (at k) best seg ends gv.rising gv.sound (mark-of gv) st.heap pl.front small lt
+      pop = pop_some lines n (at k) best seg ends gv.rising gv.sound (mark_of_lem gv) st.heap pl.front small lt
 
       lead_low : 0 < lead ends seg
-      lead_low = half-low-end (gv.sound pop.l pop.is_line) pop.half
+      lead_low = half_low_end (gv.sound pop.l pop.is_line) pop.half
 
       abbrev en : Entry
       en = entry (lead ends seg) (pop.d + pop.l.length) (some pop.l)
 
-      isFar : far (at k) pop.l ≡ lead ends seg
-      isFar = far-half (at k) pop.l pop.u (lead ends seg) (top seg % halves) pop.d pop.half pop.isIn pop.isOut
+      is_far : far (at k) pop.l ≡ lead ends seg
+      is_far = far_half (at k) pop.l pop.u (lead ends seg) (top seg % halves) pop.d pop.half pop.is_in pop.is_out
 
       at_next : at (suc k) ≡ en ∷ at k
       unfolding grow
-      at_next = step-some lines rts (at k) (candidate (pop.d + pop.l.length) pop.l) pop.isLowest
-          ∙ ap (λ (z : ℕ). entry z (pop.d + pop.l.length) (some pop.l) ∷ at k) isFar
+      at_next = step_some lines rts (at k) (candidate (pop.d + pop.l.length) pop.l) pop.is_lowest
+          ∙ ap (λ (z : ℕ). entry z (pop.d + pop.l.length) (some pop.l) ∷ at k) is_far
 
       by : ByLine lines (at k) en
       by =
-          let w = lowest-some (at k) lines (candidate (pop.d + pop.l.length) pop.l) pop.isLowest in
-          let sc = scored (at k) pop.l (pop.d + pop.l.length) w.itsScore in
-          record { l = pop.l; its = refl; is_line = w.is_line; sc = sc; itsMark = sym isFar ∙ sc.isFar; least = w.least }
+          let w = lowest_some (at k) lines (candidate (pop.d + pop.l.length) pop.l) pop.is_lowest in
+          let sc = scored (at k) pop.l (pop.d + pop.l.length) w.its_score in
+          record { l = pop.l; its = refl; is_line = w.is_line; sc = sc; its_mark = sym is_far ∙ sc.is_far; least = w.least }
 
       key : Key (en ∷ at k) best ends (lead ends seg) (pop.d + pop.l.length)
       key = record {
         h = top seg % halves;
         low = omega arith;
         key = pop.known ∙ pop.sum;
-        by = f.line pop.l pop.u pop.d (came-new en (at k) (lead ends seg) refl) pop.half (omega arith)
-            (mark-of gv pop.l (lead ends seg) pop.u (flip (top seg % halves)) pop.is_line (half-flip pop.half))
-            (keeps en (at k) pop.u pop.d pop.isOut pop.isIn) refl;
+        by = f.line pop.l pop.u pop.d (came_new en (at k) (lead ends seg) refl) pop.half (omega arith)
+            (mark_of_lem gv pop.l (lead ends seg) pop.u (flip (top seg % halves)) pop.is_line (half_flip pop.half))
+            (keeps en (at k) pop.u pop.d pop.is_out pop.is_in) refl;
       }
 
       there : distance (en ∷ at k) (lead ends seg) ≡ some (pop.d + pop.l.length)
@@ -181,16 +181,16 @@ module _ (lines : List Line) (n : ℕ) (head next ends : List ℕ) (gv : Given l
           hit (new p q) = q
           hit (old p q) = absurd (p refl)
 
-      line-next : (seg₁ best' seg' : List ℕ) (v : ℕ) → v ≡ lead ends seg → Changed seg seg₁ n (lead ends seg) hp.far
+      line_next : (seg₁ best' seg' : List ℕ) (v : ℕ) → v ≡ lead ends seg → Changed seg seg₁ n (lead ends seg) hp.far
           → Relaxed n next ends (keys best seg₁) (keys best' seg') (get_or head (lead ends seg) 0) (top seg - top seg % halves)
           → Planting (k + 1) best' seg' (set order k v) root
-      line-next seg₁ best' seg' v q ch rx = record {
+      line_next seg₁ best' seg' v q ch rx = record {
         front = subst (λ (z : Tree). Front lines n z best' seg' ends Nothing) (sym (ap at (add-one k) ∙ at_next)) fr;
         low = pl.low;
-        passed = λ m a b. still-in m (pl.passed m a b);
+        passed = λ m a b. still_in m (pl.passed m a b);
         entered =
             subst (λ (z : Tree). Entered (set order k v) z) (sym (ap at (add-one k) ∙ at_next))
-            (entered-new order en (at k) k v (sized k (omega arith)) space q pl.entered);
+            (entered_new order en (at k) k v (sized k (omega arith)) space q pl.entered);
       }
         where
           base : top seg - top seg % halves ≡ (pop.d + pop.l.length) * halves
@@ -198,30 +198,30 @@ module _ (lines : List Line) (n : ℕ) (head next ends : List ℕ) (gv : Given l
 
           fr : Front lines n (en ∷ at k) best' seg' ends Nothing
           fr =
-              front-relaxed lines n head next ends gv (en ∷ at k) (lead ends seg) (pop.d + pop.l.length) best seg₁ best' seg'
+              front_relaxed lines n head next ends gv (en ∷ at k) (lead ends seg) (pop.d + pop.l.length) best seg₁ best' seg'
               pop.small there gv.sound
-              (newest-line n lines gv.sound rts k en by)
+              (newest_line n lines gv.sound rts k en by)
               (subst (λ (z : ℕ). Relaxed n next ends (keys best seg₁) (keys best' seg') (get_or head (lead ends seg) 0) z) base rx)
-              (front-enter lines n head next ends gv (at k) en best seg best seg₁ pop.isOut pop.small pl.front key
+              (front_enter lines n head next ends gv (at k) en best seg best seg₁ pop.is_out pop.small pl.front key
               (λ m d. refl) ch)
 
     -- ---- by a root, where nothing is left
 
     module _ (big : limit ≤ top seg) where
       gone : lowest (at k) lines ≡ none
-      gone = pop-none lines n (at k) best seg ends gv.rising gv.sound (mark-of gv) st.heap pl.front small big
+      gone = pop_none lines n (at k) best seg ends gv.rising gv.sound (mark_of_lem gv) st.heap pl.front small big
 
-      out-far : (m : ℕ) → m < n → distance (at k) m ≡ none → get_or best m 0 ≡ hp.far
-      out-far m ok h = go (pl.front.offered m ok h)
+      out_far : (m : ℕ) → m < n → distance (at k) m ≡ none → get_or best m 0 ≡ hp.far
+      out_far m ok h = go (pl.front.offered m ok h)
         where
           go : (get_or best m 0 ≡ hp.far) ⊎ Offer lines (at k) best m → get_or best m 0 ≡ hp.far
           go (inl z) = z
           go (inr o) =
-              never (score-of (at k) o.l o.u m o.d (half-ends o.half) o.isIn h)
-              (lowest-none (at k) lines gone o.l o.is_line)
+              never (score_of_lem (at k) o.l o.u m o.d (half_ends o.half) o.is_in h)
+              (lowest_none (at k) lines gone o.l o.is_line)
 
-      far-out : (m : ℕ) → get_or best m 0 ≡ hp.far → distance (at k) m ≡ none
-      far-out m e = go (distance (at k) m) refl
+      far_out : (m : ℕ) → get_or best m 0 ≡ hp.far → distance (at k) m ≡ none
+      far_out m e = go (distance (at k) m) refl
         where
           go : (o : Option ℕ) → distance (at k) m ≡ o → o ≡ none
           go none x = refl
@@ -231,30 +231,30 @@ module _ (lines : List Line) (n : ℕ) (head next ends : List ℕ) (gv : Given l
       all_in r ff m a b h = go (ℕ_discrete (root - m) 0)
         where
           go : Dec (root - m ≡ 0) → ⊥
-          go (yes e) = ff.before m (omega arith) b (out-far m (omega (arith, ff.high)) h)
+          go (yes e) = ff.before m (omega arith) b (out_far m (omega (arith, ff.high)) h)
           go (no e) = pl.passed m a (omega arith) h
 
-      root-next : (r : ℕ) (best' seg' : List ℕ) → FirstFar best n root r → r < n
+      root_next : (r : ℕ) (best' seg' : List ℕ) → FirstFar best n root r → r < n
           → Relaxed n next ends (keys (set best r 0) seg) (keys best' seg') (get_or head r 0) 0
           → Planting (k + 1) best' seg' (set order k r) r
       unfolding grow step marks
-      root-next r best' seg' ff lt rx = record {
+      root_next r best' seg' ff lt rx = record {
         front = subst (λ (z : Tree). Front lines n z best' seg' ends Nothing) (sym (ap at (add-one k) ∙ at_next)) fr;
         low = omega (arith, pl.low, ff.low);
-        passed = λ m a b. still-in m (all_in r ff m a b);
+        passed = λ m a b. still_in m (all_in r ff m a b);
         entered =
             subst (λ (z : Tree). Entered (set order k r) z) (sym (ap at (add-one k) ∙ at_next))
-            (entered-new order (entry r 0 none) (at k) k r (sized k (omega arith)) space refl pl.entered);
+            (entered_new order (entry r 0 none) (at k) k r (sized k (omega arith)) space refl pl.entered);
       }
         where
           out : distance (at k) r ≡ none
-          out = far-out r (ff.at lt)
+          out = far_out r (ff.at lt)
 
           e : Entry
           e = entry r 0 none
 
           at_next : at (suc k) ≡ entry r 0 none ∷ at k
-          at_next = ap (λ (o : Option Candidate). tr.next (at k) o (firstOut (at k) rts)) gone
+          at_next = ap (λ (o : Option Candidate). tr.next (at k) o (first_out (at k) rts)) gone
               ∙ ap (λ (o : Option ℕ). tr.next (at k) none o)
               (out_first (at k) (n - 1) [] r (omega (arith, pl.low, ff.low)) (omega arith) out (all_in r ff))
 
@@ -264,7 +264,7 @@ module _ (lines : List Line) (n : ℕ) (head next ends : List ℕ) (gv : Given l
             low = omega arith;
             key = get_or-set_same best r 0 0 (omega (arith, st.places));
             by = f.root
-                (came-new (entry r 0 none) (at k) r refl) refl refl;
+                (came_new (entry r 0 none) (at k) r refl) refl refl;
           }
 
           ri : distance (entry r 0 none ∷ at k) r ≡ some 0
@@ -280,54 +280,54 @@ module _ (lines : List Line) (n : ℕ) (head next ends : List ℕ) (gv : Given l
             where
               hit : After (entry r 0 none) (at k) x → dx < 0 + l.length
               hit (new p q) = omega (arith, same q a, (gv.sound l i).long)
-              hit (old p q) = never (score-of (at k) l x r dx (turn (half-ends j)) (sym q ∙ a) out) (lowest-none (at k) lines gone l i)
+              hit (old p q) = never (score_of_lem (at k) l x r dx (turn (half_ends j)) (sym q ∙ a) out) (lowest_none (at k) lines gone l i)
 
           fr : Front lines n (entry r 0 none ∷ at k) best' seg' ends Nothing
           fr =
-              front-relaxed lines n head next ends gv (entry r 0 none ∷ at k) r 0 (set best r 0) seg best' seg' lt ri gv.sound newest rx
-              (front-enter lines n head next ends gv (at k) (entry r 0 none) best seg (set best r 0) seg out lt pl.front key
+              front_relaxed lines n head next ends gv (entry r 0 none ∷ at k) r 0 (set best r 0) seg best' seg' lt ri gv.sound newest rx
+              (front_enter lines n head next ends gv (at k) (entry r 0 none) best seg (set best r 0) seg out lt pl.front key
               (λ m d. get_or-set_other best r m 0 0 d)
               (record { heap = st.heap; here = pl.front.opened r lt out ∙ ff.at lt; others = λ j a d. refl }))
 
-      end-next : (r : ℕ) → FirstFar best n root r → r ≡ n → Planting (k + 1) best seg order r
+      end_next : (r : ℕ) → FirstFar best n root r → r ≡ n → Planting (k + 1) best seg order r
       unfolding grow step marks
-      end-next r ff e = record {
+      end_next r ff e = record {
         front = subst (λ (z : Tree). Front lines n z best seg ends Nothing) (sym (ap at (add-one k) ∙ at_next)) pl.front;
         low = omega (arith, pl.low, ff.low);
-        passed = λ m a b. still-in m (all_in r ff m a b);
+        passed = λ m a b. still_in m (all_in r ff m a b);
         entered = subst (λ (z : Tree). Entered order z) (sym (ap at (add-one k) ∙ at_next)) pl.entered;
       }
         where
           at_next : at (suc k) ≡ at k
-          at_next = ap (λ (o : Option Candidate). tr.next (at k) o (firstOut (at k) rts)) gone
-              ∙ ap (λ (o : Option ℕ). tr.next (at k) none o) (out-past (at k) (n - 1) [] (λ m a b. all_in r ff m a (omega arith)))
+          at_next = ap (λ (o : Option Candidate). tr.next (at k) o (first_out (at k) rts)) gone
+              ∙ ap (λ (o : Option ℕ). tr.next (at k) none o) (out_past (at k) (n - 1) [] (λ m a b. all_in r ff m a (omega arith)))
 
-    pub sprouted-next : (best' seg' order' : List ℕ) (r : ℕ)
+    pub sprouted_next : (best' seg' order' : List ℕ) (r : ℕ)
         → Sprouted n head next ends (growing best seg order) (growing best' seg' order') k root r → Planting (k + 1) best' seg' order' r
-    sprouted-next best' seg' order' r (by-line a (more z lt seg₁ ch ne rx) e q o) =
+    sprouted_next best' seg' order' r (by_line_lem a (more z lt seg₁ ch ne rx) e q o) =
         subst (λ (x : List ℕ). Planting (k + 1) best' seg' x r) (sym o)
-        (subst (λ (x : ℕ). Planting (k + 1) best' seg' (set order k a) x) (sym q) (line-next lt seg₁ best' seg' a z ch rx))
-    sprouted-next best' seg' order' r (by-line a (found z lt t q q₂) e q' o) = absurd (e (z ∙ t))
-    sprouted-next best' seg' order' r (by-line a (nothing z lt q q') e q'' o) = absurd (e z)
-    sprouted-next best' seg' order' r (by-root a best₁ seg₁ (more z lt s ch ne rx) e ff l x o) = absurd (ne (sym z ∙ e))
-    sprouted-next best' seg' order' r (by-root a best₁ seg₁ (found z lt t q q₂) e ff l x o) = absurd (omega (arith, lead_low lt, t))
-    sprouted-next best' seg' order' r (by-root a best₁ seg₁ (nothing z lt q q') e ff l x o) =
+        (subst (λ (x : ℕ). Planting (k + 1) best' seg' (set order k a) x) (sym q) (line_next lt seg₁ best' seg' a z ch rx))
+    sprouted_next best' seg' order' r (by_line_lem a (found z lt t q q₂) e q' o) = absurd (e (z ∙ t))
+    sprouted_next best' seg' order' r (by_line_lem a (nothing z lt q q') e q'' o) = absurd (e z)
+    sprouted_next best' seg' order' r (by_root a best₁ seg₁ (more z lt s ch ne rx) e ff l x o) = absurd (ne (sym z ∙ e))
+    sprouted_next best' seg' order' r (by_root a best₁ seg₁ (found z lt t q q₂) e ff l x o) = absurd (omega (arith, lead_low lt, t))
+    sprouted_next best' seg' order' r (by_root a best₁ seg₁ (nothing z lt q q') e ff l x o) =
         subst (λ (y : List ℕ). Planting (k + 1) best' seg' y r) (sym o)
-        (root-next lt r best' seg' (subst (λ (y : List ℕ). FirstFar y n root r) q ff) l
+        (root_next lt r best' seg' (subst (λ (y : List ℕ). FirstFar y n root r) q ff) l
         (subst (λ (y : List ℕ). Relaxed n next ends (keys (set y r 0) seg) (keys best' seg') (get_or head r 0) 0) q
         (subst (λ (y : List ℕ). Relaxed n next ends (keys (set best₁ r 0) y) (keys best' seg') (get_or head r 0) 0) q' x)))
-    sprouted-next best' seg' order' r (ended a (more z lt s ch ne rx) e ff l o) = absurd (ne (sym z ∙ e))
-    sprouted-next best' seg' order' r (ended a (found z lt t q q₂) e ff l o) = absurd (omega (arith, lead_low lt, t))
-    sprouted-next best' seg' order' r (ended a (nothing z lt q q') e ff l o) =
+    sprouted_next best' seg' order' r (ended a (more z lt s ch ne rx) e ff l o) = absurd (ne (sym z ∙ e))
+    sprouted_next best' seg' order' r (ended a (found z lt t q q₂) e ff l o) = absurd (omega (arith, lead_low lt, t))
+    sprouted_next best' seg' order' r (ended a (nothing z lt q q') e ff l o) =
         subst (λ (y : List ℕ). Planting (k + 1) best' seg' y r) (sym o)
         (subst (λ (y : List ℕ). Planting (k + 1) y seg' order r) (sym q)
         (subst (λ (y : List ℕ). Planting (k + 1) best y order r) (sym q')
-        (end-next lt r (subst (λ (y : List ℕ). FirstFar y n root r) q ff) l)))
+        (end_next lt r (subst (λ (y : List ℕ). FirstFar y n root r) q ff) l)))
 
-  pub plant-end : (k : ℕ) (best seg order : List ℕ) (rt : ℕ) → Planting k best seg order rt → k ≡ n - 1
+  pub plant_end : (k : ℕ) (best seg order : List ℕ) (rt : ℕ) → Planting k best seg order rt → k ≡ n - 1
       → Holding (tree (n - 1) lines) best order ends
   unfolding tree
-  plant-end k best seg order rt pl e =
+  plant_end k best seg order rt pl e =
       subst (λ (z : ℕ). Holding (grow lines (marks (n - 1)) z) best order ends) e
       (record { keyed = pl.front.keyed; entered = pl.entered })
 
@@ -343,10 +343,10 @@ first_next best i j f g x a b e = go (ℕ_discrete x j)
 
 -- ---- sprout and plant
 
-pub stage-clear : (n : ℕ) (best seg : List ℕ) → n ≤ leafLimit → 0 < n → n ≤ length best → 2 * n ≤ length seg
+pub stage_clear : (n : ℕ) (best seg : List ℕ) → n ≤ leaf_limit → 0 < n → n ≤ length best → 2 * n ≤ length seg
     → ((i : ℕ) → i < n → get_or best i 0 ≡ hp.far)
     → ((i : ℕ) → i < 2 * n → get_or seg i 0 ≡ hp.far) → Stage n best seg
-stage-clear n best seg few pos lb ls fb fs = record {
+stage_clear n best seg few pos lb ls fb fs = record {
   heap = cleared seg n few pos ls fs;
   places = lb;
   over = λ m h. omega (arith, fb m h, fs (n + m) (omega arith));
@@ -354,24 +354,24 @@ stage-clear n best seg few pos lb ls fb fs = record {
 }
 
 module _ (n : ℕ) (head next ends best seg order best' seg' order' : List ℕ) (k rt r : ℕ) where
-  pub sprouted-high : rt ≤ n → Sprouted n head next ends (growing best seg order) (growing best' seg' order') k rt r → r ≤ n
-  sprouted-high h (by-line a t e q o) = omega arith
-  sprouted-high h (by-root a b s t e ff l x o) = omega arith
-  sprouted-high h (ended a t e ff q o) = omega arith
+  pub sprouted_high : rt ≤ n → Sprouted n head next ends (growing best seg order) (growing best' seg' order') k rt r → r ≤ n
+  sprouted_high h (by_line_lem a t e q o) = omega arith
+  sprouted_high h (by_root a b s t e ff l x o) = omega arith
+  sprouted_high h (ended a t e ff q o) = omega arith
 
-  pub sprouted-below : Stage n best seg → Bounded n ends → Below n order
+  pub sprouted_below : Stage n best seg → Bounded n ends → Below n order
       → Sprouted n head next ends (growing best seg order) (growing best' seg' order') k rt r → Below n order'
-  sprouted-below st tp o (by-line a t e q z) m h = rw z (below_set n order k a (turned-low t) o m h)
+  sprouted_below st tp o (by_line_lem a t e q z) m h = rw z (below_set n order k a (turned_low t) o m h)
     where
-      turned-low : Turned n head next ends (keys best seg) (keys best' seg') 0 a → a < n
-      turned-low (more x l s ch ne rx) = rw x (tp.mark-ok (top seg % halves) (omega arith))
-      turned-low (found x l y p p₂) = rw x (tp.mark-ok (top seg % halves) (omega arith))
-      turned-low (nothing x l p p') = absurd (e x)
-  sprouted-below st tp o (by-root a b s t e ff l x z) m h = rw z (below_set n order k r l o m h)
-  sprouted-below st tp o (ended a t e ff q z) m h = rw z (o m h)
+      turned_low : Turned n head next ends (keys best seg) (keys best' seg') 0 a → a < n
+      turned_low (more x l s ch ne rx) = rw x (tp.mark_ok (top seg % halves) (omega arith))
+      turned_low (found x l y p p₂) = rw x (tp.mark_ok (top seg % halves) (omega arith))
+      turned_low (nothing x l p p') = absurd (e x)
+  sprouted_below st tp o (by_root a b s t e ff l x z) m h = rw z (below_set n order k r l o m h)
+  sprouted_below st tp o (ended a t e ff q z) m h = rw z (o m h)
 
-  pub sprouted-stage : Stage n best seg → Bounded n ends → Sprouted n head next ends (growing best seg order)
+  pub sprouted_stage : Stage n best seg → Bounded n ends → Sprouted n head next ends (growing best seg order)
       (growing best' seg' order') k rt r → Stage n best' seg'
-  sprouted-stage st tp (by-line a t e q o) = turned-any n head next ends best seg best' seg' 0 a st t
-  sprouted-stage st tp (by-root a b s t e ff l x o) = x.stage
-  sprouted-stage st tp (ended a t e ff q o) = turned-any n head next ends best seg best' seg' 0 a st t
+  sprouted_stage st tp (by_line_lem a t e q o) = turned_any n head next ends best seg best' seg' 0 a st t
+  sprouted_stage st tp (by_root a b s t e ff l x o) = x.stage
+  sprouted_stage st tp (ended a t e ff q o) = turned_any n head next ends best seg best' seg' 0 a st t

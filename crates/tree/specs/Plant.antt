@@ -23,9 +23,9 @@ growing best seg order = record { known = keys best seg; order = order }
 
 -- the tables before and after: the mark that enters k-th stands at place k of order
 pub data Sprouted (n : ℕ) (head next ends : List ℕ) (a z : Growing) (k root r : ℕ) : Type 0 where
-  by-line : (m : ℕ) → Turned n head next ends a.known z.known 0 m → (m ≡ 0 → ⊥) → r ≡ root → z.order ≡ set a.order k m
+  by_line_lem : (m : ℕ) → Turned n head next ends a.known z.known 0 m → (m ≡ 0 → ⊥) → r ≡ root → z.order ≡ set a.order k m
       → Sprouted n head next ends a z k root r
-  by-root : (m : ℕ) (best₁ seg₁ : List ℕ) → Turned n head next ends a.known (keys best₁ seg₁) 0 m → m ≡ 0 → FirstFar best₁ n root r
+  by_root : (m : ℕ) (best₁ seg₁ : List ℕ) → Turned n head next ends a.known (keys best₁ seg₁) 0 m → m ≡ 0 → FirstFar best₁ n root r
       → r < n → Relaxed n next ends (keys (set best₁ r 0) seg₁) z.known (get_or head r 0) 0 → z.order ≡ set a.order k r
       → Sprouted n head next ends a z k root r
   ended : (m : ℕ) → Turned n head next ends a.known z.known 0 m → m ≡ 0 → FirstFar z.known.best n root r → r ≡ n
@@ -52,5 +52,5 @@ Below n xs = (k : ℕ) → k < n → get_or xs k 0 < n
 -- room for the order of entry of the marks below n
 pub record RoomTree (n : ℕ) (best seg order : List ℕ) : Type 0 where
   pub room : RoomSearch n best seg
-  pub some-mark : 0 < n
+  pub some_mark : 0 < n
   pub orders : n ≤ length order

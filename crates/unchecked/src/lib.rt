@@ -3,9 +3,9 @@
 ghost use Rattle.std.specs.Prelude.{◌≡◌, ◌+◌, ◌*◌, ◌-◌, ◌<◌, length};
 ghost use Rattle.chains.specs.Chains.{mark_of};
 ghost use Rattle.closing.specs.Order.{Put};
-ghost use Rattle.unchecked.specs.Ways.{markLimit, Climbed, Follows, Followed, Checks, LoopChecked};
+ghost use Rattle.unchecked.specs.Ways.{mark_limit, Climbed, Follows, Followed, Checks, LoopChecked};
 ghost use Rattle.unchecked.specs.Ways.{closes_at, Closes, Passed, LinesChecked};
-ghost use Rattle.unchecked.specs.List.{isOpen, openFrom, RoomOpen, Ready, NotChecked};
+ghost use Rattle.unchecked.specs.List.{is_open, open_from, RoomOpen, Ready, NotChecked};
 ghost use Rattle.book.specs.Good.{GoodLines};
 ghost use Rattle.prepare.specs.Prepared.{RoomBook};
 ghost use Rattle.unchecked.specs.Book.{RoomList, BookListed};
@@ -22,7 +22,7 @@ const CHECKED: u64 = 1;
 
 // The line by which the mark m came in is checked. The answer is the mark at its other end.
 fn climb(ends: &[u64; HALVES], best: &[u64; MARKS], marked: &mut [u64; NUMBERS], m: usize) -> usize
-    requires { m < markLimit }
+    requires { m < mark_limit }
     ensures { Climbed ends.now best.now marked.old marked.new m result }
 {
     let h = best[m] % chains::HALVES;
@@ -123,7 +123,7 @@ fn check_lines(ends: &[u64; HALVES], best: &[u64; MARKS], marked: &mut [u64; NUM
 fn is_open(ends: &[u64], marked: &[u64], number: usize) -> bool
     requires fact_1 { number * 2 < length ends.now }
     requires fact_2 { number < length marked.now }
-    ensures { result ≡ isOpen ends.now marked.now number }
+    ensures { result ≡ is_open ends.now marked.now number }
 {
     if ends[number * 2] == 0 {
         return false;
@@ -134,7 +134,7 @@ fn is_open(ends: &[u64], marked: &[u64], number: usize) -> bool
 // The numbers below q of the lines that stand and are not marked, by rising number, into out from place 0 on, and how many there are.
 fn list_open(ends: &[u64], marked: &[u64], out: &mut [u64], q: usize) -> usize
     requires { RoomOpen ends.now marked.now out.old q }
-    ensures { Put (openFrom ends.now marked.now 1 (q - 1)) out.old out.new result }
+    ensures { Put (open_from ends.now marked.now 1 (q - 1)) out.old out.new result }
 {
     let mut c = 0;
     let mut number = 1;

@@ -1,14 +1,14 @@
 -- Document 01, "Worked network": its table and its file.
 -- Assumes nothing.
 use Rattle.std.specs.Prelude.{List, [], ◌∷◌, ◌++◌, ℕ, ℤ, pos}
-use Rattle.book.specs.Version.{noClass}
+use Rattle.book.specs.Version.{no_class}
 
 -- a standing line of this class, and of none
 abbrev pub classed : ℤ → ℕ → ℕ → ℕ → ℕ → List ℤ
 classed class from to difference length = pos from ∷ pos to ∷ pos difference ∷ pos length ∷ pos 1 ∷ class ∷ []
 
 abbrev pub line : ℕ → ℕ → ℕ → ℕ → List ℤ
-line = classed noClass
+line = classed no_class
 
 -- the lines, all of one class
 unfoldable pub lines_of : ℤ → List ℤ
@@ -23,7 +23,7 @@ lines_of class =
 
 unfoldable pub lines : List ℤ
 unfolding lines_of
-lines = lines_of noClass
+lines = lines_of no_class
 
 -- "A held at 100,000,000"
 unfoldable pub held : List ℤ

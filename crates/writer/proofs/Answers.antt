@@ -7,29 +7,29 @@ use Prim.Native.Nat.{ℕ, ◌≤◌, ◌<◌}
 use lib.ListN.{length, drop}
 use lib.IntN.{ℤ}
 use borrow.Author.Tests.{lt-ltb, le-ltb}
-use Rattle.book.specs.Test.{refusal, noRefusal}
+use Rattle.book.specs.Test.{refusal, no_refusal}
 use Rattle.book.specs.declared.Book.{Book}
 use Rattle.book.specs.declared.Refusal.{Refusal}
 use Rattle.file.specs.Read.{length_of}
-use Rattle.writer.specs.Write.{fileOf, cannotSay, refusedWith, done, writing, writeGood}
+use Rattle.writer.specs.Write.{file_of, cannot_say, refused_with, done, writing, write_good}
 
 module _ (k : Book) (held lines : List ℤ) (file : List ℕ) where
-  pub not-said : cannotSay k lines ≡ true → writeGood k held lines file ≡ writing (refusedWith (refusal 16 0)) file
-  unfolding writeGood
-  not-said e = rw e
+  pub not_said : cannot_say k lines ≡ true → write_good k held lines file ≡ writing (refused_with (refusal 16 0)) file
+  unfolding write_good
+  not_said e = rw e
 
-  pub no_room : cannotSay k lines ≡ false → length file < length_of k
-      → writeGood k held lines file ≡ writing (refusedWith (refusal 10 0)) file
-  unfolding writeGood
+  pub no_room : cannot_say k lines ≡ false → length file < length_of k
+      → write_good k held lines file ≡ writing (refused_with (refusal 10 0)) file
+  unfolding write_good
   no_room e l = rw (e, lt-ltb (length file) (length_of k) l)
 
-  pub all-written : cannotSay k lines ≡ false → length_of k ≤ length file
-      → writeGood k held lines file ≡ writing (done k) (fileOf k held lines ++ drop (length_of k) file)
-  unfolding writeGood
-  all-written e l = rw (e, le-ltb (length file) (length_of k) l)
+  pub all_written : cannot_say k lines ≡ false → length_of k ≤ length file
+      → write_good k held lines file ≡ writing (done k) (file_of k held lines ++ drop (length_of k) file)
+  unfolding write_good
+  all_written e l = rw (e, le-ltb (length file) (length_of k) l)
 
   -- as the code has it: by what was answered and what the file holds
-  pub is-written : (r : Refusal) (bytes : ℕ) (out : List ℕ) → cannotSay k lines ≡ false → r ≡ noRefusal → bytes ≡ length_of k
-      → bytes ≤ length file → out ≡ fileOf k held lines ++ drop bytes file
-      → writing (record { refusal = r; bytes = bytes }) out ≡ writeGood k held lines file
-  is-written r bytes out e none size room o = rw (o, none, size) (sym (all-written e (rw size at room)))
+  pub is_written : (r : Refusal) (bytes : ℕ) (out : List ℕ) → cannot_say k lines ≡ false → r ≡ no_refusal → bytes ≡ length_of k
+      → bytes ≤ length file → out ≡ file_of k held lines ++ drop bytes file
+      → writing (record { refusal = r; bytes = bytes }) out ≡ write_good k held lines file
+  is_written r bytes out e none size room o = rw (o, none, size) (sym (all_written e (rw size at room)))

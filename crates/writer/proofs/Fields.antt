@@ -8,8 +8,8 @@ use lib.ListN.{length, take, length-append}
 use lib.Seq.{take-add}
 use Rattle.file.specs.Wire.{Bytes, be}
 use Rattle.writer.specs.Bytes.{bytes_of}
-use Rattle.writer.proofs.Numbers.{bytes-length}
-use Rattle.writer.proofs.BothWays.{be-front, be-last, bytes_back}
+use Rattle.writer.proofs.Numbers.{bytes_length}
+use Rattle.writer.proofs.BothWays.{be_front, be_last, bytes_back}
 
 -- the bytes of each number after p: for each the count of its bytes, and the number
 abbrev pub run : List ℕ → List (ℕ × ℕ) → List ℕ
@@ -25,27 +25,27 @@ run_length : (p : List ℕ) (fs : List (ℕ × ℕ)) → length (run p fs) ≡ l
 run_length p [] = omega arith
 run_length p (f ∷ fs) =
     run_length (p ++ bytes_of f.0 f.1) fs
-    ∙ omega (arith, length-append p (bytes_of f.0 f.1), bytes-length f.0 f.1)
+    ∙ omega (arith, length-append p (bytes_of f.0 f.1), bytes_length f.0 f.1)
 
 run_join : (p : List ℕ) (fs gs : List (ℕ × ℕ)) → run p (fs ++ gs) ≡ run (run p fs) gs
 run_join p [] gs = refl
 run_join p (f ∷ fs) gs = run_join (p ++ bytes_of f.0 f.1) fs gs
 
 -- what stands before the run is read as before
-run-front : (p : List ℕ) (fs : List (ℕ × ℕ)) (k a : ℕ) → a + k ≤ length p → be k (run p fs) a ≡ be k p a
-run-front p [] k a h = refl
-run-front p (f ∷ fs) k a h =
-    run-front (p ++ bytes_of f.0 f.1) fs k a (omega (arith, length-append p (bytes_of f.0 f.1)))
-    ∙ be-front k p (bytes_of f.0 f.1) a h
+run_front : (p : List ℕ) (fs : List (ℕ × ℕ)) (k a : ℕ) → a + k ≤ length p → be k (run p fs) a ≡ be k p a
+run_front p [] k a h = refl
+run_front p (f ∷ fs) k a h =
+    run_front (p ++ bytes_of f.0 f.1) fs k a (omega (arith, length-append p (bytes_of f.0 f.1)))
+    ∙ be_front k p (bytes_of f.0 f.1) a h
 
 -- the number x between others, which fits into its k bytes
-pub field-read : (before after : List (ℕ × ℕ)) (k x : ℕ) → x < 256 ^ k → be k (run [] (before ++ (k, x) ∷ after)) (widths before) ≡ x
-field-read before after k x l =
+pub field_read : (before after : List (ℕ × ℕ)) (k x : ℕ) → x < 256 ^ k → be k (run [] (before ++ (k, x) ∷ after)) (widths before) ≡ x
+field_read before after k x l =
     let front = run [] before in
     let long : length front ≡ widths before = omega (arith, run_length [] before) in
-    let all : length (front ++ bytes_of k x) ≡ length front + k = length-append front (bytes_of k x) ∙ omega (arith, bytes-length k x) in
+    let all : length (front ++ bytes_of k x) ≡ length front + k = length-append front (bytes_of k x) ∙ omega (arith, bytes_length k x) in
     rw (run_join [] before ((k, x) ∷ after))
-    (run-front (front ++ bytes_of k x) after k (widths before) (omega arith) ∙ be-last k x front (widths before) long l)
+    (run_front (front ++ bytes_of k x) after k (widths before) (omega arith) ∙ be_last k x front (widths before) long l)
 
 -- the next k bytes of a list of bytes, by the number that they are
 pub field_back : (s p : List ℕ) (a k x : ℕ) → Bytes s → a + k ≤ length s → p ≡ take a s → bytes_of k x ≡ bytes_of k (be k s a)

@@ -10,34 +10,34 @@ use lib.ListN.{length, get_or, take, drop, length-append, length-drop}
 use lib.Seq.{take-suc, take_all, get_or-drop}
 use lib.IntN.{ℤ, pos, nat_abs}
 use borrow.Author.Tests.{eq-eqb, le-ltb}
-use Rattle.laws.specs.Tests.{eqZ}
+use Rattle.laws.specs.Tests.{eq_z}
 use Rattle.laws.specs.Range.{Between}
-use Rattle.laws.proofs.Tests.{eqZ-apart}
+use Rattle.laws.proofs.Tests.{eq_z_apart}
 use Rattle.laws.proofs.Scans.{none_below}
-use Rattle.book.specs.Limits.{mostMarks, mostLines}
-use Rattle.book.specs.Held.{heldWords, markAt, heightAt}
-use Rattle.book.specs.Line.{lineWords, fromAt, to_at, differenceAt, length_at, standingAt}
-use Rattle.book.specs.Version.{versionOut, hasClasses}
-use Rattle.book.specs.Test.{bookOut, test_of}
+use Rattle.book.specs.Limits.{most_marks, most_lines}
+use Rattle.book.specs.Held.{held_words, mark_at, height_at}
+use Rattle.book.specs.Line.{line_words, from_at, to_at, difference_at, length_at, standing_at}
+use Rattle.book.specs.Version.{version_out, has_classes}
+use Rattle.book.specs.Test.{book_out, test_of}
 use Rattle.book.specs.Lent.{Lent}
 use Rattle.book.specs.Good.{GoodLine, Lines, HeldEntries, Versioned, single, classed, GoodBook}
 use Rattle.book.specs.declared.Book.{Book}
-use Rattle.book.proofs.IfGood.{if-good}
-use Rattle.book.proofs.Passing.{counts-pass, good-passes}
-use Rattle.book.proofs.Versions.{version-passes, known-version, small-tolerance}
+use Rattle.book.proofs.IfGood.{if_good_lem}
+use Rattle.book.proofs.Passing.{counts_pass, good_passes}
+use Rattle.book.proofs.Versions.{version_passes, known_version, small_tolerance}
 use Rattle.file.specs.Wire.{be}
-use Rattle.file.specs.Entry.{entryBytes, numbers, lineKind, entries}
-use Rattle.file.specs.Read.{length_of, head_of, held_of, lines_of, bookIn, Outcome, done, roomOf, body_of, after_head, read_of}
+use Rattle.file.specs.Entry.{entry_bytes, numbers, line_kind, entries}
+use Rattle.file.specs.Read.{length_of, head_of, held_of, lines_of, book_in, Outcome, done, room_of, body_of, after_head, read_of}
 use Rattle.file.specs.declared.Head.TheVariants.{States}
 use Rattle.file.specs.declared.entry.Kind.TheVariants.{Held}
-use Rattle.file.proofs.Heads.{line-bytes}
-use Rattle.file.proofs.Entries.{room_for, line-words}
+use Rattle.file.proofs.Heads.{line_bytes}
+use Rattle.file.proofs.Entries.{room_for, line_words_lem}
 use Rattle.writer.specs.Entry.{bytes, written}
-use Rattle.writer.specs.Write.{headBytes, fileOf, anyWithdrawn, cannotSay}
-use Rattle.writer.proofs.BothWays.{be-front}
-use Rattle.writer.proofs.Fields.{run, widths, field-read}
-use Rattle.writer.proofs.Entries.{head-length, written-length}
-use Rattle.writer.proofs.ReadBack.{Sayable, ReadBack, entries-read, held-read, line_read, classed-read}
+use Rattle.writer.specs.Write.{head_bytes, file_of, any_withdrawn, cannot_say}
+use Rattle.writer.proofs.BothWays.{be_front}
+use Rattle.writer.proofs.Fields.{run, widths, field_read}
+use Rattle.writer.proofs.Entries.{head_length, written_length}
+use Rattle.writer.proofs.ReadBack.{Sayable, ReadBack, entries_read, held_read, line_read, classed_read}
 
 -- ---- the entries of a good book are read as they were
 
@@ -58,108 +58,108 @@ one_by_one (suc n) a slice h =
 wider : {lo hi : ℕ} {z : ℤ} (most : ℕ) → hi ≤ most → Between lo hi z → Between 0 most z
 wider most l b = record { is = b.is; low = omega arith; high = omega (arith, b.high) }
 
-held_back : (held : List ℤ) (b h : ℕ) → b ≤ mostMarks → HeldEntries held b h → ReadBack Held held h
+held_back : (held : List ℤ) (b h : ℕ) → b ≤ most_marks → HeldEntries held b h → ReadBack Held held h
 held_back held b h few g i l =
     let e = g.each i l in
-    let room = room_for i h heldWords l in
-    rw (one_by_one 2 (i * heldWords) held (omega (arith, g.whole)))
-    (held-read (markAt held i) (heightAt held i) (wider 65535 (omega arith) e.mark) (omega (arith, e.height)))
+    let room = room_for i h held_words l in
+    rw (one_by_one 2 (i * held_words) held (omega (arith, g.whole)))
+    (held_read (mark_at held i) (height_at held i) (wider 65535 (omega arith) e.mark) (omega (arith, e.height)))
 
 -- where no line is withdrawn, each stands
-pub all-stand : (lines : List ℤ) (n i : ℕ) → anyWithdrawn lines n ≡ false → i < n → Between 0 1 (standingAt lines i)
-    → standingAt lines i ≡ pos 1
-unfolding anyWithdrawn
-all-stand lines n i e l s =
-    let z = standingAt lines i in
-    let not-zero : nat_abs z ≡ 0 → ⊥ =
-    λ zero-size. eqZ-apart z (pos 0) (none_below (λ j. eqZ (standingAt lines j) (pos 0)) n e i l) (s.is ∙ ap pos zero-size) in
-    s.is ∙ ap pos (by (nat_abs z) not-zero s.high)
+pub all_stand : (lines : List ℤ) (n i : ℕ) → any_withdrawn lines n ≡ false → i < n → Between 0 1 (standing_at lines i)
+    → standing_at lines i ≡ pos 1
+unfolding any_withdrawn
+all_stand lines n i e l s =
+    let z = standing_at lines i in
+    let not_zero : nat_abs z ≡ 0 → ⊥ =
+    λ zero_size. eq_z_apart z (pos 0) (none_below (λ j. eq_z (standing_at lines j) (pos 0)) n e i l) (s.is ∙ ap pos zero_size) in
+    s.is ∙ ap pos (by (nat_abs z) not_zero s.high)
   where
     by : (m : ℕ) → (m ≡ 0 → ⊥) → m ≤ 1 → m ≡ 1
     by zero n h = absurd (n refl)
     by (suc m) n h = omega arith
 
 -- a line of a good book can be said, but for standing and class
-sayable : (b : ℕ) (lines : List ℤ) (i : ℕ) → b ≤ mostMarks → GoodLine b lines i
-    → Sayable (fromAt lines i) (to_at lines i) (differenceAt lines i) (length_at lines i)
+sayable : (b : ℕ) (lines : List ℤ) (i : ℕ) → b ≤ most_marks → GoodLine b lines i
+    → Sayable (from_at lines i) (to_at lines i) (difference_at lines i) (length_at lines i)
 sayable b lines i few g =
     record {
-      from-fits = wider 65535 (omega arith) g.from;
-      to-fits = wider 65535 (omega arith) g.to;
-      difference-fits = omega (arith, g.difference);
-      length-fits = wider 4294967295 (omega arith) g.long;
+      from_fits = wider 65535 (omega arith) g.from;
+      to_fits = wider 65535 (omega arith) g.to;
+      difference_fits = omega (arith, g.difference);
+      length_fits = wider 4294967295 (omega arith) g.long;
     }
 
-module _ (lines : List ℤ) (b n : ℕ) (few : b ≤ mostMarks) (g : Lines lines b n) where
+module _ (lines : List ℤ) (b n : ℕ) (few : b ≤ most_marks) (g : Lines lines b n) where
   -- six numbers one by one
-  six : (i : ℕ) → i < n → take lineWords (drop (i * lineWords) lines) ≡ heads 6 (i * lineWords) lines
-  six i l = one_by_one 6 (i * lineWords) lines (omega (arith, g.whole, room_for i n lineWords l))
+  six : (i : ℕ) → i < n → take line_words (drop (i * line_words) lines) ≡ heads 6 (i * line_words) lines
+  six i l = one_by_one 6 (i * line_words) lines (omega (arith, g.whole, room_for i n line_words l))
 
-  lines-back : {version t : ℕ} → Versioned lines n version t → cond (hasClasses (pos version)) false (anyWithdrawn lines n) ≡ false
-      → ReadBack (lineKind version) lines n
-  unfolding eqZ
-  lines-back (single low high none) said i l =
+  lines_back : {version t : ℕ} → Versioned lines n version t → cond (has_classes (pos version)) false (any_withdrawn lines n) ≡ false
+      → ReadBack (line_kind version) lines n
+  unfolding eq_z
+  lines_back (single low high none) said i l =
       let e = g.each i l in
       rw (six i l)
-      (line_read _ _ _ _ _ _ (sayable b lines i few e) (all-stand lines n i said l e.standing) (none i l))
-  lines-back (classed each) said i l =
+      (line_read _ _ _ _ _ _ (sayable b lines i few e) (all_stand lines n i said l e.standing) (none i l))
+  lines_back (classed each) said i l =
       let e = g.each i l in
       rw (six i l)
-      (classed-read _ _ _ _ _ _ (sayable b lines i few e) (wider 255 (omega arith) (each i l)) (wider 255 (omega arith) e.standing))
+      (classed_read _ _ _ _ _ _ (sayable b lines i few e) (wider 255 (omega arith) (each i l)) (wider 255 (omega arith) e.standing))
 
 -- ---- the whole file
 
 module _ (k : Book) (held lines : List ℤ) where
   abbrev file : List ℕ
-  file = fileOf k held lines
+  file = file_of k held lines
 
   abbrev held_bytes : List ℕ
   held_bytes = written Held held k.held
 
-  abbrev line-part : List ℕ
-  line-part = written (lineKind k.version) lines k.lines
+  abbrev line_part : List ℕ
+  line_part = written (line_kind k.version) lines k.lines
 
-  pub file-is : file ≡ headBytes k ++ held_bytes ++ line-part
-  unfolding fileOf
-  file-is = refl
+  pub file_is : file ≡ head_bytes k ++ held_bytes ++ line_part
+  unfolding file_of
+  file_is = refl
 
-  pub file-length : length file ≡ length_of k
-  file-length =
-      ap length file-is
-      ∙ length-append (headBytes k ++ held_bytes) line-part
+  pub file_length_lem : length file ≡ length_of k
+  file_length_lem =
+      ap length file_is
+      ∙ length-append (head_bytes k ++ held_bytes) line_part
       ∙ omega (
         arith,
-        length-append (headBytes k) held_bytes,
-        head-length k,
-        written-length Held held k.held,
-        written-length (lineKind k.version) lines k.lines,
+        length-append (head_bytes k) held_bytes,
+        head_length k,
+        written_length Held held k.held,
+        written_length (line_kind k.version) lines k.lines,
       )
 
-  pub held-read-back : length held ≡ k.held * heldWords → ReadBack Held held k.held → held_of file k ≡ held
+  pub held_read_back : length held ≡ k.held * held_words → ReadBack Held held k.held → held_of file k ≡ held
   unfolding held_of
-  held-read-back whole back =
-      rw file-is
-      (entries-read Held held (headBytes k) line-part 13 k.held (head-length k) back
-      ∙ take_all (k.held * heldWords) held (omega arith))
+  held_read_back whole back =
+      rw file_is
+      (entries_read Held held (head_bytes k) line_part 13 k.held (head_length k) back
+      ∙ take_all (k.held * held_words) held (omega arith))
 
-  pub lines-read-back : length lines ≡ k.lines * lineWords → ReadBack (lineKind k.version) lines k.lines → lines_of file k ≡ lines
+  pub lines_read_back : length lines ≡ k.lines * line_words → ReadBack (line_kind k.version) lines k.lines → lines_of file k ≡ lines
   unfolding lines_of
-  lines-read-back whole back =
-      let front = headBytes k ++ held_bytes in
+  lines_read_back whole back =
+      let front = head_bytes k ++ held_bytes in
       let long : length front ≡ 13 + k.held * 10 =
-      length-append (headBytes k) held_bytes ∙ omega (arith, head-length k, written-length Held held k.held) in
-      rw (file-is, ← (append-nil (front ++ line-part)))
-      (entries-read (lineKind k.version) lines front [] (13 + k.held * 10) k.lines long back
-      ∙ rw (line-words k.version) (take_all (k.lines * lineWords) lines (omega arith)))
+      length-append (head_bytes k) held_bytes ∙ omega (arith, head_length k, written_length Held held k.held) in
+      rw (file_is, ← (append-nil (front ++ line_part)))
+      (entries_read (line_kind k.version) lines front [] (13 + k.held * 10) k.lines long back
+      ∙ rw (line_words_lem k.version) (take_all (k.lines * line_words) lines (omega arith)))
 
 -- what the head says: for each number the count of its bytes
-abbrev pub headFields : Book → List (ℕ × ℕ)
-headFields k =
+abbrev pub head_fields : Book → List (ℕ × ℕ)
+head_fields k =
     (4, length_of k) ∷ (1, k.version) ∷ (2, k.tolerance) ∷ (2, k.marks) ∷ (2, k.held) ∷ (2, k.lines) ∷ []
 
-pub head-bytes-are : (k : Book) → headBytes k ≡ run [] (headFields k)
-unfolding headBytes
-head-bytes-are k = refl
+pub head_bytes_are : (k : Book) → head_bytes k ≡ run [] (head_fields k)
+unfolding head_bytes
+head_bytes_are k = refl
 
 -- so small that its numbers fit
 pub record SmallHead (k : Book) : Type 0 where
@@ -172,20 +172,20 @@ pub record SmallHead (k : Book) : Type 0 where
 
 module _ (k : Book) (held lines : List ℤ) (s : SmallHead k) where
   -- a number of the head stands at its place in the file
-  stated : (before after : List (ℕ × ℕ)) (w x : ℕ) → headFields k ≡ before ++ (w, x) ∷ after → widths before + w ≤ 13 → x < 256 ^ w
-      → be w (fileOf k held lines) (widths before) ≡ x
+  stated : (before after : List (ℕ × ℕ)) (w x : ℕ) → head_fields k ≡ before ++ (w, x) ∷ after → widths before + w ≤ 13 → x < 256 ^ w
+      → be w (file_of k held lines) (widths before) ≡ x
   stated before after w x e inside l =
-      rw (file-is k held lines, append_assoc (headBytes k) (written Held held k.held) (written (lineKind k.version) lines k.lines))
-      (be-front w (headBytes k) (written Held held k.held ++ written (lineKind k.version) lines k.lines) (widths before)
-      (omega (arith, head-length k))
-      ∙ ap (λ (p : List ℕ). be w p (widths before)) (head-bytes-are k ∙ ap (run []) e)
-      ∙ field-read before after w x l)
+      rw (file_is k held lines, append_assoc (head_bytes k) (written Held held k.held) (written (line_kind k.version) lines k.lines))
+      (be_front w (head_bytes k) (written Held held k.held ++ written (line_kind k.version) lines k.lines) (widths before)
+      (omega (arith, head_length k))
+      ∙ ap (λ (p : List ℕ). be w p (widths before)) (head_bytes_are k ∙ ap (run []) e)
+      ∙ field_read before after w x l)
 
-  pub head-read-back : versionOut (pos k.version) ≡ false
-      → bookOut (pos k.version) (pos k.marks) (pos k.tolerance) k.held k.lines ≡ false
-      → head_of (fileOf k held lines) ≡ States k
+  pub head_read_back : version_out (pos k.version) ≡ false
+      → book_out (pos k.version) (pos k.marks) (pos k.tolerance) k.held k.lines ≡ false
+      → head_of (file_of k held lines) ≡ States k
   unfolding head_of
-  head-read-back known inside =
+  head_read_back known inside =
       let f₁ : ℕ × ℕ = (4, length_of k) in
       let f₂ : ℕ × ℕ = (1, k.version) in
       let f₃ : ℕ × ℕ = (2, k.tolerance) in
@@ -199,7 +199,7 @@ module _ (k : Book) (held lines : List ℤ) (s : SmallHead k) where
         stated (f₁ ∷ f₂ ∷ f₃ ∷ []) (f₅ ∷ f₆ ∷ []) 2 k.marks refl (omega arith) s.marks,
         stated (f₁ ∷ f₂ ∷ f₃ ∷ f₄ ∷ []) (f₆ ∷ []) 2 k.held refl (omega arith) s.held,
         stated (f₁ ∷ f₂ ∷ f₃ ∷ f₄ ∷ f₅ ∷ []) [] 2 k.lines refl (omega arith) s.lines,
-        file-length k held lines,
+        file_length_lem k held lines,
         le-ltb (length_of k) 13 (omega arith),
         eq-eqb (length_of k) (length_of k) refl,
         known,
@@ -208,58 +208,58 @@ module _ (k : Book) (held lines : List ℤ) (s : SmallHead k) where
 
 -- ---- a good book that its version can say
 
-module _ (k : Book) (book : Lent) (good : GoodBook k book) (said : cannotSay k book.lines ≡ false) where
-  abbrev its-file : List ℕ
-  its-file = fileOf k book.held book.lines
+module _ (k : Book) (book : Lent) (good : GoodBook k book) (said : cannot_say k book.lines ≡ false) where
+  abbrev its_file : List ℕ
+  its_file = file_of k book.held book.lines
 
   small : SmallHead k
   small =
-      let most : k.lines * entryBytes (lineKind k.version) ≤ mostLines * 14 =
-      mul-le-mul good.lines-good.few (line-bytes k.version) in
+      let most : k.lines * entry_bytes (line_kind k.version) ≤ most_lines * 14 =
+      mul-le-mul good.lines_good.few (line_bytes k.version) in
       record {
-        size = omega (arith, most, good.held-good.few);
-        version = omega (arith, known-version good.by-version);
-        tolerance = omega (arith, small-tolerance good.by-version);
-        marks = omega (arith, good.few-marks);
-        held = omega (arith, good.held-good.few);
-        lines = omega (arith, good.lines-good.few);
+        size = omega (arith, most, good.held_good.few);
+        version = omega (arith, known_version good.by_version);
+        tolerance = omega (arith, small_tolerance good.by_version);
+        marks = omega (arith, good.few_marks);
+        held = omega (arith, good.held_good.few);
+        lines = omega (arith, good.lines_good.few);
       }
 
-  pub head-back : head_of its-file ≡ States k
-  head-back = head-read-back k book.held book.lines small (version-passes good.by-version) (counts-pass k book good)
+  pub head_back : head_of its_file ≡ States k
+  head_back = head_read_back k book.held book.lines small (version_passes good.by_version) (counts_pass k book good)
 
-  pub held-are : held_of its-file k ≡ book.held
-  held-are =
-      held-read-back k book.held book.lines good.held-good.whole
-      (held_back book.held k.marks k.held good.few-marks good.held-good)
+  pub held_are : held_of its_file k ≡ book.held
+  held_are =
+      held_read_back k book.held book.lines good.held_good.whole
+      (held_back book.held k.marks k.held good.few_marks good.held_good)
 
-  pub lines_are : lines_of its-file k ≡ book.lines
-  unfolding cannotSay
+  pub lines_are : lines_of its_file k ≡ book.lines
+  unfolding cannot_say
   lines_are =
-      lines-read-back k book.held book.lines good.lines-good.whole
-      (lines-back book.lines k.marks k.lines good.few-marks good.lines-good good.by-version said)
+      lines_read_back k book.held book.lines good.lines_good.whole
+      (lines_back book.lines k.marks k.lines good.few_marks good.lines_good good.by_version said)
 
   -- "Reading what was written gives the same book"
-  pub book-read-back : bookIn its-file k ≡ book
-  book-read-back = rw (held-are, lines_are, ← good.version, ← good.marks, ← good.tolerance)
+  pub book_read_back : book_in its_file k ≡ book
+  book_read_back = rw (held_are, lines_are, ← good.version, ← good.marks, ← good.tolerance)
 
-  module _ (held lines : List ℤ) (h : k.held * heldWords ≤ length held) (n : k.lines * lineWords ≤ length lines) where
-    abbrev its-outcome : Outcome
-    its-outcome = record {
+  module _ (held lines : List ℤ) (h : k.held * held_words ≤ length held) (n : k.lines * line_words ≤ length lines) where
+    abbrev its_outcome : Outcome
+    its_outcome = record {
       answer = done k;
-      held = book.held ++ drop (k.held * heldWords) held;
-      lines = book.lines ++ drop (k.lines * lineWords) lines;
+      held = book.held ++ drop (k.held * held_words) held;
+      lines = book.lines ++ drop (k.lines * line_words) lines;
     }
 
-    room_back : roomOf its-file k held lines ≡ its-outcome
-    unfolding roomOf
-    room_back = rw (le-ltb (length held) (k.held * heldWords) h, le-ltb (length lines) (k.lines * lineWords) n, held-are, lines_are)
+    room_back : room_of its_file k held lines ≡ its_outcome
+    unfolding room_of
+    room_back = rw (le-ltb (length held) (k.held * held_words) h, le-ltb (length lines) (k.lines * line_words) n, held_are, lines_are)
 
-    body_back : body_of its-file k held lines ≡ its-outcome
+    body_back : body_of its_file k held lines ≡ its_outcome
     unfolding body_of
-    body_back = if-good (test_of (bookIn its-file k)) _ _ k (ap test_of book-read-back ∙ good-passes k book good) ∙ room_back
+    body_back = if_good_lem (test_of (book_in its_file k)) _ _ k (ap test_of book_read_back ∙ good_passes k book good) ∙ room_back
 
     -- with the same version, b, t, held entries and lines
-    pub read_back : read_of its-file held lines ≡ its-outcome
+    pub read_back : read_of its_file held lines ≡ its_outcome
     unfolding read_of after_head
-    read_back = ap (after_head its-file held lines) head-back ∙ body_back
+    read_back = ap (after_head its_file held lines) head_back ∙ body_back

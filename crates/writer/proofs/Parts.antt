@@ -10,10 +10,10 @@ use lib.Signed.{mag}
 use borrow.Rule.Slice.PartMut.{put_mid}
 use mir.Syntax.{w64}
 use mir.Val.{to_z, of_z}
-use Rattle.laws.proofs.Lists.{pour-to}
+use Rattle.laws.proofs.Lists.{pour_to}
 use Rattle.laws.proofs.Signed.{back}
-use Rattle.writer.specs.Bytes.{bytes_of, inBytes}
-use Rattle.writer.proofs.Numbers.{bytes-length}
+use Rattle.writer.specs.Bytes.{bytes_of, in_bytes}
+use Rattle.writer.proofs.Numbers.{bytes_length}
 
 module _ (l₀ : List ℕ) where
   -- the first a places of out are p, and the others as they were in l₀
@@ -21,16 +21,16 @@ module _ (l₀ : List ℕ) where
     pub long : length p ≡ a
     pub is : out ≡ p ++ drop a l₀
 
-  pub none-poured : Poured 0 [] l₀
-  none-poured = record { long = refl; is = refl }
+  pub none_poured : Poured 0 [] l₀
+  none_poured = record { long = refl; is = refl }
 
 module _ {l₀ : List ℕ} {a : ℕ} {p out : List ℕ} (so_far : Poured l₀ a p out) where
   -- the next part, up to place e, which holds v
-  pub then-part : (vs v : List ℕ) (e : ℕ) → a ≤ e → vs ≡ v → length v ≡ e - a → Poured l₀ e (p ++ v) (put_mid a (e - a) out vs)
-  then-part vs v e l is h =
+  pub then_part : (vs v : List ℕ) (e : ℕ) → a ≤ e → vs ≡ v → length v ≡ e - a → Poured l₀ e (p ++ v) (put_mid a (e - a) out vs)
+  then_part vs v e l is h =
       record {
         long = length-append p v ∙ omega (arith, so_far.long);
-        is = pour-to p vs l₀ out a e l so_far.long so_far.is ∙ ap (λ (part : List ℕ). (p ++ part) ++ drop e l₀) is;
+        is = pour_to p vs l₀ out a e l so_far.long so_far.is ∙ ap (λ (part : List ℕ). (p ++ part) ++ drop e l₀) is;
       }
 
   -- that part, where there is room for it, is lent whole
@@ -41,18 +41,18 @@ module _ {l₀ : List ℕ} {a : ℕ} {p out : List ℕ} (so_far : Poured l₀ a 
       in simp (length-take, length-drop) (omega arith)
 
   -- a number, in w bytes
-  pub then-number : (vs : List ℕ) (w x : ℕ) {r : ℕ} → a + w ≤ length l₀ → r ≡ x → vs ≡ bytes_of (length (take (a + w - a) (drop a out))) r
+  pub then_number : (vs : List ℕ) (w x : ℕ) {r : ℕ} → a + w ≤ length l₀ → r ≡ x → vs ≡ bytes_of (length (take (a + w - a) (drop a out))) r
       → Poured l₀ (a + w) (p ++ bytes_of w x) (put_mid a (a + w - a) out vs)
-  then-number vs w x h is e =
+  then_number vs w x h is e =
       let all : length (take (a + w - a) (drop a out)) ≡ w = part_length (a + w) (omega arith) h ∙ omega arith in
-      then-part vs (bytes_of w x) (a + w) (omega arith) (rw (all, is) at e) (bytes-length w x ∙ omega arith)
+      then_part vs (bytes_of w x) (a + w) (omega arith) (rw (all, is) at e) (bytes_length w x ∙ omega arith)
 
   -- a signed number, read from where it is stored
-  pub then-signed : (vs : List ℕ) (w : ℕ) (z : ℤ) {r : ℕ} → a + w ≤ length l₀ → mag z < 2 ^ 63 → r ≡ of_z w64 (to_z w64 (of_z w64 z))
-      → vs ≡ bytes_of (length (take (a + w - a) (drop a out))) r → Poured l₀ (a + w) (p ++ inBytes w z) (put_mid a (a + w - a) out vs)
-  then-signed vs w z h fits is e = then-number vs w (of_z w64 z) h (is ∙ ap (of_z w64) (back z fits)) e
+  pub then_signed : (vs : List ℕ) (w : ℕ) (z : ℤ) {r : ℕ} → a + w ≤ length l₀ → mag z < 2 ^ 63 → r ≡ of_z w64 (to_z w64 (of_z w64 z))
+      → vs ≡ bytes_of (length (take (a + w - a) (drop a out))) r → Poured l₀ (a + w) (p ++ in_bytes w z) (put_mid a (a + w - a) out vs)
+  then_signed vs w z h fits is e = then_number vs w (of_z w64 z) h (is ∙ ap (of_z w64) (back z fits)) e
 
-  pub all-poured : length l₀ ≡ a → out ≡ p
-  all-poured h =
+  pub all_poured : length l₀ ≡ a → out ≡ p
+  all_poured h =
       let rest : length l₀ ≤ a = omega arith in
       so_far.is ∙ ap (λ (r : List ℕ). p ++ r) (drop_of_length-le l₀ rest) ∙ append-nil p

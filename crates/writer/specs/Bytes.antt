@@ -10,5 +10,5 @@ bytes_of zero x = []
 bytes_of (suc k) x = bytes_of k (x / 256) ++ (x % 256 ∷ [])
 
 -- a number of memory in k bytes: the lowest of its 64 bits, so that one definition is of unsigned and of signed ones
-abbrev pub inBytes : ℕ → ℤ → List ℕ
-inBytes k z = bytes_of k (of_z w64 z)
+abbrev pub in_bytes : ℕ → ℤ → List ℕ
+in_bytes k z = bytes_of k (of_z w64 z)

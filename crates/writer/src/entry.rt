@@ -1,9 +1,9 @@
 // The entries of a book file, each into the part of the file that it fills.
 ghost use Rattle.std.specs.Prelude.{◌≡◌, ◌*◌, ◌≤◌, length};
-ghost use Rattle.book.specs.Held.{heldWords};
-ghost use Rattle.book.specs.Line.{lineWords};
-ghost use Rattle.file.specs.Entry.{entryBytes, entryWords};
-ghost use Rattle.writer.specs.Entry.{heldBytes, lineBytes, classedLineBytes, bytes, written};
+ghost use Rattle.book.specs.Held.{held_words};
+ghost use Rattle.book.specs.Line.{line_words};
+ghost use Rattle.file.specs.Entry.{entry_bytes, entry_words};
+ghost use Rattle.writer.specs.Entry.{held_bytes, line_bytes, classed_line_bytes, bytes, written};
 
 use crate::wire;
 use book::held::Held;
@@ -12,8 +12,8 @@ use file::entry::Kind;
 
 // A held entry: mark 2 bytes, height 8 signed.
 fn write_held(e: &[i64], out: &mut [u8])
-    requires { (length e.now ≡ heldWords) × (length out.old ≡ 10) }
-    ensures { out.new ≡ heldBytes e.now }
+    requires { (length e.now ≡ held_words) × (length out.old ≡ 10) }
+    ensures { out.new ≡ held_bytes e.now }
 {
     wire::put(wire::bits(e[Held::MARK]), &mut out[0..2]);
     wire::put(wire::bits(e[Held::HEIGHT]), &mut out[2..10]);
@@ -21,8 +21,8 @@ fn write_held(e: &[i64], out: &mut [u8])
 
 // A line: from 2 bytes, to 2, difference 4 signed, length 4.
 fn write_line(e: &[i64], out: &mut [u8])
-    requires { (length e.now ≡ lineWords) × (length out.old ≡ 12) }
-    ensures { out.new ≡ lineBytes e.now }
+    requires { (length e.now ≡ line_words) × (length out.old ≡ 12) }
+    ensures { out.new ≡ line_bytes e.now }
 {
     wire::put(wire::bits(e[Line::FROM]), &mut out[0..2]);
     wire::put(wire::bits(e[Line::TO]), &mut out[2..4]);
@@ -32,8 +32,8 @@ fn write_line(e: &[i64], out: &mut [u8])
 
 // After them class 1 byte, standing 1.
 fn write_classed_line(e: &[i64], out: &mut [u8])
-    requires { (length e.now ≡ lineWords) × (length out.old ≡ 14) }
-    ensures { out.new ≡ classedLineBytes e.now }
+    requires { (length e.now ≡ line_words) × (length out.old ≡ 14) }
+    ensures { out.new ≡ classed_line_bytes e.now }
 {
     write_line(e, &mut out[0..12]);
     wire::put(wire::bits(e[Line::CLASS]), &mut out[12..13]);
@@ -42,7 +42,7 @@ fn write_classed_line(e: &[i64], out: &mut [u8])
 
 // One entry: its numbers, and its part of the file.
 fn write_entry(kind: Kind, e: &[i64], out: &mut [u8])
-    requires { (length e.now ≡ entryWords kind) × (length out.old ≡ entryBytes kind) }
+    requires { (length e.now ≡ entry_words kind) × (length out.old ≡ entry_bytes kind) }
     ensures { out.new ≡ bytes kind e.now }
 {
     match kind {
@@ -54,7 +54,7 @@ fn write_entry(kind: Kind, e: &[i64], out: &mut [u8])
 
 // The first n entries of a slice, into as many places as they have bytes.
 pub(crate) fn write_entries(kind: Kind, slice: &[i64], n: usize, out: &mut [u8])
-    requires { (n * entryWords kind ≤ length slice.now) × (length out.old ≡ n * entryBytes kind) }
+    requires { (n * entry_words kind ≤ length slice.now) × (length out.old ≡ n * entry_bytes kind) }
     ensures { out.new ≡ written kind slice.now n }
 {
     let bytes = kind.bytes();

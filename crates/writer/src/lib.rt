@@ -1,12 +1,12 @@
 // The writer of book files: a lent book into the bytes that room `file` reads, or the first refusal: 3, 4, 6, 7, then 16, then 10.
 ghost use Rattle.std.specs.Prelude.{◌≡◌, ◌++◌, ◌*◌, ◌≤◌, length, drop};
 ghost use Rattle.book.specs.Lent.{lent};
-ghost use Rattle.book.specs.Line.{lineWords};
+ghost use Rattle.book.specs.Line.{line_words};
 ghost use Rattle.book.specs.Good.{GoodLines, HeldEntries};
 ghost use Rattle.book.specs.Test.{refusal};
 ghost use Rattle.file.specs.Read.{length_of};
-ghost use Rattle.writer.specs.Write.{headBytes, fileOf, anyWithdrawn, cannotSay};
-ghost use Rattle.writer.specs.Write.{refusedWith, writing, writeGood, writeOf};
+ghost use Rattle.writer.specs.Write.{head_bytes, file_of, any_withdrawn, cannot_say};
+ghost use Rattle.writer.specs.Write.{refused_with, writing, write_good, write_of};
 
 mod entry;
 mod wire;
@@ -23,21 +23,21 @@ pub struct Written {
 }
 
 fn refuse(number: usize, place: usize) -> Written
-    ensures { result ≡ refusedWith (refusal number place) }
+    ensures { result ≡ refused_with (refusal number place) }
 {
     refused(Refusal::new(number, place))
 }
 
 fn refused(refusal: Refusal) -> Written
-    ensures { result ≡ refusedWith refusal }
+    ensures { result ≡ refused_with refusal }
 {
     Written { refusal, bytes: 0 }
 }
 
 // Whether one of the first n lines is withdrawn.
 fn any_withdrawn(lines: &[i64], n: usize) -> bool
-    requires { n * lineWords ≤ length lines.now }
-    ensures { result ≡ anyWithdrawn lines.now n }
+    requires { n * line_words ≤ length lines.now }
+    ensures { result ≡ any_withdrawn lines.now n }
 {
     let mut i = 0;
     while i < n {
@@ -52,7 +52,7 @@ fn any_withdrawn(lines: &[i64], n: usize) -> bool
 // Refusal 16: a file of version 1 cannot say that a line is withdrawn.
 fn cannot_say(book: Book, lines: &[i64]) -> bool
     requires { GoodLines book lines.now }
-    ensures { result ≡ cannotSay book lines.now }
+    ensures { result ≡ cannot_say book lines.now }
 {
     if Book::has_classes(signed::signed_count(book.version)) {
         return false;
@@ -63,7 +63,7 @@ fn cannot_say(book: Book, lines: &[i64]) -> bool
 // The head of a book's file, which has so many bytes.
 fn write_head(book: Book, bytes: usize, out: &mut [u8])
     requires { (bytes ≡ length_of book) × (length out.old ≡ 13) }
-    ensures { out.new ≡ headBytes book }
+    ensures { out.new ≡ head_bytes book }
 {
     wire::put(bytes as u64, &mut out[file::LENGTH_AT..file::VERSION_AT]);
     wire::put(book.version as u64, &mut out[file::VERSION_AT..file::T_AT]);
@@ -78,7 +78,7 @@ fn fill(book: Book, bytes: usize, held: &[i64], lines: &[i64], file: &mut [u8])
     requires fact_1 { GoodLines book lines.now }
     requires fact_2 { HeldEntries held.now book.marks book.held }
     requires fact_3 { (bytes ≡ length_of book) × (bytes ≤ length file.old) }
-    ensures { file.new ≡ fileOf book held.now lines.now ++ drop bytes file.old }
+    ensures { file.new ≡ file_of book held.now lines.now ++ drop bytes file.old }
 {
     let lines_at = file::HEAD_BYTES + book.held * Kind::HELD_BYTES;
     write_head(book, bytes, &mut file[0..file::HEAD_BYTES]);
@@ -100,7 +100,7 @@ fn fill(book: Book, bytes: usize, held: &[i64], lines: &[i64], file: &mut [u8])
 fn write_good(book: Book, held: &[i64], lines: &[i64], file: &mut [u8]) -> Written
     requires fact_1 { GoodLines book lines.now }
     requires fact_2 { HeldEntries held.now book.marks book.held }
-    ensures { writing result file.new ≡ writeGood book held.now lines.now file.old }
+    ensures { writing result file.new ≡ write_good book held.now lines.now file.old }
 {
     if cannot_say(book, lines) {
         return refuse(16, 0);
@@ -117,7 +117,7 @@ fn write_good(book: Book, held: &[i64], lines: &[i64], file: &mut [u8]) -> Writt
 // Writes a lent book as a file, into the file that is lent. A refusal leaves it as it was.
 pub fn write(version: i64, b: i64, t: i64, held: &[i64], lines: &[i64], file: &mut [u8]) -> Written
     ensures { writing result file.new
-        ≡ writeOf (lent version b t held.now lines.now) file.old }
+        ≡ write_of (lent version b t held.now lines.now) file.old }
 {
     match book::test(version, b, t, held, lines) {
         Tested::Refused(r) => refused(r),

@@ -3,33 +3,33 @@ use mathlib.Core.Bool.{not}
 use lib.IntN.{pos}
 use lib.ListN.{length}
 use mir.Facts.{to_z-of_z}
-use Rattle.laws.specs.Tests.{eqZ}
+use Rattle.laws.specs.Tests.{eq_z}
 use Rattle.laws.proofs.Signed.{stored}
 use Rattle.book.specs.Lent.{lent}
-use Rattle.book.specs.Test.{testBeside}
-use Rattle.book.proofs.Goods.{beside-passes}
+use Rattle.book.specs.Test.{test_beside}
+use Rattle.book.proofs.Goods.{beside_passes}
 use Rattle.fields.proofs.Stands.{lines_of}
-use Rattle.rates.specs.Rates.{heightsOut, rateAnswer}
-use Rattle.rates.proofs.Rating.{marks-of}
+use Rattle.rates.specs.Rates.{heights_out, rate_answer}
+use Rattle.rates.proofs.Rating.{marks_of}
 use borrow.Author.Rules.{rules}
 use Rattle.adjust.proofs.rate.Statement.{statement}
 use Rattle.adjust.proofs.rate.Tie as tie
 
 -- whether the heights are not b in number, as the code has it
 flag : (c : tie.After-same) → (let s = c.before.before in let a = s.args in
-    not c.same.result ≡ heightsOut (lent a.version a.b a.t a.held.now a.lines.now) a.heights.now)
-unfolding heightsOut
+    not c.same.result ≡ heights_out (lent a.version a.b a.t a.held.now a.lines.now) a.heights.now)
+unfolding heights_out
 flag c =
     let s = c.before.before in
     let k = c.before.signed-count in
-    let same : c.same.result ≡ eqZ (pos (length s.args.heights.now)) s.args.b
+    let same : c.same.result ≡ eq_z (pos (length s.args.heights.now)) s.args.b
     = c.same.ensures ∙ rw (stored k.result k.type-inv k.ensures, to_z-of_z s.ranges.b) in
     ap not same
 
 -- what the test answered, at the numbers that were lent
 tested : (c : tie.After-test-beside) → (let s : tie.Start = search in let a = s.args in
     let book = lent a.version a.b a.t a.held.now a.lines.now in
-    c.test-beside.result ≡ testBeside (heightsOut book a.heights.now) book)
+    c.test-beside.result ≡ test_beside (heights_out book a.heights.now) book)
 tested c = let d : tie.After-same = search in rw (← (flag d)) (c.test-beside.ensures ∙ search rules)
 
 good-rate-requires : tie.Need-good-rate-requires
@@ -40,17 +40,17 @@ good-rate-requires c κs =
     let a = s.args in
     let k = known.book.given in
     let book = lent a.version a.b a.t a.held.now a.lines.now in
-    let p = beside-passes book _ k.0.0 (sym (tested after_test) ∙ k.1) in
-    (lines_of book k.0.0 p.1, marks-of book k.0.0 p.1 a.heights.now p.0)
+    let p = beside_passes book _ k.0.0 (sym (tested after_test) ∙ k.1) in
+    (lines_of book k.0.0 p.1, marks_of book k.0.0 p.1 a.heights.now p.0)
 
 returns : tie.Need-returns
-unfolding rateAnswer
+unfolding rate_answer
 returns c =
     let after_test : tie.After-test-beside = search in
     rw (← (tested after_test), c.before.before.r.given.1) c.refused.ensures
 
 returns-2 : tie.Need-returns-2
-unfolding rateAnswer
+unfolding rate_answer
 returns-2 c =
     let after_test : tie.After-test-beside = search in
     let known : tie.After-book = search in

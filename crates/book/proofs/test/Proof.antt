@@ -1,38 +1,38 @@
 use mathlib.Core.Path.{◌≡◌, ◌∙◌}
 use mathlib.Core.Bool.{false}
 use borrow.Author.Tests.{eq-eqb, ne_eqb, lt-ltb, le-ltb}
-use Rattle.book.specs.Held.{heldCount, firstBadHeld}
-use Rattle.book.specs.Line.{lineCount, firstBadLine}
-use Rattle.book.specs.Version.{versionOut}
-use Rattle.book.specs.Test.{bookOut, counts, bookOf, torn, test_of}
-use Rattle.book.proofs.Made.{no-book, book-made}
+use Rattle.book.specs.Held.{held_count, first_bad_held}
+use Rattle.book.specs.Line.{line_count, first_bad_line}
+use Rattle.book.specs.Version.{version_out}
+use Rattle.book.specs.Test.{book_out, counts, book_of, torn, test_of}
+use Rattle.book.proofs.Made.{no_book, book_made}
 use borrow.Author.Rules.{rules}
 use Rattle.book.proofs.test.Statement.{statement}
 use Rattle.book.proofs.test.Tie as tie
 
 -- what the calls answered, at the numbers that were lent
 made : (c : tie.After-new) → (let a = c.before.args in
-    c.new.result ≡ bookOf a.version a.b a.t (heldCount a.held.now) (lineCount a.lines.now))
+    c.new.result ≡ book_of a.version a.b a.t (held_count a.held.now) (line_count a.lines.now))
 made c = c.new.ensures ∙ search rules
 
 -- version and counts of a book that was made are good
-good : (c : tie.After-made) → (let a = c.before.before.before.args in let h = heldCount a.held.now in
-    let n = lineCount a.lines.now in
-    (versionOut a.version ≡ false) × (bookOut a.version a.b a.t h n ≡ false)
+good : (c : tie.After-made) → (let a = c.before.before.before.args in let h = held_count a.held.now in
+    let n = line_count a.lines.now in
+    (version_out a.version ≡ false) × (book_out a.version a.b a.t h n ≡ false)
     × (c.made.given.0.0 ≡ counts a.version a.b a.t h n))
-good c = book-made _ _ _ _ _ _ (made c.before.before) _ c.made.given.1
+good c = book_made _ _ _ _ _ _ (made c.before.before) _ c.made.given.1
 
 bad-held : (c : tie.After-first-bad-held) → (let entry : tie.Start = search in let a = entry.args in
-    c.first-bad-held.result ≡ firstBadHeld a.b a.held.now)
+    c.first-bad-held.result ≡ first_bad_held a.b a.held.now)
 bad-held c = c.first-bad-held.ensures ∙ search rules
 
 bad-line : (c : tie.After-first-bad-line) → (let entry : tie.Start = search in let a = entry.args in
-    c.first-bad-line.result ≡ firstBadLine a.version a.b a.lines.now)
+    c.first-bad-line.result ≡ first_bad_line a.version a.b a.lines.now)
 bad-line c = c.first-bad-line.ensures ∙ search rules
 
 returns : tie.Need-returns
 unfolding test_of
-returns c = no-book _ _ _ _ _ _ (made c.before.before) _ c.enum_told.given.1 _
+returns c = no_book _ _ _ _ _ _ (made c.before.before) _ c.enum_told.given.1 _
 
 returns-2 : tie.Need-returns-2
 unfolding test_of torn

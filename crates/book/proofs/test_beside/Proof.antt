@@ -1,13 +1,13 @@
 use mathlib.Core.Path.{◌≡◌, sym, ◌∙◌}
-use Rattle.book.specs.Version.{versionOut}
+use Rattle.book.specs.Version.{version_out}
 use Rattle.book.specs.Lent.{lent}
-use Rattle.book.specs.Test.{test_of, testBeside}
-use Rattle.book.proofs.Goods.{beside-inside}
+use Rattle.book.specs.Test.{test_of, test_beside}
+use Rattle.book.proofs.Goods.{beside_inside}
 use borrow.Author.Rules.{rules}
 use Rattle.book.proofs.test_beside.Statement.{statement}
 use Rattle.book.proofs.test_beside.Tie as tie
 
-flag : (c : tie.After-outside-version) → c.outside-version.result ≡ versionOut c.before.args.version
+flag : (c : tie.After-outside-version) → c.outside-version.result ≡ version_out c.before.args.version
 flag c = c.outside-version.ensures ∙ search rules
 
 -- what the test answered, at the numbers that were lent
@@ -16,17 +16,17 @@ tested : (c : tie.After-test) → (let entry : tie.Start = search in let a = ent
 tested c = c.test.ensures ∙ search rules
 
 returns : tie.Need-returns
-unfolding testBeside
+unfolding test_beside
 returns c = rw (← (flag c.before.before), c.before.if1.true) c.refuse.ensures
 
 returns-2 : tie.Need-returns-2
-unfolding testBeside
+unfolding test_beside
 returns-2 c =
     let c₁ = c.before.before in
     rw (← (flag c₁.before), c₁.if1.false, c.before.if2.true) c.refuse2.ensures
 
 returns-3 : tie.Need-returns-3
-returns-3 c = tested c ∙ sym (beside-inside _ _ c.before.if2.false)
+returns-3 c = tested c ∙ sym (beside_inside _ _ c.before.if2.false)
 
 pub test-beside-spec : {M : Type 1} → statement M
 test-beside-spec =

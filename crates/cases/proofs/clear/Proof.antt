@@ -4,7 +4,7 @@ use Prim.Native.Nat.{◌-◌, ◌≤◌}
 use native.Mathlib.Omega.{arith}
 use borrow.Author.Rules.{rules}
 use lib.ListN.{length, replicate, length-replicate, get_or-replicate, drop_of_length-le}
-use Rattle.laws.proofs.Laid.{Laid, laid-start, laid_next, laid_end}
+use Rattle.laws.proofs.Laid.{Laid, laid_start, laid_next, laid_end}
 use Rattle.cases.specs.Cases.{untouched}
 use Rattle.cases.proofs.clear.Statement.{statement}
 use Rattle.cases.proofs.clear.Tie as tie
@@ -38,7 +38,7 @@ clear_spec =
     (tie.spec
     invariant-loop
     decreases-loop
-    (λ c. laid-start _ _)  -- loop-holds
+    (λ c. laid_start _ _)  -- loop-holds
     (λ c. search rules)  -- mul-s
     (λ c. search rules)  -- slice-set-of-s
     (λ c. search rules)  -- add-i

@@ -9,18 +9,18 @@ use lib.Seq.{drop-cons}
 use mir.Syntax.{w64}
 use mir.Val.{to_z, of_z}
 use Rattle.laws.proofs.Signed.{back}
-use Rattle.cases.specs.Cases.{mixedWith, digestFrom, digestOf}
+use Rattle.cases.specs.Cases.{mixed_with, digest_from, digest_of}
 use Rattle.cases.proofs.digest.Statement.{statement}
 use Rattle.cases.proofs.digest.Tie as tie
 
 abbrev invariant-loop : tie.invariant-loop
-invariant-loop s sum₀ i₀ sum i = (i ≤ length s) × (digestFrom sum (drop i s) ≡ digestFrom 0 s)
+invariant-loop s sum₀ i₀ sum i = (i ≤ length s) × (digest_from sum (drop i s) ≡ digest_from 0 s)
 
 abbrev decreases-loop : tie.decreases-loop
 decreases-loop s sum₀ i₀ sum i = length s - i
 
 loop-again : tie.Need-loop-preserved invariant-loop decreases-loop
-unfolding digestFrom
+unfolding digest_from
 loop-again c =
     let at : tie.At-loop invariant-loop decreases-loop = search in
     let entry : tie.Start invariant-loop decreases-loop = search in
@@ -28,11 +28,11 @@ loop-again c =
     let i = at.loop.i in
     let here : i < length s = omega arith in
     let x : to_z w64 (of_z w64 (get_or s i (pos 0))) ≡ get_or s i (pos 0) = back (get_or s i (pos 0)) c.before.mixed-arg.given in
-    let e : c.mixed.result ≡ mixedWith at.loop.sum (get_or s i (pos 0)) = c.mixed.ensures ∙ rw x in
+    let e : c.mixed.result ≡ mixed_with at.loop.sum (get_or s i (pos 0)) = c.mixed.ensures ∙ rw x in
     (omega arith, rw (e, add-one i) (rw (drop-cons s i (pos 0) here) at at.loop.inv.1))
 
 returns : tie.Need-returns invariant-loop decreases-loop
-unfolding digestOf digestFrom
+unfolding digest_of digest_from
 returns c =
     let s = c.before.before.args.s.now in
     let past : length s ≤ c.before.loop.i = omega arith in

@@ -1,11 +1,11 @@
 use mir.Facts.{to_z-of_z}
 use borrow.Author.Rules.{rules}
-use Rattle.cases.specs.Cases.{mixedWith}
+use Rattle.cases.specs.Cases.{mixed_with}
 use Rattle.cases.proofs.mixed.Statement.{statement}
 use Rattle.cases.proofs.mixed.Tie as tie
 
 returns : tie.Need-returns
-unfolding mixedWith
+unfolding mixed_with
 returns c = let f = c.before.before.ranges in rw (c.before.magnitude.ensures, c.side.ensures.0, to_z-of_z f.x)
 
 pub mixed-spec : {M : Type 1} → statement M

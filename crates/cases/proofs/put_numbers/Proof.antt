@@ -4,8 +4,8 @@ use borrow.Author.Rules.{rules}
 use lib.ListN.{take, length-take}
 use Rattle.text.specs.Bytes.{bytes}
 use Rattle.text.proofs.Puts.{◌then◌}
-use Rattle.cases.specs.Cases.{numbersText}
-use Rattle.cases.proofs.Most.{take-most}
+use Rattle.cases.specs.Cases.{numbers_text}
+use Rattle.cases.proofs.Most.{take_most}
 use Rattle.cases.proofs.put_numbers.Statement.{statement}
 use Rattle.cases.proofs.put_numbers.Tie as tie
 
@@ -18,14 +18,14 @@ slice-aggregate-put-listed c =
     )
 
 returns : tie.Need-returns
-unfolding numbersText bytes
+unfolding numbers_text bytes
 returns c =
     let list : tie.After-put-listed = search in
     let sign : tie.After-put = search in
     let most : tie.After-at-most = search in
     let s : tie.Start = search in
     let first : take most.at_most.result s.args.s.now ≡ take 7 s.args.s.now =
-    take-most _ 7 s.args.s.now most.at_most.ensures in
+    take_most _ 7 s.args.s.now most.at_most.ensures in
     rw first at list.put-listed.ensures then sign.put.ensures then
     (rw c.before.before.before.digest.ensures at c.before.before.put-number.ensures)
 

@@ -1,16 +1,16 @@
 use borrow.Author.Tests.{lt-ltb, le-ltb}
 use mir.Facts.{to_z-of_z}
-use Rattle.cases.specs.Cases.{spoiltLast}
+use Rattle.cases.specs.Cases.{spoilt_last}
 use borrow.Author.Rules.{rules}
 use Rattle.cases.proofs.spoil_last.Statement.{statement}
 use Rattle.cases.proofs.spoil_last.Tie as tie
 
 returns : tie.Need-returns
-unfolding spoiltLast
+unfolding spoilt_last
 returns c = rw (to_z-of_z c.before.ranges.x, le-ltb _ _ c.if1.true)
 
 returns-2 : tie.Need-returns-2
-unfolding spoiltLast
+unfolding spoilt_last
 returns-2 c = rw (lt-ltb _ _ c.if1.false)
 
 pub spoil-last-spec : {M : Type 1} → statement M

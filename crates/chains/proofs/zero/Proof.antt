@@ -2,7 +2,7 @@ use Prim.Native.Nat.{ℕ, ◌-◌, ◌<◌, ◌≤◌}
 use native.Mathlib.Omega.{arith}
 use mathlib.Core.Path.{◌≡◌}
 use lib.ListN.{length, get_or, length-set}
-use Rattle.chains.proofs.Joining.{zero-next}
+use Rattle.chains.proofs.Joining.{zero_next}
 use Rattle.chains.proofs.zero.Statement.{statement}
 use Rattle.chains.proofs.zero.Tie as tie
 
@@ -16,7 +16,7 @@ loop-again : tie.Need-loop-preserved invariant-loop decreases-loop
 loop-again c = (
   omega arith,
   simp length-set c.before.loop.invariant.1,
-  zero-next c.before.loop.a c.before.loop.i (omega arith)
+  zero_next c.before.loop.a c.before.loop.i (omega arith)
       c.before.loop.invariant.2,
 )
 

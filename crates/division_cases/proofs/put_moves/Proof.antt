@@ -5,7 +5,7 @@ use lib.IntN.{pos, nat_abs}
 use mir.Syntax.{w64}
 use mir.Val.{to_z, of_z}
 use Rattle.laws.proofs.Signed.{back, stored}
-use Rattle.laws.proofs.Size.{size-sub}
+use Rattle.laws.proofs.Size.{size_sub}
 use borrow.Author.Rules.{rules}
 use Rattle.division_cases.proofs.put_moves.Statement.{statement}
 use Rattle.division_cases.proofs.put_moves.Tie as tie
@@ -17,7 +17,7 @@ up c = rw (stored c.signed-count.result c.signed-count.type-inv c.signed-count.e
 down : (c : tie.After-sub) → nat_abs (to_z w64 (of_z w64 c.sub.result)) < 2 ^ 63
 down c =
     let g = to_z w64 (of_z w64 c.before.signed-count.result) in
-    rw (back c.sub.result c.sub.type-inv, c.sub.ensures) (omega (arith, size-sub (pos 0) g, up c.before))
+    rw (back c.sub.result c.sub.type-inv, c.sub.ensures) (omega (arith, size_sub (pos 0) g, up c.before))
 
 pub put-moves-spec : {M : Type 1} → statement M
 put-moves-spec =

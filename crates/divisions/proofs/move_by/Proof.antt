@@ -6,7 +6,7 @@ use mir.Syntax.{w64}
 use mir.Val.{to_z, of_z}
 use mir.Facts.{to_z-of_z}
 use Rattle.laws.proofs.Signed.{stored}
-use Rattle.divisions.proofs.Rounding.{unmoved, nearest-le, of_negative, of_positive}
+use Rattle.divisions.proofs.Rounding.{unmoved, nearest_le, of_negative, of_positive}
 use borrow.Author.Rules.{rules}
 use Rattle.divisions.proofs.move_by.Statement.{statement}
 use Rattle.divisions.proofs.move_by.Tie as tie
@@ -18,12 +18,12 @@ size c = rw (to_z-of_z c.before.before.ranges.g) at c.magnitude.ensures
 weighed : (c : tie.Else1) → 0 < c.before.args.d
 weighed c = omega arith
 
-small : (c : tie.After-nearest-size) → c.nearest-size.result < 2 ^ 63
+small : (c : tie.After-nearest-size) → c.nearest_size_lem.result < 2 ^ 63
 small c =
-    let h = nearest-le c.before.magnitude.result c.before.before.before.args.d (weighed c.before.before) in
-    omega (arith, size c.before, c.nearest-size.ensures, c.before.before.before.requires.1.1)
+    let h = nearest_le c.before.magnitude.result c.before.before.before.args.d (weighed c.before.before) in
+    omega (arith, size c.before, c.nearest_size_lem.ensures, c.before.before.before.requires.1.1)
 
-count : (c : tie.After-signed-count) → to_z w64 (of_z w64 c.signed-count.result) ≡ pos c.before.nearest-size.result
+count : (c : tie.After-signed-count) → to_z w64 (of_z w64 c.signed-count.result) ≡ pos c.before.nearest_size_lem.result
 count c = stored c.signed-count.result c.signed-count.type-inv c.signed-count.ensures
 
 returns : tie.Need-returns
@@ -41,7 +41,7 @@ returns-2 c =
     stored c.sub.result c.sub.type-inv (rw (count c.before.before, +ℤ_idl) at c.sub.ensures)
     ∙ rw (
       of_negative s.args.g s.args.d (rw (to_z-of_z s.fits.g) at c.before.if2.true),
-      c.before.before.before.nearest-size.ensures,
+      c.before.before.before.nearest_size_lem.ensures,
       size after-magnitude,
     )
 
@@ -52,7 +52,7 @@ returns-3 c =
     count c.before
     ∙ rw (
       of_positive s.args.g s.args.d (rw (to_z-of_z s.fits.g) at c.if2.false),
-      c.before.before.nearest-size.ensures,
+      c.before.before.nearest_size_lem.ensures,
       size after-magnitude,
     )
 

@@ -3,20 +3,20 @@ use mathlib.Core.Path.{◌≡◌, ◌∙◌}
 use native.Mathlib.Omega.{arith}
 use Rattle.laws.proofs.Signed.{back}
 use Rattle.laws.proofs.Size.{not_negative}
-use Rattle.book.specs.Line.{fromAt}
+use Rattle.book.specs.Line.{from_at}
 use borrow.Author.Rules.{rules}
 use Rattle.fields.proofs.from_mark.Statement.{statement}
 use Rattle.fields.proofs.from_mark.Tie as tie
 
 index-requires : tie.Need-index-requires
 index-requires c κs =
-    let s = c.before in rw (back (fromAt s.args.lines.now s.args.i) c.index-arg.given) (not_negative s.requires.good.from)
+    let s = c.before in rw (back (from_at s.args.lines.now s.args.i) c.index-arg.given) (not_negative s.requires.good.from)
 
 returns : tie.Need-returns
 returns c =
     let s = c.before.before in
-    let e : c.index.result ≡ nat_abs (fromAt s.args.lines.now s.args.i) =
-    c.index.ensures ∙ rw (back (fromAt s.args.lines.now s.args.i) c.before.index-arg.given) in
+    let e : c.index.result ≡ nat_abs (from_at s.args.lines.now s.args.i) =
+    c.index.ensures ∙ rw (back (from_at s.args.lines.now s.args.i) c.before.index-arg.given) in
     (e, omega (arith, s.requires.good.from.low), omega (arith, s.requires.good.from.high))
 
 pub from-mark-spec : {M : Type 1} → statement M

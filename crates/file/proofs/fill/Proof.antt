@@ -1,20 +1,20 @@
 use borrow.Author.Tests.{lt-ltb, le-ltb}
-use Rattle.file.specs.Read.{held_of, lines_of, roomOf}
-use Rattle.file.proofs.Entries.{line-words, lines-room}
+use Rattle.file.specs.Read.{held_of, lines_of, room_of}
+use Rattle.file.proofs.Entries.{line_words_lem, lines_room}
 use borrow.Author.Rules.{rules}
 use Rattle.file.proofs.fill.Statement.{statement}
 use Rattle.file.proofs.fill.Tie as tie
 
 returns : tie.Need-returns
-unfolding roomOf
+unfolding room_of
 returns c = rw (lt-ltb _ _ c.before.if1.true, c.refuse.ensures)
 
 returns-2 : tie.Need-returns-2
-unfolding roomOf
+unfolding room_of
 returns-2 c = rw (le-ltb _ _ c.before.before.if1.false, lt-ltb _ _ c.before.if2.true, c.refuse2.ensures)
 
 returns-3 : tie.Need-returns-3
-unfolding roomOf held_of lines_of
+unfolding room_of held_of lines_of
 returns-3 c =
     let l : tie.After-read-entries2 = search in
     let kind : tie.After-of-lines = search in
@@ -27,7 +27,7 @@ returns-3 c =
       h.read-entries.ensures,
       l.read-entries2.ensures,
       kind.of-lines.ensures,
-      line-words entry.args.book.version,
+      line_words_lem entry.args.book.version,
       c.none.ensures,
     )
 
@@ -35,7 +35,7 @@ read-entries-requires-2 : tie.Need-read-entries-requires-2
 read-entries-requires-2 c κs =
     let kind : tie.After-of-lines = search in
     let entry : tie.Start = search in
-    lines-room _ _ entry.args.book _ entry.pre kind.of-lines.ensures (search rules)
+    lines_room _ _ entry.args.book _ entry.pre kind.of-lines.ensures (search rules)
 
 pub fill_spec : {M : Type 1} → statement M
 fill_spec =

@@ -3,18 +3,18 @@ use mathlib.Core.Bool.{false}
 use lib.IntN.{pos}
 use borrow.Author.Tests.{eq-eqb, ne_eqb, lt-ltb, le-ltb}
 use Rattle.laws.proofs.Signed.{stored}
-use Rattle.book.specs.Version.{versionOut}
-use Rattle.book.specs.Test.{bookOut, bookOf}
-use Rattle.book.proofs.Made.{book-made}
-use Rattle.file.specs.Read.{statedVersion, statedT, statedB, statedH, statedN, statedCounts, fileLength, length_of, head_of}
-use Rattle.file.proofs.Heads.{counts-state, book-refused}
+use Rattle.book.specs.Version.{version_out}
+use Rattle.book.specs.Test.{book_out, book_of}
+use Rattle.book.proofs.Made.{book_made}
+use Rattle.file.specs.Read.{stated_version, stated_t, stated_b, stated_h, stated_n, stated_counts, file_length, length_of, head_of}
+use Rattle.file.proofs.Heads.{counts_state, book_refused}
 use borrow.Author.Rules.{rules}
 use Rattle.file.proofs.head_of.Statement.{statement}
 use Rattle.file.proofs.head_of.Tie as tie
 
 -- what the version and the counts that the file states make
 made : (c : tie.After-new) → (let entry : tie.Start = search in let f = entry.args.file.now in
-    c.new.result ≡ bookOf (pos (statedVersion f)) (pos (statedB f)) (pos (statedT f)) (statedH f) (statedN f))
+    c.new.result ≡ book_of (pos (stated_version f)) (pos (stated_b f)) (pos (stated_t f)) (stated_h f) (stated_n f))
 made c =
     let n = c.before in
     let h = n.before in
@@ -38,15 +38,15 @@ returns-2 c =
 
 -- the version and the counts of a book that was made are those that the file states, and good
 good : (c : tie.After-book) → (let entry : tie.Start = search in let f = entry.args.file.now in
-    (versionOut (pos (statedVersion f)) ≡ false)
-    × (bookOut (pos (statedVersion f)) (pos (statedB f)) (pos (statedT f)) (statedH f) (statedN f) ≡ false)
-    × (c.book.given.0.0 ≡ statedCounts f))
-good c = book-made _ _ _ _ _ _ (made c.before.before) _ c.book.given.1
+    (version_out (pos (stated_version f)) ≡ false)
+    × (book_out (pos (stated_version f)) (pos (stated_b f)) (pos (stated_t f)) (stated_h f) (stated_n f) ≡ false)
+    × (c.book.given.0.0 ≡ stated_counts f))
+good c = book_made _ _ _ _ _ _ (made c.before.before) _ c.book.given.1
 
 -- the length of the file that it has, by what is stated
-length-is : (c : tie.After-length-of) → (let entry : tie.Start = search in let f = entry.args.file.now in
-    c.length-of.result ≡ fileLength (statedVersion f) (statedH f) (statedN f))
-length-is c =
+length_is : (c : tie.After-length-of) → (let entry : tie.Start = search in let f = entry.args.file.now in
+    c.length-of.result ≡ file_length (stated_version f) (stated_h f) (stated_n f))
+length_is c =
     let known : tie.After-book = search in
     c.length-of.ensures ∙ ap length_of (good known).2
 
@@ -62,7 +62,7 @@ returns-3 c =
       eq-eqb _ _ c₂.if2.left,
       g.0,
       g.1,
-      ← (length-is c.before),
+      ← (length_is c.before),
       ne_eqb _ _ c.if3.true,
     )
 
@@ -72,7 +72,7 @@ returns-4 c =
     let n : tie.After-new = search in
     let c₂ : tie.Else2 = search in
     rw (le-ltb _ _ c₂.before.before.if1.left, ← c₂.before.be4.ensures.0, eq-eqb _ _ c₂.if2.left)
-    (book-refused _ _ _ _ _ _ (made n) _ c.before.r.given.1 _)
+    (book_refused _ _ _ _ _ _ (made n) _ c.before.r.given.1 _)
 
 returns-5 : tie.Need-returns-5
 unfolding head_of
@@ -87,7 +87,7 @@ returns-5 c =
       g.0,
       g.1,
       ← g.2,
-      ← (length-is c.before),
+      ← (length_is c.before),
       eq-eqb _ _ c.if3.false,
     )
 
@@ -96,8 +96,8 @@ length-of-requires : tie.Need-length-of-requires
 length-of-requires c κs =
     let known : tie.After-book = search in
     let g = good known in
-    let s = counts-state _ _ _ _ _ g.0 g.1 in
-    rw g.2 (s.known-version, s.few-held, s.few-lines)
+    let s = counts_state _ _ _ _ _ g.0 g.1 in
+    rw g.2 (s.known_version, s.few_held, s.few_lines)
 
 pub head-of-spec : {M : Type 1} → statement M
 head-of-spec =

@@ -2,23 +2,23 @@ use mathlib.Core.Path.{◌≡◌, ◌∙◌, ap}
 use Prim.Native.Nat.{◌*◌, ◌≤◌}
 use native.Mathlib.Nat.{mul-le-mul}
 use native.Mathlib.Omega.{arith}
-use Rattle.book.specs.Limits.{mostLines}
-use Rattle.file.specs.Entry.{entryBytes, lineKind}
-use Rattle.file.proofs.Heads.{line-bytes}
+use Rattle.book.specs.Limits.{most_lines}
+use Rattle.file.specs.Entry.{entry_bytes, line_kind}
+use Rattle.file.proofs.Heads.{line_bytes}
 use borrow.Author.Rules.{rules}
 use Rattle.file.proofs.length_of.Statement.{statement}
 use Rattle.file.proofs.length_of.Tie as tie
 
 -- the bytes of a line, by the version
 bytes_of : (c : tie.After-bytes) → (let entry : tie.Start = search in
-    c.bytes.result ≡ entryBytes (lineKind entry.args.book.version))
-bytes_of c = c.bytes.ensures ∙ ap entryBytes c.before.of-lines.ensures
+    c.bytes.result ≡ entry_bytes (line_kind entry.args.book.version))
+bytes_of c = c.bytes.ensures ∙ ap entry_bytes c.before.of-lines.ensures
 
 -- which are few, so that the length fits
-lines_fit : (c : tie.After-bytes) → (let entry : tie.Start = search in entry.args.book.lines * c.bytes.result ≤ mostLines * 14)
+lines_fit : (c : tie.After-bytes) → (let entry : tie.Start = search in entry.args.book.lines * c.bytes.result ≤ most_lines * 14)
 lines_fit c =
     let entry : tie.Start = search in
-    let long : c.bytes.result ≤ 14 = rw (bytes_of c) (line-bytes entry.args.book.version) in
+    let long : c.bytes.result ≤ 14 = rw (bytes_of c) (line_bytes entry.args.book.version) in
     mul-le-mul entry.pre.2 long
 
 returns : tie.Need-returns

@@ -1,6 +1,6 @@
 use mathlib.Core.Path.{sym, ◌∙◌}
 use Rattle.file.specs.Read.{after_head, read_of}
-use Rattle.file.proofs.Heads.{head-states}
+use Rattle.file.proofs.Heads.{head_states}
 use borrow.Author.Rules.{rules}
 use Rattle.file.proofs.read.Statement.{statement}
 use Rattle.file.proofs.read.Tie as tie
@@ -9,7 +9,7 @@ read-body-requires : tie.Need-read-body-requires
 read-body-requires c κs =
     let g = c.before.before.before in
     let h = g.before.before in
-    head-states h.before.before.args.file.now g.book.given.0.0 (sym h.head_of.ensures ∙ g.book.given.1)
+    head_states h.before.before.args.file.now g.book.given.0.0 (sym h.head_of.ensures ∙ g.book.given.1)
 
 returns : tie.Need-returns
 unfolding read_of after_head

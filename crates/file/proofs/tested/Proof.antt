@@ -2,10 +2,10 @@ use Prim.Native.Nat.{◌*◌}
 use native.Mathlib.Omega.{arith}
 use lib.ListN.{length-take}
 use lib.Seq.{take_at}
-use Rattle.book.specs.Line.{lineWords}
+use Rattle.book.specs.Line.{line_words}
 use Rattle.laws.proofs.Signed.{stored}
 use Rattle.file.specs.Read.{held_of, lines_of}
-use Rattle.file.proofs.Entries.{entries-length, line-words, lines-length, lines-room}
+use Rattle.file.proofs.Entries.{entries_length, line_words_lem, lines_length, lines_room}
 use Rattle.file.specs.declared.entry.Kind.TheVariants.{Held}
 use borrow.Author.Rules.{rules}
 use Rattle.file.proofs.tested.Statement.{statement}
@@ -31,17 +31,17 @@ returns c =
       e,
       f,
       r₁.read-entries.ensures,
-      take_at _ _ (k.held * 2) (entries-length Held file 13 k.held),
+      take_at _ _ (k.held * 2) (entries_length Held file 13 k.held),
       r₂.read-entries2.ensures,
       kind.of-lines.ensures,
-      take_at (lines_of file k) _ (k.lines * lineWords) (lines-length file k),
+      take_at (lines_of file k) _ (k.lines * line_words) (lines_length file k),
     ) at c.test.ensures
 
 read-entries-requires-2 : tie.Need-read-entries-requires-2
 read-entries-requires-2 c κs =
     let kind : tie.After-of-lines = search in
     let entry : tie.Start = search in
-    lines-room _ _ entry.args.book _ entry.pre kind.of-lines.ensures (omega (arith, entry.pre.few-lines))
+    lines_room _ _ entry.args.book _ entry.pre kind.of-lines.ensures (omega (arith, entry.pre.few_lines))
 
 pub tested-spec : {M : Type 1} → statement M
 tested-spec =

@@ -2,7 +2,7 @@ use Prim.Native.Nat.{◌-◌, ◌≤◌}
 use native.Mathlib.Omega.{arith}
 use mathlib.Core.Path.{◌≡◌, refl, ◌∙◌}
 use lib.ListN.{length}
-use Rattle.joins.proofs.Finishing.{AllLowered, lowered-start, lowered-next, lowered-end, lower-asked}
+use Rattle.joins.proofs.Finishing.{AllLowered, lowered_start, lowered_next, lowered_end, lower_asked}
 use Rattle.joins.proofs.finish.Statement.{statement}
 use Rattle.joins.proofs.finish.Tie as tie
 
@@ -18,7 +18,7 @@ lower-first-requires c κs =
     let in-loop : tie.In-loop invariant-loop decreases-loop = search in
     let at-loop : tie.At-loop invariant-loop decreases-loop = search in
     let entry : tie.Start invariant-loop decreases-loop = search in
-    lower-asked at-loop.loop.inv.3 in-loop.loop-test.taken _ refl entry.pre.1
+    lower_asked at-loop.loop.inv.3 in-loop.loop-test.taken _ refl entry.pre.1
     (omega (arith, at-loop.loop.inv.1, entry.pre.0.few))
 
 loop-again : tie.Need-loop-preserved invariant-loop decreases-loop
@@ -27,11 +27,11 @@ loop-again c =
     let in-loop : tie.In-loop invariant-loop decreases-loop = search in
     let at-loop : tie.At-loop invariant-loop decreases-loop = search in
     let v = at-loop.loop.inv in
-    let k = after_lower.lower-first.kept in (
+    let k = after_lower.lower_first_lem.kept in (
       omega (arith, in-loop.loop-test.taken),
       k.0 ∙ v.1,
       k.1.0 ∙ v.2,
-      lowered-next v.3 in-loop.loop-test.taken _ _ after_lower.lower-first.ensures,
+      lowered_next v.3 in-loop.loop-test.taken _ _ after_lower.lower_first_lem.ensures,
     )
 
 pub finish_spec : {M : Type 1} → statement M
@@ -40,7 +40,7 @@ finish_spec =
     (tie.spec
     invariant-loop
     decreases-loop
-    (λ c. (omega arith, refl, refl, lowered-start _ _ _))  -- loop-holds
+    (λ c. (omega arith, refl, refl, lowered_start _ _ _))  -- loop-holds
     lower-first-requires
     (λ c. let entry : tie.Start invariant-loop decreases-loop = search in omega (arith, c, entry.pre.0))  -- add-i
     (λ c. let in-loop : tie.In-loop invariant-loop decreases-loop = search in omega (arith, in-loop.loop-test.taken))  -- loop-less
@@ -48,4 +48,4 @@ finish_spec =
     (λ c. c.before.loop.invariant.1)  -- same-length
     (λ c. c.before.loop.invariant.2)  -- same-length-2
     (λ c. let entry : tie.Start invariant-loop decreases-loop = search in
-    lowered-end entry.args.counts c.before.loop.invariant.3 c.loop-test.false))  -- returns
+    lowered_end entry.args.counts c.before.loop.invariant.3 c.loop-test.false))  -- returns

@@ -4,7 +4,7 @@ use mathlib.Core.Path.{◌≡◌, sym}
 use lib.ListN.{length, take}
 use lib.Seq.{length-take-le}
 use borrow.Author.Rules.{rules}
-use Rattle.joins.proofs.Whole.{start-in, enough, left_in, left-enough, sketched}
+use Rattle.joins.proofs.Whole.{start_in, enough, left_in, left_enough, sketched}
 use Rattle.joins.proofs.sketch_in.Statement.{statement}
 use Rattle.joins.proofs.sketch_in.Tie as tie
 
@@ -19,7 +19,7 @@ marks : (c : tie.After-own-links)
     → length (take ((entry_of c).args.book.marks + 1) (entry_of c).args.ends.now) ≡ (entry_of c).args.book.marks + 1
 marks c =
     let entry = entry_of c in
-    length-take-le (entry.args.book.marks + 1) entry.args.ends.now (omega (arith, entry.pre.1.1.1, entry.pre.0.few-marks))
+    length-take-le (entry.args.book.marks + 1) entry.args.ends.now (omega (arith, entry.pre.1.1.1, entry.pre.0.few_marks))
 
 take-steps-requires : tie.Need-take-steps-requires
 take-steps-requires c κs =
@@ -33,7 +33,7 @@ take-steps-requires c κs =
         omega (arith, k, p.1.1.0),
         (
           omega (arith, m),
-          start-in _ _ p.0 t _ (omega (arith, m)),
+          start_in _ _ p.0 t _ (omega (arith, m)),
         ),
       ),
     )
@@ -45,7 +45,7 @@ finish-requires c κs =
     let p = (entry_of after-own).pre in
     let t = after-own.own-links.ensures in
     let m = marks after-own in (
-      left-enough _ _ p.0 t _ (omega (arith, m)) _ _ _ after-steps.take_steps.ensures
+      left_enough _ _ p.0 t _ (omega (arith, m)) _ _ _ after-steps.take_steps.ensures
           (omega (arith, after-steps.take_steps.kept, after-own.own-links.kept, p.1.0)),
       left_in _ _ p.0 t _ (omega (arith, m)) _ _ _ after-steps.take_steps.ensures,
     )

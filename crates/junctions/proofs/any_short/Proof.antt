@@ -1,21 +1,21 @@
 use borrow.Author.Rules.{rules}
-use Rattle.junctions.specs.Entries.{shortBy}
+use Rattle.junctions.specs.Entries.{short_by}
 use Rattle.junctions.proofs.any_short.Statement.{statement}
 use Rattle.junctions.proofs.any_short.Tie as tie
 
 returns : tie.Need-returns
-unfolding shortBy
+unfolding short_by
 returns c = rw (← c.before.is-short.ensures, c.if1.true)
 
 returns-2 : tie.Need-returns-2
-unfolding shortBy
+unfolding short_by
 returns-2 c =
     let one : tie.After-is-short = search in
     let else1 : tie.Else1 = search in
     rw (← one.is-short.ensures, else1.if1.left, ← c.before.is-short2.ensures, c.if2.true)
 
 returns-3 : tie.Need-returns-3
-unfolding shortBy
+unfolding short_by
 returns-3 c =
     let two : tie.After-is-short2 = search in
     let else2 : tie.Else2 = search in
@@ -31,7 +31,7 @@ returns-3 c =
     )
 
 returns-4 : tie.Need-returns-4
-unfolding shortBy
+unfolding short_by
 returns-4 c =
     let two : tie.After-is-short2 = search in
     let else2 : tie.Else2 = search in

@@ -2,8 +2,8 @@ use mathlib.Core.Path.{◌≡◌, sym, ◌∙◌}
 use borrow.Author.Rules.{rules}
 use Rattle.book.specs.Lent.{lent}
 use Rattle.book.specs.Test.{test_of}
-use Rattle.book.proofs.Goods.{tested-good, good-lines}
-use Rattle.junctions.specs.Call.{sketchCall}
+use Rattle.book.proofs.Goods.{tested_good, good_lines}
+use Rattle.junctions.specs.Call.{sketch_call}
 use Rattle.junctions.proofs.sketch.Statement.{statement}
 use Rattle.junctions.proofs.sketch.Tie as tie
 
@@ -18,18 +18,18 @@ sketch-good-requires c κs =
     let after_test : tie.After-test = search in
     let entry : tie.Start = search in
     let a = entry.args in
-    good-lines _ _ (tested-good (lent a.version a.b a.t a.held.now a.lines.now) after-book.book.given.0.0
+    good_lines _ _ (tested_good (lent a.version a.b a.t a.held.now a.lines.now) after-book.book.given.0.0
     (sym (tested after_test) ∙ after-book.book.given.1))
 
 returns : tie.Need-returns
-unfolding sketchCall
+unfolding sketch_call
 returns c =
     let after-r : tie.After-r = search in
     let after_test : tie.After-test = search in
     rw (← (tested after_test), after-r.r.given.1, c.refused.ensures)
 
 returns-2 : tie.Need-returns-2
-unfolding sketchCall
+unfolding sketch_call
 returns-2 c =
     let after-good : tie.After-sketch-good = search in
     let after-book : tie.After-book = search in

@@ -1,8 +1,8 @@
 use native.Mathlib.Omega.{arith}
 use borrow.Author.Rules.{rules}
 use Rattle.rows.proofs.Passes.{measured}
-use Rattle.junctions.specs.Call.{sketchIn, sketchGood}
-use Rattle.junctions.proofs.Calling.{some-sketch, sketch-over}
+use Rattle.junctions.specs.Call.{sketch_in, sketch_good}
+use Rattle.junctions.proofs.Calling.{some_sketch, sketch_over}
 use Rattle.junctions.proofs.sketch_good.Statement.{statement}
 use Rattle.junctions.proofs.sketch_good.Tie as tie
 
@@ -11,17 +11,17 @@ write-requires c κs =
     let after-sketch : tie.After-sketch-lines = search in
     let entry : tie.Start = search in (
       measured _ _ entry.pre,
-      some-sketch _ _ entry.pre after-sketch.sketch-lines.ensures
+      some_sketch _ _ entry.pre after-sketch.sketch-lines.ensures
           (omega (arith, after-sketch.sketch-lines.kept)),
     )
 
 returns : tie.Need-returns
-unfolding sketchGood sketchIn
+unfolding sketch_good sketch_in
 returns c =
     let after_write : tie.After-write = search in
     let after-sketch : tie.After-sketch-lines = search in
     let entry : tie.Start = search in
-    after_write.write.ensures _ (sketch-over _ _ entry.pre after-sketch.sketch-lines.ensures)
+    after_write.write.ensures _ (sketch_over _ _ entry.pre after-sketch.sketch-lines.ensures)
 
 pub sketch-good-spec : {M : Type 1} → statement M
 sketch-good-spec =

@@ -4,8 +4,8 @@ use mathlib.Core.Path.{sym, ◌∙◌}
 use lib.ListN.{length}
 use lib.Seq.{length-take-le}
 use borrow.Author.Rules.{rules}
-use Rattle.book.specs.Limits.{mostLines}
-use Rattle.junctions.proofs.Calling.{enough, roomy, ten-is, drawn-is}
+use Rattle.book.specs.Limits.{most_lines}
+use Rattle.junctions.proofs.Calling.{enough, roomy, ten_is, drawn_is}
 use Rattle.junctions.proofs.write.Statement.{statement}
 use Rattle.junctions.proofs.write.Tie as tie
 
@@ -14,7 +14,7 @@ entry_of c = search
 
 -- no list has more entries than there are rows
 few : (s : tie.Start) → (s.args.found.links + s.args.found.spurs + s.args.found.loops ≤ length s.args.rows.now)
-    × (length s.args.rows.now ≤ mostLines)
+    × (length s.args.rows.now ≤ most_lines)
 few s = (enough s.requires.1.held, s.requires.1.rows_few)
 
 lines-requires : tie.Need-lines-requires
@@ -36,7 +36,7 @@ returns c = λ s o.
     let after-lines : tie.After-lines = search in
     let after-new : tie.After-new = search in
     rw (after-refused.refused.ensures, after-new.new.ensures)
-    (ten-is o _ after-lines.lines.ensures _ (sym after-short.any-short.ensures ∙ then1.if1.taken))
+    (ten_is o _ after-lines.lines.ensures _ (sym after-short.any-short.ensures ∙ then1.if1.taken))
 
 write-all-requires : tie.Need-write-all-requires
 write-all-requires c κs =
@@ -53,7 +53,7 @@ returns-2 c = λ s o.
     let after-short : tie.After-any-short = search in
     let after-lines : tie.After-lines = search in
     rw c.none.ensures
-    (drawn-is o _ after-lines.lines.ensures _ (sym after-short.any-short.ensures ∙ else1.if1.left)
+    (drawn_is o _ after-lines.lines.ensures _ (sym after-short.any-short.ensures ∙ else1.if1.left)
     _ (after-all.write-all.ensures s o))
 
 pub write_spec : {M : Type 1} → statement M

@@ -3,7 +3,7 @@ use native.Mathlib.Omega.{arith}
 use lib.IntN.{pos}
 use lib.ListN.{length}
 use borrow.Author.Rules.{rules}
-use Rattle.laws.proofs.Laid.{Laid, laid-start, laid_next, laid_end}
+use Rattle.laws.proofs.Laid.{Laid, laid_start, laid_next, laid_end}
 use Rattle.kept.proofs.put.Statement.{statement}
 use Rattle.kept.proofs.put.Tie as tie
 
@@ -27,7 +27,7 @@ put_spec =
     (tie.spec
     invariant-loop
     decreases-loop
-    (λ c. laid-start _ _)  -- loop-holds
+    (λ c. laid_start _ _)  -- loop-holds
     (λ c. omega arith)  -- mul-out
     (λ c. omega arith)  -- shared-slice-copy-out-out
     (λ c. omega arith)  -- mul-t8

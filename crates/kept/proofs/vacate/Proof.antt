@@ -1,5 +1,5 @@
 use Prim.Native.Nat.{◌≤◌, ◌-◌}
-use Rattle.laws.proofs.Laid.{zeroed-length, zeroed_start, zeroed-at, Laid, laid_next, laid_end}
+use Rattle.laws.proofs.Laid.{zeroed_length, zeroed_start, zeroed_at, Laid, laid_next, laid_end}
 use mathlib.Core.List.{◌++◌}
 use native.Mathlib.Omega.{arith}
 use lib.IntN.{pos}
@@ -18,10 +18,10 @@ loop-again c =
     let l = c.before in
     let p = l.before.requires in
     let g = l.before.args in
-    let n = zeroed-length (pos 0) g.out.now g.a g.e p.0 p.1 in (
+    let n = zeroed_length (pos 0) g.out.now g.a g.e p.0 p.1 in (
       omega arith,
       laid_next _ _ _ l.loop.i _ (pos 0) (omega arith) (omega arith)
-          (zeroed-at (pos 0) g.out.now g.a g.e p.0 p.1 l.loop.i (pos 0) l.loop.invariant.0 c.loop-test.true)
+          (zeroed_at (pos 0) g.out.now g.a g.e p.0 p.1 l.loop.i (pos 0) l.loop.invariant.0 c.loop-test.true)
           l.loop.invariant.1,
     )
 
@@ -30,7 +30,7 @@ returns c =
     let l = c.before in
     let p = l.before.requires in
     let g = l.before.args in
-    let n = zeroed-length (pos 0) g.out.now g.a g.e p.0 p.1 in
+    let n = zeroed_length (pos 0) g.out.now g.a g.e p.0 p.1 in
     rw n at (laid_end _ _ _ l.loop.i (omega arith) l.loop.invariant.1)
 
 pub vacate-spec : {M : Type 1} → statement M

@@ -2,13 +2,13 @@ use mathlib.Core.Path.{◌≡◌}
 use mir.Syntax.{w64}
 use mir.Val.{to_z, of_z}
 use Rattle.laws.proofs.Signed.{stored}
-use Rattle.level.specs.Heights.{signedAdjusted}
+use Rattle.level.specs.Heights.{signed_adjusted}
 use borrow.Author.Rules.{rules}
 use Rattle.level.proofs.adjust_answer.Statement.{statement}
 use Rattle.level.proofs.adjust_answer.Tie as tie
 
 returns : tie.Need-returns
-unfolding signedAdjusted
+unfolding signed_adjusted
 returns c =
     let c₁ : tie.After-signed-count = search in
     let c₀ : tie.After-signed-refusal = search in

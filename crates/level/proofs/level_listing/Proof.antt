@@ -1,9 +1,9 @@
 use mathlib.Core.Path.{◌≡◌, sym, ◌∙◌, ap, subst}
 use native.Mathlib.Omega.{arith}
 use Rattle.book.specs.Lent.{lent}
-use Rattle.lists.specs.Listing.{Listing, listingOf}
-use Rattle.level.specs.Listings.{SmallListed, ofListing}
-use Rattle.level.proofs.Small.{listing-small}
+use Rattle.lists.specs.Listing.{Listing, listing_of}
+use Rattle.level.specs.Listings.{SmallListed, of_listing}
+use Rattle.level.proofs.Small.{listing_small}
 use borrow.Author.Rules.{rules}
 use Rattle.level.proofs.level_listing.Statement.{statement}
 use Rattle.level.proofs.level_listing.Tie as tie
@@ -11,7 +11,7 @@ use Rattle.level.proofs.level_listing.Tie as tie
 -- what the call below answered, at the numbers that were lent
 called : (c : tie.After-listing)
     → (let a = c.before.before.args in c.listing.result
-    ≡ (listingOf (lent a.version a.b a.t a.held.now a.lines.now) a.number a.out.now).answer)
+    ≡ (listing_of (lent a.version a.b a.t a.held.now a.lines.now) a.number a.out.now).answer)
 called c = ap (λ (o : Listing). o.answer) c.listing.ensures ∙ search rules
 
 listing-answer-requires : tie.Need-listing-answer-requires
@@ -19,11 +19,11 @@ listing-answer-requires c κs =
     let r = c.before in
     let s = r.before.before in
     let a = s.args in
-    subst SmallListed (sym (called r)) (listing-small (lent a.version a.b a.t a.held.now a.lines.now) a.out.now
+    subst SmallListed (sym (called r)) (listing_small (lent a.version a.b a.t a.held.now a.lines.now) a.out.now
     (omega (arith, s.well-formed)) a.number)
 
 returns : tie.Need-returns
-returns c = rw c.listing-answer.ensures (ap ofListing c.before.before.listing.ensures ∙ search rules)
+returns c = rw c.listing-answer.ensures (ap of_listing c.before.before.listing.ensures ∙ search rules)
 
 pub level-listing-spec : {M : Type 1} → statement M
 level-listing-spec = tie.close (tie.spec (λ c κs. search rules) listing-answer-requires (λ c. search rules) returns)

@@ -1,8 +1,8 @@
 use mathlib.Core.Path.{◌≡◌, sym, ◌∙◌, ap, subst}
 use Rattle.book.specs.Lent.{lent}
-use Rattle.rates.specs.Rates.{rateAnswer}
-use Rattle.level.specs.Rating.{SmallRate, signedRate}
-use Rattle.level.proofs.Small.{rate-small}
+use Rattle.rates.specs.Rates.{rate_answer}
+use Rattle.level.specs.Rating.{SmallRate, signed_rate}
+use Rattle.level.proofs.Small.{rate_small}
 use borrow.Author.Rules.{rules}
 use Rattle.level.proofs.level_rate.Statement.{statement}
 use Rattle.level.proofs.level_rate.Tie as tie
@@ -10,7 +10,7 @@ use Rattle.level.proofs.level_rate.Tie as tie
 -- what the call below answered, at the numbers that were lent
 called : (c : tie.After-rate)
     → (let a = c.before.args in
-    c.rate.result ≡ rateAnswer (lent a.version a.b a.t a.held.now a.lines.now) a.heights.now
+    c.rate.result ≡ rate_answer (lent a.version a.b a.t a.held.now a.lines.now) a.heights.now
     a.line)
 called c = c.rate.ensures ∙ search rules
 
@@ -18,10 +18,10 @@ rate-answer-requires : tie.Need-rate-answer-requires
 rate-answer-requires c κs =
     let a = c.before.args in
     subst SmallRate (sym (called c))
-    (rate-small (lent a.version a.b a.t a.held.now a.lines.now) a.heights.now a.line)
+    (rate_small (lent a.version a.b a.t a.held.now a.lines.now) a.heights.now a.line)
 
 returns : tie.Need-returns
-returns c = c.rate-answer.ensures ∙ ap signedRate (called c.before)
+returns c = c.rate-answer.ensures ∙ ap signed_rate (called c.before)
 
 pub level-rate-spec : {M : Type 1} → statement M
 level-rate-spec = tie.close (tie.spec (λ c κs. search rules) rate-answer-requires returns)

@@ -1,8 +1,8 @@
 use mathlib.Core.Path.{◌≡◌, sym, ◌∙◌, ap, subst}
 use Rattle.book.specs.Lent.{lent}
-use Rattle.survey.specs.Correction.{Corrected, rerunOf}
-use Rattle.level.specs.Answers.{SmallAnswer, ofCorrection}
-use Rattle.level.proofs.Small.{rerun-small}
+use Rattle.survey.specs.Correction.{Corrected, rerun_of}
+use Rattle.level.specs.Answers.{SmallAnswer, of_correction}
+use Rattle.level.proofs.Small.{rerun_small}
 use borrow.Author.Rules.{rules}
 use Rattle.level.proofs.level_rerun.Statement.{statement}
 use Rattle.level.proofs.level_rerun.Tie as tie
@@ -10,7 +10,7 @@ use Rattle.level.proofs.level_rerun.Tie as tie
 -- what the call below answered, at the numbers that were lent
 called : (c : tie.After-rerun)
     → (let a = c.before.before.before.args in c.rerun.result
-    ≡ (rerunOf (lent a.version a.b a.t a.held.now a.lines.now) a.report.now a.line a.difference).answer)
+    ≡ (rerun_of (lent a.version a.b a.t a.held.now a.lines.now) a.report.now a.line a.difference).answer)
 called c = ap (λ (o : Corrected). o.answer) c.rerun.ensures ∙ search rules
 
 survey-answer-requires : tie.Need-survey-answer-requires
@@ -18,11 +18,11 @@ survey-answer-requires c κs =
     let r = c.before.before in
     let a = r.before.before.before.args in
     subst SmallAnswer (sym (called r))
-    (rerun-small (lent a.version a.b a.t a.held.now a.lines.now) a.report.now a.line
+    (rerun_small (lent a.version a.b a.t a.held.now a.lines.now) a.report.now a.line
     a.difference)
 
 returns : tie.Need-returns
-returns c = rw c.survey-answer.ensures (ap ofCorrection c.before.before.before.rerun.ensures ∙ search rules)
+returns c = rw c.survey-answer.ensures (ap of_correction c.before.before.before.rerun.ensures ∙ search rules)
 
 pub level-rerun-spec : {M : Type 1} → statement M
 level-rerun-spec =

@@ -1,15 +1,15 @@
 use mathlib.Core.Path.{◌≡◌, sym, ◌∙◌, ap, subst}
 use borrow.Author.Rules.{rules}
 use Rattle.book.specs.Lent.{lent}
-use Rattle.junctions.specs.Call.{lists, Drawing, sketchCall}
-use Rattle.level.specs.Sketches.{SmallSketched, ofSketch}
-use Rattle.level.proofs.Small.{sketch-small}
+use Rattle.junctions.specs.Call.{lists, Drawing, sketch_call}
+use Rattle.level.specs.Sketches.{SmallSketched, of_sketch}
+use Rattle.level.proofs.Small.{sketch_small}
 use Rattle.level.proofs.level_sketch.Statement.{statement}
 use Rattle.level.proofs.level_sketch.Tie as tie
 
 -- what the call below answered, at the numbers that were lent
 called : (c : tie.After-sketch) → (let s : tie.Start = search in let a = s.args in
-    c.sketch.result ≡ (sketchCall (lent a.version a.b a.t a.held.now a.lines.now)
+    c.sketch.result ≡ (sketch_call (lent a.version a.b a.t a.held.now a.lines.now)
     (lists a.links.now a.spurs.now a.loops.now a.run.now)).answer)
 called c = ap (λ (o : Drawing). o.answer) c.sketch.ensures ∙ search rules
 
@@ -18,13 +18,13 @@ sketch-answer-requires c κs =
     let after-sketch : tie.After-sketch = search in
     let s : tie.Start = search in
     let a = s.args in
-    subst SmallSketched (sym (called after-sketch)) (sketch-small (lent a.version a.b a.t a.held.now a.lines.now)
+    subst SmallSketched (sym (called after-sketch)) (sketch_small (lent a.version a.b a.t a.held.now a.lines.now)
     (lists a.links.now a.spurs.now a.loops.now a.run.now))
 
 returns : tie.Need-returns
 returns c =
     let after-sketch : tie.After-sketch = search in
-    rw c.sketch-answer.ensures (ap ofSketch after-sketch.sketch.ensures ∙ search rules)
+    rw c.sketch-answer.ensures (ap of_sketch after-sketch.sketch.ensures ∙ search rules)
 
 pub level-sketch-spec : {M : Type 1} → statement M
 level-sketch-spec =

@@ -1,8 +1,8 @@
 use mathlib.Core.Path.{◌≡◌, sym, ◌∙◌, ap, subst}
 use Rattle.book.specs.Lent.{lent}
-use Rattle.survey.specs.Survey.{Surveyed, surveyOf}
-use Rattle.level.specs.Answers.{SmallAnswer, ofSurvey}
-use Rattle.level.proofs.Small.{survey-small}
+use Rattle.survey.specs.Survey.{Surveyed, survey_of}
+use Rattle.level.specs.Answers.{SmallAnswer, of_survey}
+use Rattle.level.proofs.Small.{survey_small}
 use borrow.Author.Rules.{rules}
 use Rattle.level.proofs.level_survey.Statement.{statement}
 use Rattle.level.proofs.level_survey.Tie as tie
@@ -10,17 +10,17 @@ use Rattle.level.proofs.level_survey.Tie as tie
 -- what the call below answered, at the numbers that were lent
 called : (c : tie.After-survey)
     → (let a = c.before.before.args in c.survey.result
-    ≡ (surveyOf (lent a.version a.b a.t a.held.now a.lines.now) a.rows.now).answer)
+    ≡ (survey_of (lent a.version a.b a.t a.held.now a.lines.now) a.rows.now).answer)
 called c = ap (λ (o : Surveyed). o.answer) c.survey.ensures ∙ search rules
 
 survey-answer-requires : tie.Need-survey-answer-requires
 survey-answer-requires c κs =
     let r = c.before in
     let a = r.before.before.args in
-    subst SmallAnswer (sym (called r)) (survey-small (lent a.version a.b a.t a.held.now a.lines.now) a.rows.now)
+    subst SmallAnswer (sym (called r)) (survey_small (lent a.version a.b a.t a.held.now a.lines.now) a.rows.now)
 
 returns : tie.Need-returns
-returns c = rw c.survey-answer.ensures (ap ofSurvey c.before.before.survey.ensures ∙ search rules)
+returns c = rw c.survey-answer.ensures (ap of_survey c.before.before.survey.ensures ∙ search rules)
 
 pub level-survey-spec : {M : Type 1} → statement M
 level-survey-spec = tie.close (tie.spec (λ c κs. search rules) survey-answer-requires (λ c. search rules) returns)

@@ -1,8 +1,8 @@
 use mathlib.Core.Path.{◌≡◌, sym, ◌∙◌, ap, subst}
 use Rattle.book.specs.Lent.{lent}
-use Rattle.survey.specs.Correction.{Corrected, withdrawOf}
-use Rattle.level.specs.Answers.{SmallAnswer, ofCorrection}
-use Rattle.level.proofs.Small.{withdraw-small}
+use Rattle.survey.specs.Correction.{Corrected, withdraw_of}
+use Rattle.level.specs.Answers.{SmallAnswer, of_correction}
+use Rattle.level.proofs.Small.{withdraw_small}
 use borrow.Author.Rules.{rules}
 use Rattle.level.proofs.level_withdraw.Statement.{statement}
 use Rattle.level.proofs.level_withdraw.Tie as tie
@@ -10,7 +10,7 @@ use Rattle.level.proofs.level_withdraw.Tie as tie
 -- what the call below answered, at the numbers that were lent
 called : (c : tie.After-withdraw)
     → (let a = c.before.before.before.args in c.withdraw.result
-    ≡ (withdrawOf (lent a.version a.b a.t a.held.now a.lines.now) a.report.now a.line).answer)
+    ≡ (withdraw_of (lent a.version a.b a.t a.held.now a.lines.now) a.report.now a.line).answer)
 called c = ap (λ (o : Corrected). o.answer) c.withdraw.ensures ∙ search rules
 
 survey-answer-requires : tie.Need-survey-answer-requires
@@ -18,10 +18,10 @@ survey-answer-requires c κs =
     let r = c.before.before in
     let a = r.before.before.before.args in
     subst SmallAnswer (sym (called r))
-    (withdraw-small (lent a.version a.b a.t a.held.now a.lines.now) a.report.now a.line)
+    (withdraw_small (lent a.version a.b a.t a.held.now a.lines.now) a.report.now a.line)
 
 returns : tie.Need-returns
-returns c = rw c.survey-answer.ensures (ap ofCorrection c.before.before.before.withdraw.ensures ∙ search rules)
+returns c = rw c.survey-answer.ensures (ap of_correction c.before.before.before.withdraw.ensures ∙ search rules)
 
 pub level-withdraw-spec : {M : Type 1} → statement M
 level-withdraw-spec =

@@ -1,9 +1,9 @@
 use mathlib.Core.Path.{◌≡◌, sym, ◌∙◌, ap, subst}
 use native.Mathlib.Omega.{arith}
 use Rattle.book.specs.Lent.{lent}
-use Rattle.writer.specs.Write.{Writing, writeOf}
-use Rattle.level.specs.Writings.{SmallWritten, ofWriting}
-use Rattle.level.proofs.Small.{write-small}
+use Rattle.writer.specs.Write.{Writing, write_of}
+use Rattle.level.specs.Writings.{SmallWritten, of_writing}
+use Rattle.level.proofs.Small.{write_small}
 use borrow.Author.Rules.{rules}
 use Rattle.level.proofs.level_write.Statement.{statement}
 use Rattle.level.proofs.level_write.Tie as tie
@@ -11,7 +11,7 @@ use Rattle.level.proofs.level_write.Tie as tie
 -- what the call below answered, at the numbers that were lent
 called : (c : tie.After-write)
     → (let entry : tie.Start = search in let a = entry.args in c.write.result
-    ≡ (writeOf (lent a.version a.b a.t a.held.now a.lines.now) a.file.now).answer)
+    ≡ (write_of (lent a.version a.b a.t a.held.now a.lines.now) a.file.now).answer)
 called c = ap (λ (w : Writing). w.answer) c.write.ensures ∙ search rules
 
 write-answer-requires : tie.Need-write-answer-requires
@@ -19,13 +19,13 @@ write-answer-requires c κs =
     let written : tie.After-write = search in
     let entry : tie.Start = search in
     let a = entry.args in
-    subst SmallWritten (sym (called written)) (write-small (lent a.version a.b a.t a.held.now a.lines.now) a.file.now
+    subst SmallWritten (sym (called written)) (write_small (lent a.version a.b a.t a.held.now a.lines.now) a.file.now
     (omega (arith, entry.good)))
 
 returns : tie.Need-returns
 returns c =
     let written : tie.After-write = search in
-    rw c.write-answer.ensures (ap ofWriting written.write.ensures ∙ search rules)
+    rw c.write-answer.ensures (ap of_writing written.write.ensures ∙ search rules)
 
 pub level-write-spec : {M : Type 1} → statement M
 level-write-spec = tie.close (tie.spec (λ c κs. search rules) write-answer-requires (λ c. search rules) returns)

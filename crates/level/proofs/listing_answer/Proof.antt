@@ -2,13 +2,13 @@ use mathlib.Core.Path.{◌≡◌}
 use mir.Syntax.{w64}
 use mir.Val.{to_z, of_z}
 use Rattle.laws.proofs.Signed.{stored}
-use Rattle.level.specs.Listings.{signedListed}
+use Rattle.level.specs.Listings.{signed_listed}
 use borrow.Author.Rules.{rules}
 use Rattle.level.proofs.listing_answer.Statement.{statement}
 use Rattle.level.proofs.listing_answer.Tie as tie
 
 returns : tie.Need-returns
-unfolding signedListed
+unfolding signed_listed
 returns c =
     let c₁ : tie.After-signed-count = search in
     let c₀ : tie.After-signed-refusal = search in

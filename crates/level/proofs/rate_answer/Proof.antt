@@ -3,13 +3,13 @@ use mathlib.Core.Path.{◌≡◌}
 use mir.Syntax.{w64}
 use mir.Val.{to_z, of_z}
 use Rattle.laws.proofs.Signed.{stored}
-use Rattle.level.specs.Rating.{withdrawnOf, rateOf, signedRate}
+use Rattle.level.specs.Rating.{withdrawn_of, rate_of, signed_rate}
 use borrow.Author.Rules.{rules}
 use Rattle.level.proofs.rate_answer.Statement.{statement}
 use Rattle.level.proofs.rate_answer.Tie as tie
 
 returns : tie.Need-returns
-unfolding signedRate withdrawnOf rateOf
+unfolding signed_rate withdrawn_of rate_of
 returns c =
     let c₁ : tie.After-signed-count = search in
     let c₀ : tie.After-signed-refusal = search in
@@ -28,7 +28,7 @@ returns c =
     )
 
 returns-2 : tie.Need-returns-2
-unfolding signedRate withdrawnOf rateOf of_bits
+unfolding signed_rate withdrawn_of rate_of of_bits
 returns-2 c =
     let c₁ : tie.After-signed-count = search in
     let c₀ : tie.After-signed-refusal = search in

@@ -2,13 +2,13 @@ use mathlib.Core.Path.{◌≡◌}
 use mir.Syntax.{w64}
 use mir.Val.{to_z, of_z}
 use Rattle.laws.proofs.Signed.{stored}
-use Rattle.level.specs.Signed.{signedRead}
+use Rattle.level.specs.Signed.{signed_read}
 use borrow.Author.Rules.{rules}
 use Rattle.level.proofs.read_answer.Statement.{statement}
 use Rattle.level.proofs.read_answer.Tie as tie
 
 returns : tie.Need-returns
-unfolding signedRead
+unfolding signed_read
 returns c =
     let c₅ : tie.After-signed-count5 = search in
     let c₄ : tie.After-signed-count4 = search in

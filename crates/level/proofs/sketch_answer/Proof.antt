@@ -2,13 +2,13 @@ use mathlib.Core.Path.{◌≡◌}
 use mir.Syntax.{w64}
 use mir.Val.{to_z, of_z}
 use Rattle.laws.proofs.Signed.{stored}
-use Rattle.level.specs.Sketches.{signedSketched}
+use Rattle.level.specs.Sketches.{signed_sketched}
 use borrow.Author.Rules.{rules}
 use Rattle.level.proofs.sketch_answer.Statement.{statement}
 use Rattle.level.proofs.sketch_answer.Tie as tie
 
 returns : tie.Need-returns
-unfolding signedSketched
+unfolding signed_sketched
 returns c =
     let c₄ : tie.After-signed-count4 = search in
     let c₃ : tie.After-signed-count3 = search in

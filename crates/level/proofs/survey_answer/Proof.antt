@@ -2,13 +2,13 @@ use mathlib.Core.Path.{◌≡◌}
 use mir.Syntax.{w64}
 use mir.Val.{to_z, of_z}
 use Rattle.laws.proofs.Signed.{stored}
-use Rattle.level.specs.Answers.{signedAnswer}
+use Rattle.level.specs.Answers.{signed_answer}
 use borrow.Author.Rules.{rules}
 use Rattle.level.proofs.survey_answer.Statement.{statement}
 use Rattle.level.proofs.survey_answer.Tie as tie
 
 returns : tie.Need-returns
-unfolding signedAnswer
+unfolding signed_answer
 returns c =
     let c₂ : tie.After-signed-count2 = search in
     let c₁ : tie.After-signed-count = search in

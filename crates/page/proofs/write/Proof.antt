@@ -25,7 +25,7 @@ returns-2 c =
     let book : tie.After-book = search in
     let after-put : tie.After-put = search in
     let s : tie.Start = search in
-    rw ((filed book).its-text (text_of s.args.printed)) at after-put.put.ensures
+    rw ((filed book).its_text (text_of s.args.printed)) at after-put.put.ensures
 
 pub write_spec : {M : Type 1} → statement M
 write_spec =

@@ -1,15 +1,15 @@
 use Prim.Native.Nat.{◌≤◌}
 use mathlib.Core.Path.{◌≡◌, refl}
 use lib.ListN.{length}
-use Rattle.book.specs.Line.{lineCount}
-use Rattle.prepare.proofs.Drawing.{DrawingAt, draw-start, entry-asked, draw-turn, draw-end}
+use Rattle.book.specs.Line.{line_count}
+use Rattle.prepare.proofs.Drawing.{DrawingAt, draw_start, entry_asked, draw_turn, draw_end}
 use native.Mathlib.Omega.{arith}
 use Rattle.prepare.proofs.draw_book.Statement.{statement}
 use Rattle.prepare.proofs.draw_book.Tie as tie
 
 abbrev invariant-loop : tie.invariant-loop
 invariant-loop lines ends₀ head₀ next₀ n j₀ ends head next j =
-    (j ≤ lineCount lines) × (length ends ≡ length ends₀) × (length head ≡ length head₀) × (length next ≡ length next₀)
+    (j ≤ line_count lines) × (length ends ≡ length ends₀) × (length head ≡ length head₀) × (length next ≡ length next₀)
     × DrawingAt n lines j ends head next
 
 abbrev decreases-loop : tie.decreases-loop
@@ -25,7 +25,7 @@ loop-holds c =
       refl,
       refl,
       refl,
-      draw-start _ _ after-zero.zero.last.0 z.new.0 _ p.some-mark (omega (arith, p.ends_at))
+      draw_start _ _ after-zero.zero.last.0 z.new.0 _ p.some_mark (omega (arith, p.ends_at))
           (record { heads = omega (arith, p.chains.heads); nexts = p.chains.nexts }) after-zero.zero.ensures z.ensures,
     )
 
@@ -34,7 +34,7 @@ draw-line-requires c κs =
     let at-loop : tie.At-loop invariant-loop decreases-loop = search in
     let entry : tie.Start invariant-loop decreases-loop = search in
     let v = at-loop.loop.inv in
-    entry-asked _ _ _ _ _ _ _ _ _ (omega arith) v.0 entry.pre
+    entry_asked _ _ _ _ _ _ _ _ _ (omega arith) v.0 entry.pre
     (record { heads = omega (arith, v.2, entry.pre.chains.heads); nexts = omega (arith, v.3, entry.pre.chains.nexts) }) v.4
 
 loop-again : tie.Need-loop-preserved invariant-loop decreases-loop
@@ -47,7 +47,7 @@ loop-again c =
       omega arith,
       omega arith,
       omega arith,
-      draw-turn _ _ _ _ _ _ _ _ _ (omega arith) v.0 entry.pre
+      draw_turn _ _ _ _ _ _ _ _ _ (omega arith) v.0 entry.pre
           (record { heads = omega (arith, v.2, entry.pre.chains.heads); nexts = omega (arith, v.3, entry.pre.chains.nexts) })
           v.4 _
           _ _ after-draw-line.draw-line.ensures,
@@ -56,7 +56,7 @@ loop-again c =
 returns : tie.Need-returns invariant-loop decreases-loop
 returns c =
     let entry : tie.Start invariant-loop decreases-loop = search in
-    draw-end _ _ _ _ _ _ entry.pre.few entry.pre.few-marks (omega arith) c.before.loop.invariant.4
+    draw_end _ _ _ _ _ _ entry.pre.few entry.pre.few_marks (omega arith) c.before.loop.invariant.4
 
 pub draw-book-spec : {M : Type 1} → statement M
 draw-book-spec =

@@ -4,10 +4,10 @@ use lib.IntN.{nat_abs}
 use lib.ListN.{length-set}
 use Rattle.laws.proofs.Signed.{back}
 use Rattle.laws.proofs.Size.{not_negative}
-use Rattle.book.specs.Limits.{mostLength}
-use Rattle.book.specs.Line.{fromAt, to_at, length_at}
+use Rattle.book.specs.Limits.{most_length}
+use Rattle.book.specs.Line.{from_at, to_at, length_at}
 use Rattle.prepare.specs.Drawn.{withdrawn}
-use Rattle.prepare.proofs.Drawing.{entry-short, entry-fits, drew-is}
+use Rattle.prepare.proofs.Drawing.{entry_short, entry_fits, drew_is}
 use native.Mathlib.Omega.{arith}
 use borrow.Author.Rules.{rules}
 use Rattle.prepare.proofs.draw_line.Statement.{statement}
@@ -28,19 +28,19 @@ index-requires-3 c κs =
 
 -- the numbers that were read are the line's
 from_is : (c : tie.After-index3)
-    → (let a : tie.After-index = search in let s : tie.Start = search in a.index.result ≡ nat_abs (fromAt s.args.e.now 0))
+    → (let a : tie.After-index = search in let s : tie.Start = search in a.index.result ≡ nat_abs (from_at s.args.e.now 0))
 from_is c = let a : tie.After-index = search in a.index.ensures ∙ search rules
 
 to_is : (c : tie.After-index3)
     → (let a : tie.After-index2 = search in let s : tie.Start = search in a.index2.result ≡ nat_abs (to_at s.args.e.now 0))
 to_is c = let a : tie.After-index2 = search in a.index2.ensures ∙ search rules
 
-length-is : (c : tie.After-index3) → (let s : tie.Start = search in c.index3.result ≡ nat_abs (length_at s.args.e.now 0))
-length-is c = c.index3.ensures ∙ search rules
+length_is : (c : tie.After-index3) → (let s : tie.Start = search in c.index3.result ≡ nat_abs (length_at s.args.e.now 0))
+length_is c = c.index3.ensures ∙ search rules
 
 short : (c : tie.After-index3) → (let s : tie.Start = search in let a : tie.After-index = search in let b : tie.After-index2 = search in
-    (a.index.result < s.args.n) × (b.index2.result < s.args.n) × (c.index3.result ≤ mostLength))
-short c = let s : tie.Start = search in entry-short s.pre _ _ _ (from_is c) (to_is c) (length-is c)
+    (a.index.result < s.args.n) × (b.index2.result < s.args.n) × (c.index3.result ≤ most_length))
+short c = let s : tie.Start = search in entry_short s.pre _ _ _ (from_is c) (to_is c) (length_is c)
 
 slice-write-ends-2 : tie.Need-slice-write-ends-2
 slice-write-ends-2 c =
@@ -51,7 +51,7 @@ join-requires : tie.Need-join-requires
 join-requires c κs =
     let i : tie.After-index3 = search in
     let s : tie.Start = search in
-    (entry-fits s.pre _ _ _ (from_is i) (to_is i) (length-is i), s.pre.chains)
+    (entry_fits s.pre _ _ _ (from_is i) (to_is i) (length_is i), s.pre.chains)
 
 returns-2 : tie.Need-returns-2
 returns-2 c =
@@ -60,7 +60,7 @@ returns-2 c =
     let else1 : tie.Else1 = search in
     let after_same : tie.After-same = search in
     let s : tie.Start = search in
-    drew-is s.pre _ _ _ (from_is i) (to_is i) (length-is i) (sym (after_same.same.ensures ∙ search rules) ∙ else1.if1.left)
+    drew_is s.pre _ _ _ (from_is i) (to_is i) (length_is i) (sym (after_same.same.ensures ∙ search rules) ∙ else1.if1.left)
     after-join.join.ensures
 
 pub draw-line-spec : {M : Type 1} → statement M
@@ -76,13 +76,13 @@ draw-line-spec =
     index-requires-2
     (λ c. search rules)  -- shared-slice-copy-out-index-3
     index-requires-3
-    (λ c. let i : tie.After-index3 = search in let s : tie.Start = search in omega (arith, short i, s.pre.few-marks))  -- mul-ends
-    (λ c. let i : tie.After-index3 = search in let s : tie.Start = search in omega (arith, short i, s.pre.few-marks))  -- add-ends
+    (λ c. let i : tie.After-index3 = search in let s : tie.Start = search in omega (arith, short i, s.pre.few_marks))  -- mul-ends
+    (λ c. let i : tie.After-index3 = search in let s : tie.Start = search in omega (arith, short i, s.pre.few_marks))  -- add-ends
     (λ c. search rules)  -- mul-ends-2
     (λ c. search rules)  -- mul-ends-3
     (λ c. search rules)  -- slice-write-ends
-    (λ c. let i : tie.After-index3 = search in let s : tie.Start = search in omega (arith, short i, s.pre.few-marks))  -- mul-ends-4
-    (λ c. let i : tie.After-index3 = search in let s : tie.Start = search in omega (arith, short i, s.pre.few-marks))  -- add-ends-2
+    (λ c. let i : tie.After-index3 = search in let s : tie.Start = search in omega (arith, short i, s.pre.few_marks))  -- mul-ends-4
+    (λ c. let i : tie.After-index3 = search in let s : tie.Start = search in omega (arith, short i, s.pre.few_marks))  -- add-ends-2
     (λ c. search rules)  -- mul-ends-5
     (λ c. search rules)  -- add-ends-3
     (λ c. search rules)  -- mul-ends-6

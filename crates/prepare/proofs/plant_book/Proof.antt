@@ -1,5 +1,5 @@
 use borrow.Author.Rules.{rules}
-use Rattle.prepare.proofs.Preparing.{draw-room, tree_of}
+use Rattle.prepare.proofs.Preparing.{draw_room, tree_of}
 use Rattle.prepare.proofs.plant_book.Statement.{statement}
 use Rattle.prepare.proofs.plant_book.Tie as tie
 
@@ -23,7 +23,7 @@ plant-book-spec =
     tie.close
     (tie.spec
     (λ c. search rules)  -- add-n
-    (λ c κs. let entry : tie.Start = search in draw-room _ _ entry.pre.0 entry.pre.1)  -- draw-book-requires
+    (λ c κs. let entry : tie.Start = search in draw_room _ _ entry.pre.0 entry.pre.1)  -- draw-book-requires
     plant-requires
     (λ c. search rules)  -- same-length
     (λ c. search rules)  -- same-length-2

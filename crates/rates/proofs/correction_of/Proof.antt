@@ -6,10 +6,10 @@ use lib.IntN.{ℤ, pos, nat_abs, ◌-ℤ◌}
 use mir.Syntax.{w64}
 use mir.Val.{to_z, of_z}
 use Rattle.laws.proofs.Signed.{back, stored}
-use Rattle.laws.proofs.Size.{size-sub, not_negative}
-use Rattle.book.specs.Limits.{mostHeight}
+use Rattle.laws.proofs.Size.{size_sub, not_negative}
+use Rattle.book.specs.Limits.{most_height}
 use Rattle.fields.proofs.Readback.{read}
-use Rattle.rates.specs.Rates.{correctionOf}
+use Rattle.rates.specs.Rates.{correction_of}
 use Rattle.rates.proofs.correction_of.Statement.{statement}
 use Rattle.rates.proofs.correction_of.Tie as tie
 
@@ -25,14 +25,14 @@ difference-read : (c : tie.After-struct-told3)
 difference-read c = let s : tie.Start = search in back s.args.line.difference c.struct-told3.given.1.1.0.1
 
 height-read : (s : tie.Start) (i : ℕ) → to_z w64 (of_z w64 (get_or s.args.heights.now i (pos 0))) ≡ get_or s.args.heights.now i (pos 0)
-height-read s i = read (get_or s.args.heights.now i (pos 0)) mostHeight (s.requires.1.inside i) (omega arith)
+height-read s i = read (get_or s.args.heights.now i (pos 0)) most_height (s.requires.1.inside i) (omega arith)
 
 -- its two marks
-to-mark : (c : tie.After-index) → (let s : tie.Start = search in c.index.result ≡ nat_abs s.args.line.to)
-to-mark c = c.index.ensures ∙ rw (to_read c.before)
+to_mark : (c : tie.After-index) → (let s : tie.Start = search in c.index.result ≡ nat_abs s.args.line.to)
+to_mark c = c.index.ensures ∙ rw (to_read c.before)
 
-from-mark : (c : tie.After-index2) → (let s : tie.Start = search in c.index2.result ≡ nat_abs s.args.line.from)
-from-mark c = c.index2.ensures ∙ rw (from-read c.before)
+from_mark : (c : tie.After-index2) → (let s : tie.Start = search in c.index2.result ≡ nat_abs s.args.line.from)
+from_mark c = c.index2.ensures ∙ rw (from-read c.before)
 
 -- the adjusted difference
 abbrev adjusted-of : tie.After-sub → ℤ
@@ -59,7 +59,7 @@ adjusted-size c =
     let f = from.index2.result - 1 in
     omega (
       arith,
-      size-sub (get_or s.args.heights.now t (pos 0)) (get_or s.args.heights.now f (pos 0)),
+      size_sub (get_or s.args.heights.now t (pos 0)) (get_or s.args.heights.now f (pos 0)),
       s.pre.1.inside t,
       s.pre.1.inside f,
     )
@@ -67,12 +67,12 @@ adjusted-size c =
 shared-slice-copy-out-sub : tie.Need-shared-slice-copy-out-sub
 shared-slice-copy-out-sub c =
     let s : tie.Start = search in
-    omega (arith, to-mark c.before.before, s.pre.0.to.low, s.pre.0.to.high, s.pre.1.all)
+    omega (arith, to_mark c.before.before, s.pre.0.to.low, s.pre.0.to.high, s.pre.1.all)
 
 shared-slice-copy-out-sub-2 : tie.Need-shared-slice-copy-out-sub-2
 shared-slice-copy-out-sub-2 c =
     let s : tie.Start = search in
-    omega (arith, from-mark c.before, s.pre.0.from.low, s.pre.0.from.high, s.pre.1.all)
+    omega (arith, from_mark c.before, s.pre.0.from.low, s.pre.0.from.high, s.pre.1.all)
 
 sub-requires : tie.Need-sub-requires
 sub-requires c κs =
@@ -89,7 +89,7 @@ sub-requires-2 c κs =
     rw (adjusted-read c.before, difference-read c) (omega (arith, adjusted-size c.before, s.pre.0.difference))
 
 returns : tie.Need-returns
-unfolding correctionOf
+unfolding correction_of
 returns c =
     let s : tie.Start = search in
     let to : tie.After-index = search in
@@ -97,8 +97,8 @@ returns c =
     let a = c.before.before in
     let e : to_z w64 (of_z w64 c.sub2.result) ≡ adjusted-of a -ℤ s.args.line.difference
     = stored c.sub2.result c.sub2.type-inv (c.sub2.ensures ∙ rw (adjusted-read a, difference-read c.before)) in (
-      e ∙ rw (to-mark to, from-mark from),
-      rw e (omega (arith, size-sub (adjusted-of a) s.args.line.difference, adjusted-size a, s.pre.0.difference)),
+      e ∙ rw (to_mark to, from_mark from),
+      rw e (omega (arith, size_sub (adjusted-of a) s.args.line.difference, adjusted-size a, s.pre.0.difference)),
     )
 
 pub correction-of-spec : {M : Type 1} → statement M
@@ -107,11 +107,11 @@ correction-of-spec =
     (tie.spec
     (λ c κs. rw (to_read c) (not_negative c.before.requires.0.to))  -- index-requires
     (λ c κs. let s : tie.Start = search in rw (from-read c) (not_negative s.pre.0.from))  -- index-requires-2
-    (λ c. let s : tie.Start = search in omega (arith, to-mark c.before.before, s.pre.0.to.low))  -- sub-sub
-    (λ c. let s : tie.Start = search in omega (arith, to-mark c.before.before, s.pre.0.to.high, s.pre.1.all))  -- mul-sub
+    (λ c. let s : tie.Start = search in omega (arith, to_mark c.before.before, s.pre.0.to.low))  -- sub-sub
+    (λ c. let s : tie.Start = search in omega (arith, to_mark c.before.before, s.pre.0.to.high, s.pre.1.all))  -- mul-sub
     shared-slice-copy-out-sub
-    (λ c. let s : tie.Start = search in omega (arith, from-mark c.before, s.pre.0.from.low))  -- sub-sub-2
-    (λ c. let s : tie.Start = search in omega (arith, from-mark c.before, s.pre.0.from.high, s.pre.1.all))  -- mul-sub-2
+    (λ c. let s : tie.Start = search in omega (arith, from_mark c.before, s.pre.0.from.low))  -- sub-sub-2
+    (λ c. let s : tie.Start = search in omega (arith, from_mark c.before, s.pre.0.from.high, s.pre.1.all))  -- mul-sub-2
     shared-slice-copy-out-sub-2
     sub-requires
     sub-requires-2

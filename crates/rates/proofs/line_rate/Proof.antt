@@ -6,13 +6,13 @@ use lib.IntN.{ℤ, pos}
 use lib.ListN.{length-take, length-drop}
 use mir.Syntax.{w64}
 use mir.Val.{to_z, of_z}
-use Rattle.laws.specs.Tests.{eqZ}
+use Rattle.laws.specs.Tests.{eq_z}
 use Rattle.laws.proofs.Signed.{back, stored}
-use Rattle.book.specs.Line.{line_at, standingAt, length_at, entry_at, entry_of}
+use Rattle.book.specs.Line.{line_at, standing_at, length_at, entry_at, entry_of}
 use Rattle.book.specs.declared.line.Line.{Line}
 use Rattle.book.specs.declared.line.MadeLine.TheVariants as made
-use Rattle.book.proofs.Passing.{line-is-made}
-use Rattle.rates.specs.Rates.{correctionAt, correctionOf, lineRate, OfBook}
+use Rattle.book.proofs.Passing.{line_is_made}
+use Rattle.rates.specs.Rates.{correction_at, correction_of, line_rate, OfBook}
 use borrow.Author.Rules.{rules}
 use Rattle.rates.proofs.line_rate.Statement.{statement}
 use Rattle.rates.proofs.line_rate.Tie as tie
@@ -26,14 +26,14 @@ line_made c =
     let b : to_z w64 (of_z w64 k.result) ≡ pos s.args.b = stored k.result k.type-inv k.ensures in
     simp add-sub_cancel_left at c.Line-of.ensures
     ∙ ap (λ (z : ℤ). entry_of z (entry_at s.args.lines.now (s.args.line - 1))) b
-    ∙ line-is-made s.args.b s.args.lines.now (s.args.line - 1) s.pre.1.0
+    ∙ line_is_made s.args.b s.args.lines.now (s.args.line - 1) s.pre.1.0
 
 -- it is the line at its place
 its-is : (c : tie.After-made) → (let s : tie.Start = search in c.made.given.0.0 ≡ line_at s.args.lines.now (s.args.line - 1))
 its-is c = let m = line_made c.before.before in let g = c.made.given.1 in cc
 
 withdrawn-read : (c : tie.After-same)
-    → (let s : tie.Start = search in eqZ (standingAt s.args.lines.now (s.args.line - 1)) (pos 0) ≡ c.same.result)
+    → (let s : tie.Start = search in eq_z (standing_at s.args.lines.now (s.args.line - 1)) (pos 0) ≡ c.same.result)
 withdrawn-read c =
     let known : tie.After-made = search in
     let its = known.made.given.0.0 in
@@ -54,7 +54,7 @@ returns c =
     absurd (omega arith)
 
 returns-2 : tie.Need-returns-2
-unfolding lineRate
+unfolding line_rate
 returns-2 c =
     let after_none : tie.After-none = search in
     rw (withdrawn-read c.before ∙ c.if1.true, after_none.none.ensures)
@@ -73,7 +73,7 @@ per-km-requires c κs =
     (rw (back k.result k.type-inv) k.ensures.1, rw (length-read c) (omega (arith, s.pre.1.0.long.high)))
 
 returns-3 : tie.Need-returns-3
-unfolding lineRate correctionAt
+unfolding line_rate correction_at
 returns-3 c =
     let after_same : tie.After-same = search in
     let after_none : tie.After-none = search in
@@ -81,8 +81,8 @@ returns-3 c =
     let known : tie.After-made = search in
     let k = c.before.before.correction-of in
     let e = withdrawn-read after_same ∙ c.before.before.before.if1.false in
-    let x : to_z w64 (of_z w64 k.result) ≡ correctionAt s.args.heights.now s.args.lines.now (s.args.line - 1)
-    = back k.result k.type-inv ∙ k.ensures.0 ∙ ap (correctionOf s.args.heights.now) (its-is known) in
+    let x : to_z w64 (of_z w64 k.result) ≡ correction_at s.args.heights.now s.args.lines.now (s.args.line - 1)
+    = back k.result k.type-inv ∙ k.ensures.0 ∙ ap (correction_of s.args.heights.now) (its-is known) in
     rw (e, after_none.none.ensures, c.per-km.ensures, length-read c.before, x)
 
 pub line-rate-spec : {M : Type 1} → statement M

@@ -1,5 +1,5 @@
 use native.Mathlib.Omega.{arith}
-use Rattle.text.proofs.Puts.{put-part}
+use Rattle.text.proofs.Puts.{put_part}
 use borrow.Author.Rules.{rules}
 use Rattle.report.proofs.report.Statement.{statement}
 use Rattle.report.proofs.report.Tie as tie
@@ -12,6 +12,6 @@ report-spec =
     (λ c. search rules)  -- slice-aggregate-write-page
     (λ c κs. search rules)  -- write-page-requires
     (λ c. search rules)  -- array-share-prefix-page
-    (λ c. put-part c.before.before.write-page.ensures (omega arith))  -- slice-aggregate-write-all
+    (λ c. put_part c.before.before.write-page.ensures (omega arith))  -- slice-aggregate-write-all
     (λ c κs. search rules)  -- write-all-requires
     (λ c. search rules))  -- returns

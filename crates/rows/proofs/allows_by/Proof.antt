@@ -2,9 +2,9 @@ use Prim.Native.Nat.{◌*◌, ◌≤◌}
 use native.Mathlib.Nat.{mul-le-mul}
 use native.Mathlib.Omega.{arith}
 use mathlib.Core.Path.{◌≡◌, refl}
-use Rattle.book.specs.Limits.{mostTolerance}
-use Rattle.rows.specs.Sums.{allowsBy, mostAllowed}
-use Rattle.rows.proofs.Totals.{allows-size}
+use Rattle.book.specs.Limits.{most_tolerance}
+use Rattle.rows.specs.Sums.{allows_by, most_allowed}
+use Rattle.rows.proofs.Totals.{allows_size}
 use borrow.Author.Rules.{rules}
 use Rattle.rows.proofs.allows_by.Statement.{statement}
 use Rattle.rows.proofs.allows_by.Tie as tie
@@ -12,20 +12,20 @@ use Rattle.rows.proofs.allows_by.Tie as tie
 mul-result : tie.Need-overflow-mul-result
 mul-result c =
     let h = c.tolerance-by.ensures.1 in
-    let q : c.tolerance-by.result * c.tolerance-by.result ≤ mostTolerance * mostTolerance = mul-le-mul h h in
+    let q : c.tolerance-by.result * c.tolerance-by.result ≤ most_tolerance * most_tolerance = mul-le-mul h h in
     omega arith
 
 -- what is answered, and that it is small
 allowed : (c : tie.After-judged-as) → (let entry : tie.Start = search in let x : tie.After-tolerance-by = search in
     let r = x.tolerance-by.result * x.tolerance-by.result * c.judged-as.result in
-    (r ≡ allowsBy entry.args.t entry.args.lines.now entry.args.code) × (r ≤ mostAllowed))
-unfolding allowsBy
+    (r ≡ allows_by entry.args.t entry.args.lines.now entry.args.code) × (r ≤ most_allowed))
+unfolding allows_by
 allowed c =
     let entry : tie.Start = search in
     let x : tie.After-tolerance-by = search in
     let l : tie.After-length-by = search in
     let p = entry.pre in
-    rw (c.judged-as.ensures, l.length-by.ensures, x.tolerance-by.ensures.0) (refl, allows-size _ _ _ p.1.1 p.0 p.1.0)
+    rw (c.judged-as.ensures, l.length-by.ensures, x.tolerance-by.ensures.0) (refl, allows_size _ _ _ p.1.1 p.0 p.1.0)
 
 mul-result-2 : tie.Need-overflow-mul-result-2
 mul-result-2 c = omega (arith, (allowed c).1)

@@ -1,7 +1,7 @@
 use native.Mathlib.Omega.{arith}
 use mathlib.Core.Path.{◌∙◌}
 use Rattle.laws.proofs.Signed.{stored}
-use Rattle.rows.proofs.Totals.{row_made, loop-lines}
+use Rattle.rows.proofs.Totals.{row_made, loop_lines}
 use borrow.Author.Rules.{rules}
 use Rattle.rows.proofs.row_of.Statement.{statement}
 use Rattle.rows.proofs.row_of.Tie as tie
@@ -10,7 +10,7 @@ cast-write-row : tie.Need-overflow-cast-write-row
 cast-write-row c =
     let entry : tie.Start = search in
     let p = entry.pre in
-    omega (arith, p.0.few-lines, (p.1.0.each 0 p.1.0.some-line).high)
+    omega (arith, p.0.few_lines, (p.1.0.each 0 p.1.0.some_line).high)
 
 write-row-requires : tie.Need-write-row-requires
 write-row-requires c κs =
@@ -20,7 +20,7 @@ write-row-requires c κs =
     let run = p.1.0 in (
       p.1.1.1,
       (
-        omega (arith, p.0.few-lines, (run.each 0 run.some-line).high),
+        omega (arith, p.0.few_lines, (run.each 0 run.some_line).high),
         omega (arith, run.few),
         omega (arith, after-run-length.run_length.ensures.1),
       ),
@@ -29,7 +29,7 @@ write-row-requires c κs =
 run-allows-requires : tie.Need-run-allows-requires
 run-allows-requires c κs =
     let entry : tie.Start = search in
-    (entry.pre.0, (loop-lines entry.pre.1.0, entry.pre.1.1.0))
+    (entry.pre.0, (loop_lines entry.pre.1.0, entry.pre.1.1.0))
 
 returns : tie.Need-returns
 returns c =
@@ -47,8 +47,8 @@ pub row-of-spec : {M : Type 1} → statement M
 row-of-spec =
     tie.close
     (tie.spec
-    (λ c κs. let entry : tie.Start = search in (entry.pre.0, loop-lines entry.pre.1.0))  -- run-length-requires
-    (λ c κs. let entry : tie.Start = search in (entry.pre.0, loop-lines entry.pre.1.0))  -- run-rise-requires
+    (λ c κs. let entry : tie.Start = search in (entry.pre.0, loop_lines entry.pre.1.0))  -- run-length-requires
+    (λ c κs. let entry : tie.Start = search in (entry.pre.0, loop_lines entry.pre.1.0))  -- run-rise-requires
     run-allows-requires
     (λ c κs. c.run-allows.ensures.1)  -- verdict-requires
     (λ c. search rules)  -- shared-slice-read-write-row

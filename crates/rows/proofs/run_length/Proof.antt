@@ -1,14 +1,14 @@
 use Prim.Native.Nat.{◌-◌}
 use native.Mathlib.Omega.{arith}
 use lib.ListN.{length}
-use Rattle.book.specs.Limits.{mostLength}
-use Rattle.rows.specs.Sums.{lengthBy, length_of}
-use Rattle.rows.proofs.Totals.{Summed, none-summed, one-summed, all-summed, length-size}
+use Rattle.book.specs.Limits.{most_length}
+use Rattle.rows.specs.Sums.{length_by, length_of}
+use Rattle.rows.proofs.Totals.{Summed, none_summed, one_summed, all_summed, length_size}
 use Rattle.rows.proofs.run_length.Statement.{statement}
 use Rattle.rows.proofs.run_length.Tie as tie
 
 abbrev invariant-loop : tie.invariant-loop
-invariant-loop lines run sum₀ j₀ sum j = Summed (lengthBy lines) mostLength run j sum
+invariant-loop lines run sum₀ j₀ sum j = Summed (length_by lines) most_length run j sum
 
 abbrev decreases-loop : tie.decreases-loop
 decreases-loop lines run sum₀ j₀ sum j = length run - j
@@ -17,7 +17,7 @@ cast-length-by : tie.Need-overflow-cast-length-by invariant-loop decreases-loop
 cast-length-by c =
     let at-loop : tie.At-loop invariant-loop decreases-loop = search in
     let entry : tie.Start invariant-loop decreases-loop = search in
-    omega (arith, entry.pre.0.few-lines, (entry.pre.1.each at-loop.loop.j (omega arith)).high)
+    omega (arith, entry.pre.0.few_lines, (entry.pre.1.each at-loop.loop.j (omega arith)).high)
 
 length-by-requires : tie.Need-length-by-requires invariant-loop decreases-loop
 length-by-requires c κs =
@@ -33,7 +33,7 @@ add-sum c =
     omega (
       arith,
       c.length-by.ensures,
-      length-size _ _ p.0 (p.1.each at-loop.loop.j (omega arith)),
+      length_size _ _ p.0 (p.1.each at-loop.loop.j (omega arith)),
       p.1.few,
       at-loop.loop.inv.small,
     )
@@ -43,14 +43,14 @@ loop-again c =
     let at-loop : tie.At-loop invariant-loop decreases-loop = search in
     let entry : tie.Start invariant-loop decreases-loop = search in
     let p = entry.pre in
-    rw c.length-by.ensures (one-summed (omega arith) (length-size _ _ p.0 (p.1.each at-loop.loop.j (omega arith)))
+    rw c.length-by.ensures (one_summed (omega arith) (length_size _ _ p.0 (p.1.each at-loop.loop.j (omega arith)))
     at-loop.loop.inv)
 
 returns : tie.Need-returns invariant-loop decreases-loop
 unfolding length_of
 returns c =
     let entry : tie.Start invariant-loop decreases-loop = search in
-    let s = all-summed (omega arith) c.before.loop.invariant in
+    let s = all_summed (omega arith) c.before.loop.invariant in
     (s.0, omega (arith, entry.pre.1.few, s.1))
 
 pub run-length-spec : {M : Type 1} → statement M
@@ -59,7 +59,7 @@ run-length-spec =
     (tie.spec
     invariant-loop
     decreases-loop
-    (λ c. none-summed)  -- loop-holds
+    (λ c. none_summed)  -- loop-holds
     (λ c. let entry : tie.Start invariant-loop decreases-loop = search in omega (arith, entry.pre.1.few))  -- mul-length-by
     (λ c. omega arith)  -- shared-slice-read-length-by
     cast-length-by

@@ -1,7 +1,7 @@
 use mathlib.Core.Path.{◌∙◌}
 use Rattle.laws.proofs.Signed.{back}
-use Rattle.rows.specs.Sums.{toleranceBy}
-use Rattle.rows.proofs.Totals.{line-there}
+use Rattle.rows.specs.Sums.{tolerance_by}
+use Rattle.rows.proofs.Totals.{line_there}
 use borrow.Author.Rules.{rules}
 use Rattle.rows.proofs.tolerance_by.Statement.{statement}
 use Rattle.rows.proofs.tolerance_by.Tie as tie
@@ -9,10 +9,10 @@ use Rattle.rows.proofs.tolerance_by.Tie as tie
 tolerance-requires : tie.Need-tolerance-requires
 tolerance-requires c κs =
     let p = c.before.requires in
-    (rw (back _ c.tolerance-arg.given) (p.0.classes _ (line-there p.1.0)), p.1.1)
+    (rw (back _ c.tolerance-arg.given) (p.0.classes _ (line_there p.1.0)), p.1.1)
 
 returns : tie.Need-returns
-unfolding toleranceBy
+unfolding tolerance_by
 returns c = rw (back _ c.before.tolerance-arg.given) at c.tolerance.ensures
 
 pub tolerance-by-spec : {M : Type 1} → statement M

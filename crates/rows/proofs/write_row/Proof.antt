@@ -2,7 +2,7 @@ use mir.Facts.{to_z-of_z}
 use native.Mathlib.Omega.{arith}
 use lib.ListN.{length-set}
 use Rattle.laws.proofs.Signed.{stored}
-use Rattle.rows.proofs.Totals.{row-stored}
+use Rattle.rows.proofs.Totals.{row_stored}
 use borrow.Author.Rules.{rules}
 use Rattle.rows.proofs.write_row.Statement.{statement}
 use Rattle.rows.proofs.write_row.Tie as tie
@@ -12,7 +12,7 @@ returns c =
     let entry : tie.Start = search in
     let first = c.before.before.signed-count in
     let second = c.before.signed-count2 in
-    row-stored entry.args.out.now entry.pre.0 (stored _ first.type-inv first.ensures) (stored _ second.type-inv second.ensures)
+    row_stored entry.args.out.now entry.pre.0 (stored _ first.type-inv first.ensures) (stored _ second.type-inv second.ensures)
     (stored _ c.signed-count3.type-inv c.signed-count3.ensures) (to_z-of_z entry.fits.misclosure) (to_z-of_z entry.fits.verdict)
 
 pub write-row-spec : {M : Type 1} → statement M

@@ -1,7 +1,7 @@
 use Prim.Native.Nat.{◌/◌, ℕ, ◌<◌}
 use lib.ListN.{length-set, get_or}
 use Rattle.chains.specs.Chains.{halves}
-use Rattle.search.proofs.Ways.{way-low, walk_end, walk-room, walk-falls, walk-next, walk_put}
+use Rattle.search.proofs.Ways.{way_low, walk_end, walk_room, walk_falls, walk_next, walk_put}
 use borrow.Author.Rules.{rules}
 use native.Mathlib.Omega.{arith}
 use borrow.Fn.Kinds.{In}
@@ -24,13 +24,13 @@ way-below t = and 3 way-kinds.ps (falls 3 way-kinds.ps ◌<◌ μ-way t) way.Pre
 way-mul-key : (t : ℕ) → way-lts.Need-overflow-mul-key (way-below t, way.Post) (way_at t) way.Post
 way-mul-key t c =
     let entry : way-lts.Start (way-below t, way.Post) (way_at t) way.Post = search in
-    omega (arith, way-low entry.pre.1.way)
+    omega (arith, way_low entry.pre.1.way)
 
 way-shared-slice-read-key :
     (t : ℕ) → way-lts.Need-shared-slice-read-key (way-below t, way.Post) (way_at t) way.Post
 way-shared-slice-read-key t c =
     let entry : way-lts.Start (way-below t, way.Post) (way_at t) way.Post = search in
-    way-low entry.pre.1.way
+    way_low entry.pre.1.way
 
 way-returns : (t : ℕ) → way-lts.Need-returns (way-below t, way.Post) (way_at t) way.Post
 way-returns t c = λ hs w. walk_end w (omega arith) _ _
@@ -54,7 +54,7 @@ way-slice-write-out :
     (t : ℕ) → way-lts.Need-slice-write-out (way-below t, way.Post) (way_at t) way.Post
 way-slice-write-out t c =
     let entry : way-lts.Start (way-below t, way.Post) (way_at t) way.Post = search in
-    walk-room _ _ _ _ _ (λ e. omega arith) entry.pre.1
+    walk_room _ _ _ _ _ (λ e. omega arith) entry.pre.1
 
 way-add-way : (t : ℕ) → way-lts.Need-overflow-add-way (way-below t, way.Post) (way_at t) way.Post
 way-add-way t c = search rules
@@ -69,7 +69,7 @@ way-shared-slice-read-way t c = search rules
 way-way-requires : (t : ℕ) → way-lts.Need-way-requires (way-below t, way.Post) (way_at t) way.Post
 way-way-requires t c κs =
     let entry : way-lts.Start (way-below t, way.Post) (way_at t) way.Post = search in
-    (walk-falls _ _ _ _ _ (λ e. omega arith) entry.pre.1 t entry.pre.0, walk-next _ _ _ _ _ (λ e. omega arith) entry.pre.1)
+    (walk_falls _ _ _ _ _ (λ e. omega arith) entry.pre.1 t entry.pre.0, walk_next _ _ _ _ _ (λ e. omega arith) entry.pre.1)
 
 way-same-length : (t : ℕ) → way-lts.Need-same-length (way-below t, way.Post) (way_at t) way.Post
 way-same-length t c = simp length-set at c.before.before.way.auto.1.1.0

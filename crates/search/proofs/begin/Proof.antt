@@ -1,7 +1,7 @@
 use borrow.Author.Rules.{rules}
 use native.Mathlib.Omega.{arith}
 use lib.ListN.{length-set}
-use Rattle.search.proofs.Relaxing.{stage-start}
+use Rattle.search.proofs.Relaxing.{stage_start}
 use Rattle.search.proofs.begin.Statement.{statement}
 use Rattle.search.proofs.begin.Tie as tie
 
@@ -17,7 +17,7 @@ relax-requires c κs =
       (
         p.1.0.chained _ p.1.1.1,
         (
-          stage-start _ _ after-clear.clear.last.0 after-clear2.clear2.last.0
+          stage_start _ _ after-clear.clear.last.0 after-clear2.clear2.last.0
               p.1.1.0.few p.1.1.1 (omega (arith, a.0, p.1.1.0.bests)) (omega (arith, b.0, p.1.1.0.segs)) a.1
               (λ i h. b.1 i (omega arith)),
           omega arith,

@@ -1,8 +1,8 @@
 use mathlib.Core.List.{List}
 use Prim.Native.Nat.{ℕ}
 use Rattle.chains.specs.Chains.{Chain}
-use Rattle.chains.proofs.Halves.{stepsLeft, steps-fall, chain-low, chain-rest}
-use Rattle.search.proofs.Direct.{Least, least_start, least-turn, least-end}
+use Rattle.chains.proofs.Halves.{steps_left, steps_fall, chain_low, chain_rest}
+use Rattle.search.proofs.Direct.{Least, least_start, least_turn, least_end}
 use borrow.Author.Rules.{rules}
 use native.Mathlib.Omega.{arith}
 use Rattle.search.proofs.least_sum.Statement.{statement}
@@ -12,37 +12,37 @@ abbrev invariant-loop : tie.invariant-loop
 invariant-loop next ends n first s₀ h₀ s h = ((hs : List ℕ) × Chain next h hs) × Least next ends first h s
 
 abbrev decreases-loop : tie.decreases-loop
-decreases-loop next ends n first s₀ h₀ s h = stepsLeft next h
+decreases-loop next ends n first s₀ h₀ s h = steps_left next h
 
 shared-slice-read-e : tie.Need-shared-slice-read-e invariant-loop decreases-loop
 shared-slice-read-e c =
     let at-loop : tie.At-loop invariant-loop decreases-loop = search in
     let entry : tie.Start invariant-loop decreases-loop = search in
-    omega (arith, chain-low at-loop.loop.inv.0.1, entry.pre.0.ends_at)
+    omega (arith, chain_low at-loop.loop.inv.0.1, entry.pre.0.ends_at)
 
 add-lesser : tie.Need-overflow-add-lesser invariant-loop decreases-loop
 add-lesser c =
     let at-loop : tie.At-loop invariant-loop decreases-loop = search in
     let entry : tie.Start invariant-loop decreases-loop = search in
-    let lt = chain-low at-loop.loop.inv.0.1 in
+    let lt = chain_low at-loop.loop.inv.0.1 in
     omega (arith, lt, entry.pre.0.short at-loop.loop.h lt)
 
 shared-slice-read-h : tie.Need-shared-slice-read-h invariant-loop decreases-loop
 shared-slice-read-h c =
     let at-loop : tie.At-loop invariant-loop decreases-loop = search in
     let entry : tie.Start invariant-loop decreases-loop = search in
-    omega (arith, chain-low at-loop.loop.inv.0.1, entry.pre.1.nexts)
+    omega (arith, chain_low at-loop.loop.inv.0.1, entry.pre.1.nexts)
 
 loop-again : tie.Need-loop-preserved invariant-loop decreases-loop
 loop-again c =
     let at-loop : tie.At-loop invariant-loop decreases-loop = search in (
-      chain-rest at-loop.loop.inv.0.1 (omega arith),
-      least-turn _ _ _ _ _ _ at-loop.loop.inv.1 (omega arith)
+      chain_rest at-loop.loop.inv.0.1 (omega arith),
+      least_turn _ _ _ _ _ _ at-loop.loop.inv.1 (omega arith)
           c.before.lesser.ensures,
     )
 
 returns : tie.Need-returns invariant-loop decreases-loop
-returns c = least-end _ _ _ _ _ c.before.loop.invariant.1 (omega arith)
+returns c = least_end _ _ _ _ _ c.before.loop.invariant.1 (omega arith)
 
 pub least-sum-spec : {M : Type 1} → statement M
 least-sum-spec =
@@ -51,13 +51,13 @@ least-sum-spec =
     invariant-loop
     decreases-loop
     (λ c. let entry : tie.Start invariant-loop decreases-loop = search in ((entry.pre.1.hs, entry.pre.1.chain), least_start _ _ _))  -- loop-holds
-    (λ c. let at-loop : tie.At-loop invariant-loop decreases-loop = search in omega (arith, chain-low at-loop.loop.inv.0.1))  -- mul-e
+    (λ c. let at-loop : tie.At-loop invariant-loop decreases-loop = search in omega (arith, chain_low at-loop.loop.inv.0.1))  -- mul-e
     shared-slice-read-e
     (λ c. search rules)  -- sub-lesser
     add-lesser
     (λ c κs. search rules)  -- lesser-requires
-    (λ c. let at-loop : tie.At-loop invariant-loop decreases-loop = search in omega (arith, chain-low at-loop.loop.inv.0.1))  -- mul-h
+    (λ c. let at-loop : tie.At-loop invariant-loop decreases-loop = search in omega (arith, chain_low at-loop.loop.inv.0.1))  -- mul-h
     shared-slice-read-h
-    (λ c. let at-loop : tie.At-loop invariant-loop decreases-loop = search in steps-fall at-loop.loop.inv.0.1 (omega arith))  -- loop-less
+    (λ c. let at-loop : tie.At-loop invariant-loop decreases-loop = search in steps_fall at-loop.loop.inv.0.1 (omega arith))  -- loop-less
     loop-again
     returns)

@@ -1,6 +1,6 @@
 use native.Mathlib.Omega.{arith}
-use Rattle.search.proofs.Ways.{path-leads, path-walked, path-cut}
-use Rattle.search.proofs.Direct.{direct-written}
+use Rattle.search.proofs.Ways.{path_leads, path_walked, path_cut}
+use Rattle.search.proofs.Direct.{direct_written}
 use borrow.Author.Rules.{rules}
 use Rattle.search.proofs.path.Statement.{statement}
 use Rattle.search.proofs.path.Tie as tie
@@ -8,7 +8,7 @@ use Rattle.search.proofs.path.Tie as tie
 returns : tie.Need-returns
 returns c =
     let entry : tie.Start = search in
-    let p = entry.pre in λ sub g. direct-written _ _ _ _ _ _ p.1.1 (c.before.direct-half.ensures.whole (omega arith) sub g)
+    let p = entry.pre in λ sub g. direct_written _ _ _ _ _ _ p.1.1 (c.before.direct-half.ensures.whole (omega arith) sub g)
 
 search-requires : tie.Need-search-requires
 search-requires c κs =
@@ -21,7 +21,7 @@ way-requires c κs =
     let entry : tie.Start = search in
     let p = entry.pre in
     let g = p.0.given in
-    path-leads _ _ _ _ _ g _ _ _ p.1.1.r-ok (omega (arith, p.1.0.room.bests)) (after-search.search.ensures p.0.sub g)
+    path_leads _ _ _ _ _ g _ _ _ p.1.1.r_ok (omega (arith, p.1.0.room.bests)) (after-search.search.ensures p.0.sub g)
     c.before.before.if2.true _ p.0.bounded.ends_at p.1.0.outs
 
 returns-2 : tie.Need-returns-2
@@ -31,7 +31,7 @@ returns-2 c =
     let after-direct-half : tie.After-direct-half = search in
     let entry : tie.Start = search in
     let p = entry.pre in
-    λ sub g. path-walked sub _ _ _ _ g _ _ _ p.1.1.r-ok (omega (arith, c, p.1.0.room.bests))
+    λ sub g. path_walked sub _ _ _ _ g _ _ _ p.1.1.r_ok (omega (arith, c, p.1.0.room.bests))
     (after-search.search.ensures sub g) then2.if2.taken _ _ _ c.before.before.way.ensures
 
 returns-3 : tie.Need-returns-3
@@ -39,7 +39,7 @@ returns-3 c =
     let after-search : tie.After-search = search in
     let entry : tie.Start = search in
     let p = entry.pre in
-    λ sub g. path-cut sub _ _ _ _ g _ _ _ p.1.1.r-ok (omega (arith, p.1.0.room.bests)) (after-search.search.ensures sub g)
+    λ sub g. path_cut sub _ _ _ _ g _ _ _ p.1.1.r_ok (omega (arith, p.1.0.room.bests)) (after-search.search.ensures sub g)
     c.if2.false _
 
 pub path-spec : {M : Type 1} → statement M

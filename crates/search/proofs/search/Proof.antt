@@ -6,7 +6,7 @@ use mathlib.Core.List.{List}
 use Rattle.network.specs.Standing.{Line}
 use Rattle.chains.specs.Chains.{Given}
 use Rattle.search.specs.Front.{Stage}
-use Rattle.search.proofs.Searched.{Searching, begun-searching, turned_more, turned_none, turned-found, turned-any, search-end}
+use Rattle.search.proofs.Searched.{Searching, begun_searching, turned_more, turned_none, turned_found, turned_any, search_end}
 use Rattle.search.proofs.search.Statement.{statement}
 use Rattle.search.proofs.search.Tie as tie
 
@@ -21,7 +21,7 @@ decreases-loop head next ends best₀ seg₀ n r to k₀ best seg k = n - k
 begin-requires : tie.Need-begin-requires invariant-loop decreases-loop
 begin-requires c κs =
     let entry : tie.Start invariant-loop decreases-loop = search in
-    let p = entry.pre in (p.0, (p.1.0, (p.1.1.0, p.1.1.1.r-ok)))
+    let p = entry.pre in (p.0, (p.1.0, (p.1.1.0, p.1.1.1.r_ok)))
 
 loop-holds : tie.Need-loop-init invariant-loop decreases-loop
 loop-holds c =
@@ -30,11 +30,11 @@ loop-holds c =
     let p = entry.pre in
     let b = after-begin.begin.ensures in (
       omega arith,
-      omega (arith, p.1.1.1.r-ok, p.1.1.1.to-ok, p.1.1.1.apart),
+      omega (arith, p.1.1.1.r_ok, p.1.1.1.to_ok, p.1.1.1.apart),
       b.offered.stage,
       refl,
       refl,
-      λ sub g. begun-searching sub _ _ _ _ g _ _ _ _ p.1.1.1 b,
+      λ sub g. begun_searching sub _ _ _ _ g _ _ _ _ p.1.1.1 b,
     )
 
 turn-requires : tie.Need-turn-requires invariant-loop decreases-loop
@@ -57,7 +57,7 @@ returns-2 c =
     let at-loop : tie.At-loop invariant-loop decreases-loop = search in
     let after-begin : tie.After-begin invariant-loop decreases-loop = search in
     let entry : tie.Start invariant-loop decreases-loop = search in
-    λ sub g. turned-found sub _ _ _ _ g _ _ _ _ _ _ _ _ at-loop.loop.inv.2 (omega (arith, entry.pre.1.1.0.few))
+    λ sub g. turned_found sub _ _ _ _ g _ _ _ _ _ _ _ _ at-loop.loop.inv.2 (omega (arith, entry.pre.1.1.0.few))
     (at-loop.loop.inv.5 sub g) after_turn.turn.ensures (λ e. omega arith) (omega arith) (omega arith)
 
 loop-again : tie.Need-loop-preserved invariant-loop decreases-loop
@@ -68,7 +68,7 @@ loop-again c =
     let entry : tie.Start invariant-loop decreases-loop = search in (
       omega arith,
       omega arith,
-      turned-any _ _ _ _ _ _ _ _ _ _ at-loop.loop.inv.2 after_turn.turn.ensures,
+      turned_any _ _ _ _ _ _ _ _ _ _ at-loop.loop.inv.2 after_turn.turn.ensures,
       omega (arith, c),
       omega arith,
       λ sub g. turned_more sub _ _ _ _ g _ _ _ _ _ _ _ _ at-loop.loop.inv.2 (omega (arith, entry.pre.1.1.0.few))
@@ -76,7 +76,7 @@ loop-again c =
     )
 
 returns-3 : tie.Need-returns-3 invariant-loop decreases-loop
-returns-3 c = λ sub g. search-end sub _ _ _ _ g _ _ _ _ _ (c.before.loop.invariant.5 sub g) (omega arith) refl
+returns-3 c = λ sub g. search_end sub _ _ _ _ g _ _ _ _ _ (c.before.loop.invariant.5 sub g) (omega arith) refl
 
 pub search-spec : {M : Type 1} → statement M
 search-spec =

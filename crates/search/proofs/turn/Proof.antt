@@ -3,7 +3,7 @@ use mathlib.Core.Path.{refl}
 use lib.ListN.{get_or}
 use Rattle.chains.specs.Chains.{halves}
 use Rattle.search.specs.Front.{more, found, nothing}
-use Rattle.search.proofs.Relaxing.{stage-close}
+use Rattle.search.proofs.Relaxing.{stage_close}
 use native.Mathlib.Omega.{arith}
 use borrow.Author.Rules.{rules}
 use Rattle.search.proofs.turn.Statement.{statement}
@@ -19,13 +19,13 @@ close-requires : tie.Need-close-requires
 close-requires c κs =
     let entry : tie.Start = search in
     let p = entry.pre in
-    (p.1.1.heap, p.0.mark-ok (get_or entry.args.seg.now 1 0 % halves) (omega arith))
+    (p.1.1.heap, p.0.mark_ok (get_or entry.args.seg.now 1 0 % halves) (omega arith))
 
 shared-slice-read-relax : tie.Need-shared-slice-read-relax
 shared-slice-read-relax c =
     let entry : tie.Start = search in
     let p = entry.pre in
-    let ok = p.0.mark-ok (get_or entry.args.seg.now 1 0 % halves) (omega arith) in
+    let ok = p.0.mark_ok (get_or entry.args.seg.now 1 0 % halves) (omega arith) in
     omega (arith, ok, p.1.0.heads)
 
 relax-requires : tie.Need-relax-requires
@@ -33,8 +33,8 @@ relax-requires c κs =
     let after-close : tie.After-close = search in
     let entry : tie.Start = search in
     let p = entry.pre in
-    let ok = p.0.mark-ok (get_or entry.args.seg.now 1 0 % halves) (omega arith) in
-    (p.0, (p.1.0.chained _ ok, (stage-close _ _ _ _ _ p.1.1 ok after-close.close.ensures, omega arith)))
+    let ok = p.0.mark_ok (get_or entry.args.seg.now 1 0 % halves) (omega arith) in
+    (p.0, (p.1.0.chained _ ok, (stage_close _ _ _ _ _ p.1.1 ok after-close.close.ensures, omega arith)))
 
 returns-3 : tie.Need-returns-3
 returns-3 c =

@@ -4,10 +4,10 @@ use native.Mathlib.Omega.{arith}
 use lib.IntN.{nat_abs}
 use Rattle.laws.proofs.Signed.{back}
 use Rattle.laws.proofs.Size.{not_negative}
-use Rattle.book.specs.Line.{fromAt, to_at}
+use Rattle.book.specs.Line.{from_at, to_at}
 use Rattle.sights.specs.Sights.{Sight}
 use Rattle.sights.specs.Halves.{place_of}
-use Rattle.sights.proofs.Halves.{along-half, against-half}
+use Rattle.sights.proofs.Halves.{along_half, against_half}
 use borrow.Author.Rules.{rules}
 use Rattle.sights.proofs.other_of.Statement.{statement}
 use Rattle.sights.proofs.other_of.Tie as tie
@@ -19,10 +19,10 @@ to_read c =
     c.index.ensures ∙ rw (back (to_at s.args.lines.now (place_of s.args.h)) c.before.index-arg.given)
 
 from-read : (c : tie.After-index2)
-    → (let s = c.before.before.before in c.index2.result ≡ nat_abs (fromAt s.args.lines.now (place_of s.args.h)))
+    → (let s = c.before.before.before in c.index2.result ≡ nat_abs (from_at s.args.lines.now (place_of s.args.h)))
 from-read c =
     let s = c.before.before.before in
-    c.index2.ensures ∙ rw (back (fromAt s.args.lines.now (place_of s.args.h)) c.before.index-arg2.given)
+    c.index2.ensures ∙ rw (back (from_at s.args.lines.now (place_of s.args.h)) c.before.index-arg2.given)
 
 index-requires : tie.Need-index-requires
 index-requires c κs =
@@ -32,12 +32,12 @@ index-requires c κs =
 index-requires-2 : tie.Need-index-requires-2
 index-requires-2 c κs =
     let s = c.before.before in
-    rw (back (fromAt s.args.lines.now (place_of s.args.h)) c.index-arg2.given) (not_negative s.requires.place.good.from)
+    rw (back (from_at s.args.lines.now (place_of s.args.h)) c.index-arg2.given) (not_negative s.requires.place.good.from)
 
 returns : tie.Need-returns
 returns c =
     let s = c.before.before.before in
-    let half = along-half s.args.lines.now s.args.h c.before.before.if1.true in (
+    let half = along_half s.args.lines.now s.args.h c.before.before.if1.true in (
       ap (λ (x : ℕ). x - 1) (to_read c ∙ sym (ap (λ (x : Sight). x.other) half)),
       omega (arith, to_read c, s.requires.place.good.to.low, s.requires.place.good.to.high),
     )
@@ -45,7 +45,7 @@ returns c =
 returns-2 : tie.Need-returns-2
 returns-2 c =
     let s = c.before.before.before in
-    let half = against-half s.args.lines.now s.args.h c.before.before.if1.false in (
+    let half = against_half s.args.lines.now s.args.h c.before.before.if1.false in (
       ap (λ (x : ℕ). x - 1) (from-read c ∙ sym (ap (λ (x : Sight). x.other) half)),
       omega (arith, from-read c, s.requires.place.good.from.low, s.requires.place.good.from.high),
     )

@@ -4,22 +4,22 @@ use lib.IntN.{neg_ℤ, +ℤ_idl}
 use mir.Syntax.{w64}
 use mir.Val.{to_z, of_z}
 use Rattle.laws.proofs.Signed.{stored}
-use Rattle.laws.proofs.Size.{size-neg}
-use Rattle.book.specs.Limits.{mostDifference}
-use Rattle.book.specs.Line.{differenceAt}
+use Rattle.laws.proofs.Size.{size_neg}
+use Rattle.book.specs.Limits.{most_difference}
+use Rattle.book.specs.Line.{difference_at}
 use Rattle.sights.specs.Sights.{Sight}
 use Rattle.sights.specs.Halves.{place_of}
 use Rattle.fields.proofs.Readback.{read}
-use Rattle.sights.proofs.Halves.{along-half, against-half}
+use Rattle.sights.proofs.Halves.{along_half, against_half}
 use borrow.Author.Rules.{rules}
 use Rattle.sights.proofs.rise_of.Statement.{statement}
 use Rattle.sights.proofs.rise_of.Tie as tie
 
 difference-read : (s : tie.Start)
-    → to_z w64 (of_z w64 (differenceAt s.args.lines.now (place_of s.args.h)))
-    ≡ differenceAt s.args.lines.now (place_of s.args.h)
+    → to_z w64 (of_z w64 (difference_at s.args.lines.now (place_of s.args.h)))
+    ≡ difference_at s.args.lines.now (place_of s.args.h)
 difference-read s =
-    read (differenceAt s.args.lines.now (place_of s.args.h)) mostDifference s.requires.place.good.difference (omega arith)
+    read (difference_at s.args.lines.now (place_of s.args.h)) most_difference s.requires.place.good.difference (omega arith)
 
 sub-requires : tie.Need-sub-requires
 sub-requires c κs = let s = c.before.before in rw (difference-read s) (omega (arith, s.requires.place.good.difference))
@@ -27,16 +27,16 @@ sub-requires c κs = let s = c.before.before in rw (difference-read s) (omega (a
 returns : tie.Need-returns
 returns c =
     let s = c.before.before.before in
-    let e : to_z w64 (of_z w64 c.sub.result) ≡ neg_ℤ (differenceAt s.args.lines.now (place_of s.args.h)) =
+    let e : to_z w64 (of_z w64 c.sub.result) ≡ neg_ℤ (difference_at s.args.lines.now (place_of s.args.h)) =
     stored c.sub.result c.sub.type-inv (c.sub.ensures ∙ rw (difference-read s, +ℤ_idl)) in (
-      e ∙ sym (ap (λ (x : Sight). x.rise) (along-half s.args.lines.now s.args.h c.before.if1.true)),
-      rw (e, size-neg) s.requires.place.good.difference,
+      e ∙ sym (ap (λ (x : Sight). x.rise) (along_half s.args.lines.now s.args.h c.before.if1.true)),
+      rw (e, size_neg) s.requires.place.good.difference,
     )
 
 returns-2 : tie.Need-returns-2
 returns-2 c =
     let s = c.before.before in (
-      difference-read s ∙ sym (ap (λ (x : Sight). x.rise) (against-half s.args.lines.now s.args.h c.if1.false)),
+      difference-read s ∙ sym (ap (λ (x : Sight). x.rise) (against_half s.args.lines.now s.args.h c.if1.false)),
       rw (difference-read s) s.requires.place.good.difference,
     )
 

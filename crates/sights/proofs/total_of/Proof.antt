@@ -1,16 +1,16 @@
 use mathlib.Core.Path.{◌≡◌}
 use Prim.Native.Nat.{◌+◌, ◌-◌, ◌*◌, ◌≤◌}
 use native.Mathlib.Omega.{arith}
-use Rattle.divisions.specs.Weight.{mostWeight}
+use Rattle.divisions.specs.Weight.{most_weight}
 use Rattle.sights.specs.Table.{weighed}
-use Rattle.sights.proofs.Rowing.{weighed-turn, weighed-end}
+use Rattle.sights.proofs.Rowing.{weighed_turn, weighed_end}
 use borrow.Author.Rules.{rules}
 use Rattle.sights.proofs.total_of.Statement.{statement}
 use Rattle.sights.proofs.total_of.Tie as tie
 
 abbrev invariant-loop : tie.invariant-loop
 invariant-loop weight a e sum₀ j₀ sum j =
-    (a ≤ j) × (j ≤ e) × (sum ≤ (j - a) * mostWeight) × (sum + weighed weight j (e - j) ≡ weighed weight a (e - a))
+    (a ≤ j) × (j ≤ e) × (sum ≤ (j - a) * most_weight) × (sum + weighed weight j (e - j) ≡ weighed weight a (e - a))
 
 abbrev decreases-loop : tie.decreases-loop
 decreases-loop weight a e sum₀ j₀ sum j = e - j
@@ -21,13 +21,13 @@ loop-again c =
     let l = c.before.before.loop in
     let t = c.before.loop-test.true in
     let w = s.requires.small l.j in
-    (omega arith, omega arith, omega arith, weighed-turn s.args.weight.now s.args.a s.args.e l.j l.sum t l.invariant.3)
+    (omega arith, omega arith, omega arith, weighed_turn s.args.weight.now s.args.a s.args.e l.j l.sum t l.invariant.3)
 
 returns : tie.Need-returns invariant-loop decreases-loop
 returns c =
     let s = c.before.before in
     let l = c.before.loop in
-    weighed-end s.args.weight.now s.args.a s.args.e l.j l.sum c.loop-test.false l.invariant.3
+    weighed_end s.args.weight.now s.args.a s.args.e l.j l.sum c.loop-test.false l.invariant.3
 
 pub total-of-spec : {M : Type 1} → statement M
 total-of-spec =

@@ -3,9 +3,9 @@ use Prim.Native.Nat.{ℕ, ◌-◌, ◌≤◌}
 use native.Mathlib.Omega.{arith}
 use borrow.Author.Rules.{rules}
 use lib.ListN.{length, length-set}
-use Rattle.fields.proofs.Stands.{place-of}
+use Rattle.fields.proofs.Stands.{place_of_lem}
 use Rattle.sights.specs.Halves.{WeightsOf}
-use Rattle.sights.proofs.Halves.{weights-none, weights-next}
+use Rattle.sights.proofs.Halves.{weights_none, weights_next}
 use Rattle.sights.proofs.weigh_lines.Statement.{statement}
 use Rattle.sights.proofs.weigh_lines.Tie as tie
 
@@ -19,7 +19,7 @@ weight-of-requires : tie.Need-weight-of-requires invariant-loop decreases-loop
 weight-of-requires c κs =
     let s : tie.Start invariant-loop decreases-loop = search in
     let i : tie.In-loop invariant-loop decreases-loop = search in
-    place-of _ _ _ _ s.pre.0 i.loop-test.taken
+    place_of_lem _ _ _ _ s.pre.0 i.loop-test.taken
 
 loop-again : tie.Need-loop-preserved invariant-loop decreases-loop
 loop-again c =
@@ -28,7 +28,7 @@ loop-again c =
     let l = i.before.loop in (
       omega (arith, i.loop-test.taken),
       simp length-set l.inv.1,
-      weights-next _ _ _ _ (omega (arith, s.pre.1, i.loop-test.taken, l.inv.1)) c.weight-of.ensures l.inv.2,
+      weights_next _ _ _ _ (omega (arith, s.pre.1, i.loop-test.taken, l.inv.1)) c.weight-of.ensures l.inv.2,
     )
 
 returns : tie.Need-returns invariant-loop decreases-loop
@@ -44,7 +44,7 @@ weigh-lines-spec =
     (tie.spec
     invariant-loop
     decreases-loop
-    (λ c. (search rules, refl, weights-none _ _))  -- loop-holds
+    (λ c. (search rules, refl, weights_none _ _))  -- loop-holds
     weight-of-requires
     (λ c. search rules)  -- mul-weights
     (λ c. search rules)  -- slice-write-weights

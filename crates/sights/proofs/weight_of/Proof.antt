@@ -4,7 +4,7 @@ use lib.IntN.{nat_abs}
 use Rattle.laws.proofs.Signed.{back}
 use Rattle.laws.proofs.Size.{not_negative}
 use Rattle.book.specs.Line.{length_at}
-use Rattle.divisions.specs.Weight.{weightOf}
+use Rattle.divisions.specs.Weight.{weight_of}
 use borrow.Author.Rules.{rules}
 use Rattle.sights.proofs.weight_of.Statement.{statement}
 use Rattle.sights.proofs.weight_of.Tie as tie
@@ -30,4 +30,4 @@ weight-of-spec =
     (λ c. search rules)  -- shared-slice-copy-out-index
     index-requires
     (λ c κs. omega (arith, length-read c, c.before.before.requires.good.long.low))  -- weight-requires
-    (λ c. c.weight.ensures ∙ ap weightOf (length-read c.before)))  -- returns
+    (λ c. c.weight.ensures ∙ ap weight_of (length-read c.before)))  -- returns

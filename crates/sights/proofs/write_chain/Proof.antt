@@ -6,9 +6,9 @@ use lib.ListN.{length}
 use Rattle.network.specs.Standing.{standing}
 use Rattle.sights.specs.Sights.{sights_of}
 use Rattle.sights.specs.Table.{columns}
-use Rattle.sights.proofs.Halves.{other-low}
-use Rattle.sights.proofs.Leading.{leads-all, half-here}
-use Rattle.sights.proofs.Filling.{Walking, Turn, turn-of, walk_end, filling-start, filling-next}
+use Rattle.sights.proofs.Halves.{other_low}
+use Rattle.sights.proofs.Leading.{leads_all, half_here}
+use Rattle.sights.proofs.Filling.{Walking, Turn, turn_of, walk_end, filling_start, filling_next}
 use Rattle.sights.proofs.write_chain.Statement.{statement}
 use Rattle.sights.proofs.write_chain.Tie as tie
 
@@ -30,7 +30,7 @@ turn : (c : tie.In-loop invariant-loop decreases-loop) →
     Turn s.args.lines.now s.args.n s.args.next.now
     (columns s.args.other.now s.args.rise.now s.args.weight.now) (columns l.loop.other l.loop.rise l.loop.weight)
     s.args.b s.args.a l.loop.c l.loop.h (sights_of (standing s.args.lines.now) s.args.m))
-turn c = turn-of c.before.loop.invariant.3 c.loop-test.true
+turn c = turn_of c.before.loop.invariant.3 c.loop-test.true
 
 loop-holds : tie.Need-loop-init invariant-loop decreases-loop
 loop-holds c =
@@ -41,8 +41,8 @@ loop-holds c =
       refl,
       record {
         rest = _;
-        leads = leads-all _ _ _ s.pre.0 _ s.pre.1.0 p.0.0;
-        filling = filling-start _ _ _ _ p.1.0 p.1.1;
+        leads = leads_all _ _ _ s.pre.0 _ s.pre.1.0 p.0.0;
+        filling = filling_start _ _ _ _ p.1.0 p.1.1;
       },
     )
 
@@ -51,7 +51,7 @@ write-half-requires c κs =
     let i : tie.In-loop invariant-loop decreases-loop = search in
     let s = start_of i.before in
     let t = turn i in
-    (half-here _ _ _ s.pre.0 s.args.m t.some-line t.inside, (s.pre.1.1.0.1, (t.room, t.filling.range)))
+    (half_here _ _ _ s.pre.0 s.args.m t.some_line t.inside, (s.pre.1.1.0.1, (t.room, t.filling.range)))
 
 add-c : tie.Need-overflow-add-c invariant-loop decreases-loop
 add-c c =
@@ -77,8 +77,8 @@ loop-again c =
       record {
         rest = t.rest;
         leads = t.leads;
-        filling = filling-next _ _ _ _ _ _ _ _ _
-            (other-low _ _ (half-here _ _ _ s.pre.0 s.args.m t.some-line t.inside)) w.ensures.0 w.ensures.1
+        filling = filling_next _ _ _ _ _ _ _ _ _
+            (other_low _ _ (half_here _ _ _ s.pre.0 s.args.m t.some_line t.inside)) w.ensures.0 w.ensures.1
             t.filling;
       },
     )

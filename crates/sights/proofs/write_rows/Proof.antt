@@ -8,7 +8,7 @@ use lib.IntN.{ℤ}
 use Rattle.network.specs.Standing.{standing}
 use Rattle.sights.specs.Sights.{Sight, sights_of}
 use Rattle.sights.specs.Table.{columns, Filled, Rowed, RoomRows}
-use Rattle.sights.proofs.Rowing.{rowed-none, room-kept, row_room, row-weights, rowed-next, table_is, rows_are}
+use Rattle.sights.proofs.Rowing.{rowed_none, room_kept, row_room, row_weights, rowed_next, table_is, rows_are}
 use borrow.Author.Rules.{rules}
 use Rattle.sights.proofs.write_rows.Statement.{statement}
 use Rattle.sights.proofs.write_rows.Tie as tie
@@ -35,7 +35,7 @@ room : (c : tie.At-loop invariant-loop decreases-loop) →
     let s = start_of c in
     RoomRows (sights_of (standing s.args.lines.now)) l.first (columns l.other l.rise l.weight) l.total s.args.b)
 room c =
-    let i = c.loop.invariant in room-kept _ _ _ _ _ _ _ _ (start_of c).requires.1.1.1 i.1 i.2 i.3 i.4 i.5
+    let i = c.loop.invariant in room_kept _ _ _ _ _ _ _ _ (start_of c).requires.1.1.1 i.1 i.2 i.3 i.4 i.5
 
 loop-holds : tie.Need-loop-init invariant-loop decreases-loop
 loop-holds c =
@@ -46,7 +46,7 @@ loop-holds c =
       refl,
       refl,
       refl,
-      rowed-none _ _ _ _ _ s.pre.1.1.0,
+      rowed_none _ _ _ _ _ s.pre.1.1.0,
     )
 
 write-chain-requires : tie.Need-write-chain-requires invariant-loop decreases-loop
@@ -73,8 +73,8 @@ total-of-requires c κs =
     let s = start_of i.before in
     let l = i.before.loop in
     let w = after-write-chain.write-chain in
-    row-weights _ _ _ _ _ _ _ (room i.before) l.inv.6 i.loop-test.taken _ (here s.args.lines.now l.v) _ _
-    w.ensures.0 w.kept.1.1.1.1.1.1.0 w.ensures.1.range.weightIn
+    row_weights _ _ _ _ _ _ _ (room i.before) l.inv.6 i.loop-test.taken _ (here s.args.lines.now l.v) _ _
+    w.ensures.0 w.kept.1.1.1.1.1.1.0 w.ensures.1.range.weight_in
 
 loop-again : tie.Need-loop-preserved invariant-loop decreases-loop
 loop-again c =
@@ -92,7 +92,7 @@ loop-again c =
       w.kept.1.1.1.1.1.0 ∙ l.inv.3,
       w.kept.1.1.1.1.1.1.0 ∙ l.inv.4,
       simp length-set l.inv.5,
-      rowed-next (sights_of (standing s.args.lines.now)) _ _ _ _ _ _ _ _ _ _ _ (omega (arith, r.firsts, t))
+      rowed_next (sights_of (standing s.args.lines.now)) _ _ _ _ _ _ _ _ _ _ _ (omega (arith, r.firsts, t))
           (omega (arith, r.totals, t)) l.inv.6 refl (subst (Filled _ _ _ _) e w.ensures.1)
           (w.ensures.0 ∙ ap (λ (ss : List Sight). l.c + length ss) e) refl c.total_of.ensures,
     )
@@ -107,7 +107,7 @@ returns c =
     subst (λ (v : ℕ). Rowed (sights_of (standing s.args.lines.now)) l.first (columns l.other l.rise l.weight) l.total
     s.args.b v l.c) e l.invariant.6 in
     let k = (room c.before).firsts in
-    let r = room-kept _ _ _ _ f _ _ _ (room c.before) (length-set l.first _ _) refl refl refl refl in (
+    let r = room_kept _ _ _ _ f _ _ _ (room c.before) (length-set l.first _ _) refl refl refl refl in (
       table_is _ _ _ _ _ _ _ r h k refl,
       rows_are _ _ _ _ _ _ _ r h k refl,
     )

@@ -2,14 +2,14 @@ use mathlib.Core.Path.{◌∙◌}
 use native.Mathlib.Omega.{arith}
 use lib.IntN.{◌+ℤ◌}
 use mir.Facts.{to_z-of_z}
-use Rattle.laws.proofs.Size.{size-add, size_fits}
+use Rattle.laws.proofs.Size.{size_add, size_fits}
 use Rattle.signed.proofs.add.Statement.{statement}
 use Rattle.signed.proofs.add.Tie as tie
 
 -- src/lib.rt:58:5
 add-result : tie.Need-overflow-add-result
 add-result c =
-    let h = size-add c.args.x c.args.y in
+    let h = size_add c.args.x c.args.y in
     rw (to_z-of_z c.ranges.x, to_z-of_z c.ranges.y) (size_fits (c.args.x +ℤ c.args.y) (omega arith))
 
 -- src/lib.rt:54:1

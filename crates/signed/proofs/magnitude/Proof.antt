@@ -7,14 +7,14 @@ use borrow.Author.Tests.{le-ltb}
 use mir.Syntax.{w64}
 use mir.Val.{to_z, of_z}
 use mir.Facts.{to_z-of_z}
-use Rattle.laws.proofs.Size.{below-zero, below-zero-size}
+use Rattle.laws.proofs.Size.{below_zero, below_zero_size}
 use borrow.Author.Rules.{rules}
 use Rattle.signed.proofs.magnitude.Statement.{statement}
 use Rattle.signed.proofs.magnitude.Tie as tie
 
 minus : (c : tie.Then1) → negsuc 0 -ℤ to_z w64 (of_z w64 c.before.args.x) ≡ pos (nat_abs c.before.args.x - 1)
 minus c =
-    rw (to_z-of_z c.before.ranges.x) (below-zero c.before.args.x (rw (to_z-of_z c.before.ranges.x) at c.if1.true))
+    rw (to_z-of_z c.before.ranges.x) (below_zero c.before.args.x (rw (to_z-of_z c.before.ranges.x) at c.if1.true))
 
 -- src/lib.rt:50:22
 sub-index : tie.Need-overflow-sub-index
@@ -38,7 +38,7 @@ add-result c =
 returns : tie.Need-returns
 returns c =
     let e = got c in
-    let h = below-zero-size c.before.before.args.x (rw (to_z-of_z c.before.before.ranges.x) at c.before.if1.true) in
+    let h = below_zero_size c.before.before.args.x (rw (to_z-of_z c.before.before.ranges.x) at c.before.if1.true) in
     omega arith
 
 -- src/lib.rt:47:1

@@ -1,19 +1,19 @@
 -- `signed::outside` meets its contract: the machine's tests are of what is read back from the bits, which is the number.
 -- Assumes nothing.
 use mir.Facts.{to_z-of_z}
-use Rattle.laws.specs.Tests.{outZ}
+use Rattle.laws.specs.Tests.{out_z}
 use Rattle.signed.proofs.outside.Statement.{statement}
 use Rattle.signed.proofs.outside.Tie as tie
 
 returns : tie.Need-returns
-unfolding outZ
+unfolding out_z
 returns c =
     let f = c.before.ranges in
     let e = simp (to_z-of_z f.x, to_z-of_z f.lo) at c.if1.true in
     simp e
 
 returns-2 : tie.Need-returns-2
-unfolding outZ
+unfolding out_z
 returns-2 c =
     let f = c.before.ranges in
     let e = simp (to_z-of_z f.x, to_z-of_z f.lo) at c.if1.false in

@@ -1,16 +1,16 @@
 use borrow.Author.Tests.{lt-ltb, le-ltb}
-use Rattle.laws.specs.Tests.{outN}
+use Rattle.laws.specs.Tests.{out_n}
 use Rattle.signed.proofs.outside_count.Statement.{statement}
 use Rattle.signed.proofs.outside_count.Tie as tie
 
 -- src/lib.rt:32:1
 returns : tie.Need-returns
-unfolding outN
+unfolding out_n
 returns c = rw (lt-ltb _ _ c.if1.true)
 
 -- src/lib.rt:32:1
 returns-2 : tie.Need-returns-2
-unfolding outN
+unfolding out_n
 returns-2 c = rw (le-ltb _ _ c.if1.false)
 
 pub outside-count-spec : {M : Type 1} → statement M

@@ -4,7 +4,7 @@ use mathlib.Core.Path.{◌≡◌, refl, ◌∙◌}
 use Prim.Native.Nat.{ℕ, ◌-◌, ◌≤◌, ◌<◌}
 use native.Mathlib.Omega.{arith}
 use Rattle.start.specs.Along.{start_at}
-use Rattle.start.proofs.Beginning.{fill-next}
+use Rattle.start.proofs.Beginning.{fill_next}
 use borrow.Author.Rules.{rules}
 use lib.ListN.{length, get_or, length-set}
 use lib.IntN.{pos}
@@ -31,7 +31,7 @@ loop-again c =
     let r = c.start-at in (
       omega (arith, c.before.loop-test.true),
       simp length-set l.invariant.1,
-      fill-next (pos 0) (start_at s.args.flags.now s.args.own.now s.args.root.now s.args.over.now
+      fill_next (pos 0) (start_at s.args.flags.now s.args.own.now s.args.root.now s.args.over.now
           s.args.base.now) l.h l.v (to_z w64 (of_z w64 r.result))
           (omega (arith, c.before.loop-test.true, s.pre.0, l.invariant.1)) (stored r.result r.type-inv r.ensures) l.invariant.2,
     )

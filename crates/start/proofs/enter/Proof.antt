@@ -4,9 +4,9 @@ use native.Mathlib.Omega.{arith}
 use lib.ListN.{get_or}
 use mir.Syntax.{w64}
 use mir.Val.{to_z, of_z}
-use Rattle.book.specs.Limits.{mostDifference}
+use Rattle.book.specs.Limits.{most_difference}
 use Rattle.fields.proofs.Readback.{read}
-use Rattle.chains.specs.Chains.{lineIn}
+use Rattle.chains.specs.Chains.{line_in}
 use Rattle.start.proofs.Coming.{entered, ends_of}
 use borrow.Author.Rules.{rules}
 use Rattle.start.proofs.enter.Statement.{statement}
@@ -64,13 +64,13 @@ returns c =
     let s : tie.Start = search in
     let r = c.before.come-in in
     let e : to_z w64 (of_z w64 r.result.over) ≡ r.result.over =
-    read r.result.over ((s.args.k + 1) * mostDifference) r.ensures.size
+    read r.result.over ((s.args.k + 1) * most_difference) r.ensures.size
     (omega (arith, s.pre.1.1.1.0, s.pre.1.1.1.1)) in
     rw e
     (entered s.args.lines.now s.args.order.now s.args.best.now s.args.b s.args.n s.args.k s.pre.1.0
     s.pre.1.1.1.0 s.args.root.now s.args.over.now r.result.root r.result.over s.pre.1.1.0
     (ends_of s.args.lines.now s.args.b s.args.n s.pre.0
-    (lineIn s.args.best.now (get_or s.args.order.now s.args.k 0)) (s.pre.1.0.lines s.args.k s.pre.1.1.1.0))
+    (line_in s.args.best.now (get_or s.args.order.now s.args.k 0)) (s.pre.1.0.lines s.args.k s.pre.1.1.1.0))
     r.ensures)
 
 pub enter_spec : {M : Type 1} → statement M

@@ -6,8 +6,8 @@ use mir.Syntax.{w64}
 use mir.Val.{to_z, of_z}
 use Rattle.laws.proofs.Signed.{back}
 use Rattle.laws.proofs.Size.{not_negative}
-use Rattle.book.specs.Limits.{mostHeldHeight}
-use Rattle.book.specs.Held.{markAt, heightAt}
+use Rattle.book.specs.Limits.{most_held_height}
+use Rattle.book.specs.Held.{mark_at, height_at}
 use Rattle.fields.proofs.Readback.{read}
 use Rattle.start.proofs.Holding.{held_more}
 use borrow.Author.Rules.{rules}
@@ -15,14 +15,14 @@ use Rattle.start.proofs.hold.Statement.{statement}
 use Rattle.start.proofs.hold.Tie as tie
 
 mark-read : (c : tie.After-index)
-    → (let s = c.before.before.before in c.index.result ≡ nat_abs (markAt s.args.held.now s.args.i))
+    → (let s = c.before.before.before in c.index.result ≡ nat_abs (mark_at s.args.held.now s.args.i))
 mark-read c =
     let s = c.before.before.before in c.index.ensures ∙ rw
-    (back (markAt s.args.held.now s.args.i) c.before.index-arg.given)
+    (back (mark_at s.args.held.now s.args.i) c.before.index-arg.given)
 
 index-requires : tie.Need-index-requires
 index-requires c κs =
-    let s = c.before.before in rw (back (markAt s.args.held.now s.args.i) c.index-arg.given)
+    let s = c.before.before in rw (back (mark_at s.args.held.now s.args.i) c.index-arg.given)
     (not_negative s.requires.0.good.mark)
 
 slice-write-flags : tie.Need-slice-write-flags
@@ -39,9 +39,9 @@ returns : tie.Need-returns
 returns c =
     let s : tie.Start = search in
     held_more s.args.held.now s.args.flags.now s.args.own.now s.args.b s.args.i (c.before.index.result - 1)
-    (to_z w64 (of_z w64 (heightAt s.args.held.now s.args.i))) s.pre.0 s.pre.1
+    (to_z w64 (of_z w64 (height_at s.args.held.now s.args.i))) s.pre.0 s.pre.1
     (omega (arith, mark-read c.before, s.pre.0.good.mark.low))
-    (read (heightAt s.args.held.now s.args.i) mostHeldHeight s.pre.0.good.height (omega arith))
+    (read (height_at s.args.held.now s.args.i) most_held_height s.pre.0.good.height (omega arith))
 
 pub hold-spec : {M : Type 1} → statement M
 hold-spec =

@@ -1,17 +1,17 @@
 use mathlib.Core.Path.{◌≡◌, refl, ◌∙◌}
 use Prim.Native.Nat.{◌+◌, ◌-◌, ◌≤◌}
 use native.Mathlib.Omega.{arith}
-use Rattle.start.specs.Along.{Given, heldFrom}
+use Rattle.start.specs.Along.{Given, held_from}
 use Rattle.start.proofs.Holding.{held_none, held_place, held_all}
 use borrow.Author.Rules.{rules}
 use lib.ListN.{length}
-use Rattle.book.specs.Limits.{mostHeldHeight}
+use Rattle.book.specs.Limits.{most_held_height}
 use Rattle.start.proofs.hold_all.Statement.{statement}
 use Rattle.start.proofs.hold_all.Tie as tie
 
 abbrev invariant-loop : tie.invariant-loop
 invariant-loop held flags₀ own₀ b h i₀ flags own i =
-    (i ≤ h) × (length flags ≡ length flags₀) × (length own ≡ length own₀) × Given (heldFrom held i) flags own b mostHeldHeight
+    (i ≤ h) × (length flags ≡ length flags₀) × (length own ≡ length own₀) × Given (held_from held i) flags own b most_held_height
 
 abbrev decreases-loop : tie.decreases-loop
 decreases-loop held flags₀ own₀ b h i₀ flags own i = i

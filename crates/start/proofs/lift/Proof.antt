@@ -6,21 +6,21 @@ use lib.IntN.{pos}
 use mir.Syntax.{w64}
 use mir.Val.{to_z, of_z}
 use Rattle.laws.proofs.Signed.{stored}
-use Rattle.book.specs.Limits.{mostMarks, mostDifference, mostHeldHeight}
+use Rattle.book.specs.Limits.{most_marks, most_difference, most_held_height}
 use Rattle.fields.proofs.Readback.{read}
-use Rattle.start.proofs.Lifting.{lift-held, lift-free}
+use Rattle.start.proofs.Lifting.{lift_held, lift_free}
 use borrow.Author.Rules.{rules}
 use Rattle.start.proofs.lift.Statement.{statement}
 use Rattle.start.proofs.lift.Tie as tie
 
 own_read : (s : tie.Start)
     → to_z w64 (of_z w64 (get_or s.args.own.now s.args.v (pos 0))) ≡ get_or s.args.own.now s.args.v (pos 0)
-own_read s = read (get_or s.args.own.now s.args.v (pos 0)) mostHeldHeight (s.requires.1.0.held.small s.args.v) (omega arith)
+own_read s = read (get_or s.args.own.now s.args.v (pos 0)) most_held_height (s.requires.1.0.held.small s.args.v) (omega arith)
 
 over-read : (s : tie.Start)
     → to_z w64 (of_z w64 (get_or s.args.over.now s.args.v (pos 0))) ≡ get_or s.args.over.now s.args.v (pos 0)
 over-read s =
-    read (get_or s.args.over.now s.args.v (pos 0)) (mostMarks * mostDifference)
+    read (get_or s.args.over.now s.args.v (pos 0)) (most_marks * most_difference)
     (omega (arith, s.requires.1.0.spotted.size s.args.v, s.requires.1.0.held.few)) (omega arith)
 
 sub-requires : tie.Need-sub-requires
@@ -62,14 +62,14 @@ returns : tie.Need-returns
 returns c =
     let then1 : tie.Then1 = search in
     let s : tie.Start = search in
-    lift-held s.args.flags.now s.args.own.now s.args.root.now s.args.over.now s.args.has.now
+    lift_held s.args.flags.now s.args.own.now s.args.root.now s.args.over.now s.args.has.now
     s.args.base.now s.args.b s.args.v s.pre.1.0 s.pre.0 s.pre.1.1 then1.if1.taken
     (to_z w64 (of_z w64 c.sub.result)) (stored c.sub.result c.sub.type-inv (c.sub.ensures ∙ rw (own_read s, over-read s)))
 
 returns-2 : tie.Need-returns-2
 returns-2 c =
     let s : tie.Start = search in
-    lift-free s.args.flags.now s.args.own.now s.args.root.now s.args.over.now s.args.has.now
+    lift_free s.args.flags.now s.args.own.now s.args.root.now s.args.over.now s.args.has.now
     s.args.base.now s.args.b s.args.v s.pre.1.0 s.pre.0 s.pre.1.1 c.if1.false
 
 pub lift-spec : {M : Type 1} → statement M

@@ -1,7 +1,7 @@
 use mathlib.Core.Path.{◌≡◌, refl, ◌∙◌, subst}
 use Prim.Native.Nat.{ℕ, ◌+◌, ◌-◌, ◌≤◌}
 use native.Mathlib.Omega.{arith}
-use Rattle.start.specs.Along.{Given, rootsFrom, spots, gives, mostRoot}
+use Rattle.start.specs.Along.{Given, roots_from, spots, gives, most_root}
 use borrow.Author.Rules.{rules}
 use lib.ListN.{length}
 use Rattle.start.proofs.lift_all.Statement.{statement}
@@ -10,7 +10,7 @@ use Rattle.start.proofs.lift_all.Tie as tie
 abbrev invariant-loop : tie.invariant-loop
 invariant-loop flags own root over has₀ base₀ b v₀ has base v =
     (v ≤ b) × (length has ≡ length has₀) × (length base ≡ length base₀)
-    × Given (rootsFrom (spots root over) (gives flags own) b v) has base b mostRoot
+    × Given (roots_from (spots root over) (gives flags own) b v) has base b most_root
 
 abbrev decreases-loop : tie.decreases-loop
 decreases-loop flags own root over has₀ base₀ b v₀ has base v = v
@@ -36,8 +36,8 @@ returns c =
     let s : tie.Start invariant-loop decreases-loop = search in
     let l = c.before.loop in
     let e : l.v ≡ 0 = omega (arith, c.loop-test.false) in
-    subst (λ (v : ℕ). Given (rootsFrom (spots s.args.root.now s.args.over.now)
-    (gives s.args.flags.now s.args.own.now) s.args.b v) l.has l.base s.args.b mostRoot) e l.invariant.3
+    subst (λ (v : ℕ). Given (roots_from (spots s.args.root.now s.args.over.now)
+    (gives s.args.flags.now s.args.own.now) s.args.b v) l.has l.base s.args.b most_root) e l.invariant.3
 
 pub lift-all-spec : {M : Type 1} → statement M
 lift-all-spec =

@@ -1,6 +1,6 @@
 use mathlib.Core.Path.{◌∙◌}
 use borrow.Author.Rules.{rules}
-use Rattle.start.proofs.Coming.{entered-none}
+use Rattle.start.proofs.Coming.{entered_none}
 use Rattle.start.proofs.place_and_raise.Statement.{statement}
 use Rattle.start.proofs.place_and_raise.Tie as tie
 
@@ -14,7 +14,7 @@ place-all-requires c κs =
       (
         s.pre.1.0,
         (
-          entered-none _ _ _ _ _ _ (r.kept.0 ∙ k.roots) k.overs r.ensures.each k.zero,
+          entered_none _ _ _ _ _ _ (r.kept.0 ∙ k.roots) k.overs r.ensures.each k.zero,
           s.pre.1.1.0.few,
         ),
       ),

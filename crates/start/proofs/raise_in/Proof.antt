@@ -1,7 +1,7 @@
 use mathlib.Core.Path.{◌≡◌, sym, ◌∙◌}
 use native.Mathlib.Omega.{arith}
-use Rattle.start.proofs.Lifting.{lift-none}
-use Rattle.start.proofs.Starting.{unheld-is, start_is}
+use Rattle.start.proofs.Lifting.{lift_none}
+use Rattle.start.proofs.Starting.{unheld_is, start_is}
 use borrow.Author.Rules.{rules}
 use Rattle.start.proofs.raise_in.Statement.{statement}
 use Rattle.start.proofs.raise_in.Tie as tie
@@ -10,7 +10,7 @@ lift-all-requires : tie.Need-lift-all-requires
 lift-all-requires c κs =
     let s : tie.Start = search in (
       s.pre.0,
-      lift-none s.args.flags.now s.args.own.now s.args.root.now s.args.over.now s.args.has.now
+      lift_none s.args.flags.now s.args.own.now s.args.root.now s.args.over.now s.args.has.now
           s.args.base.now s.args.b s.pre.1.0,
     )
 
@@ -21,7 +21,7 @@ returns c =
     let l = after-lift-all.lift-all in
     let m = c.before.first-unheld in
     λ at p held g. (
-      m.ensures ∙ unheld-is s.args.b at held s.args.flags.now s.args.own.now s.args.root.now s.args.over.now
+      m.ensures ∙ unheld_is s.args.b at held s.args.flags.now s.args.own.now s.args.root.now s.args.over.now
           l.last.1.1.1.1.0 l.last.1.1.1.1.1.0 p g l.ensures,
       λ z. absurd (omega (arith, c.if1.true)),
       s.pre.1.1,
@@ -38,7 +38,7 @@ returns-2 c =
     let g₀ = c.before.begin.ensures in
     let e : m.result ≡ 0 = omega (arith, else1.if1.left) in
     λ at p held g. (
-      sym e ∙ m.ensures ∙ unheld-is s.args.b at held s.args.flags.now s.args.own.now s.args.root.now
+      sym e ∙ m.ensures ∙ unheld_is s.args.b at held s.args.flags.now s.args.own.now s.args.root.now
           s.args.over.now l.last.1.1.1.1.0 l.last.1.1.1.1.1.0 p g l.ensures,
       λ z v h. g₀.each v h ∙ start_is s.args.b at held s.args.flags.now s.args.own.now s.args.root.now
           s.args.over.now l.last.1.1.1.1.0 l.last.1.1.1.1.1.0 p g l.ensures (sym m.ensures ∙ e) v h,

@@ -2,7 +2,7 @@ use Prim.Native.Nat.{◌+◌, ℕ, suc, ◌-◌, ◌≤◌, ◌<◌}
 use mathlib.Core.Path.{◌≡◌, refl}
 use native.Mathlib.Omega.{arith}
 use native.Mathlib.Numerals.{add-one}
-use Rattle.start.proofs.Beginning.{fill-next}
+use Rattle.start.proofs.Beginning.{fill_next}
 use borrow.Author.Rules.{rules}
 use lib.ListN.{length, get_or, length-set}
 use Rattle.start.proofs.seed.Statement.{statement}
@@ -20,7 +20,7 @@ loop-again c =
     let l = c.before.loop in (
       omega (arith, c.loop-test.true),
       simp length-set l.invariant.1,
-      fill-next 0 suc l.root l.v (l.v + 1) (omega (arith, c.loop-test.true, s.requires, l.invariant.1)) (add-one l.v) l.invariant.2,
+      fill_next 0 suc l.root l.v (l.v + 1) (omega (arith, c.loop-test.true, s.requires, l.invariant.1)) (add-one l.v) l.invariant.2,
     )
 
 returns : tie.Need-returns invariant-loop decreases-loop

@@ -6,8 +6,8 @@ use lib.IntN.{pos, ◌+ℤ◌}
 use mir.Syntax.{w64}
 use mir.Val.{to_z, of_z}
 use Rattle.laws.proofs.Signed.{stored}
-use Rattle.book.specs.Limits.{mostMarks, mostDifference, mostHeldHeight}
-use Rattle.start.specs.Along.{mostRoot, start_at}
+use Rattle.book.specs.Limits.{most_marks, most_difference, most_held_height}
+use Rattle.start.specs.Along.{most_root, start_at}
 use Rattle.fields.proofs.Readback.{read}
 use borrow.Author.Rules.{rules}
 use Rattle.start.proofs.start_at.Statement.{statement}
@@ -15,16 +15,16 @@ use Rattle.start.proofs.start_at.Tie as tie
 
 own_read : (s : tie.Start)
     → to_z w64 (of_z w64 (get_or s.args.own.now s.args.v (pos 0))) ≡ get_or s.args.own.now s.args.v (pos 0)
-own_read s = read (get_or s.args.own.now s.args.v (pos 0)) mostHeldHeight (s.requires.1.0.held.small s.args.v) (omega arith)
+own_read s = read (get_or s.args.own.now s.args.v (pos 0)) most_held_height (s.requires.1.0.held.small s.args.v) (omega arith)
 
 over-read : (s : tie.Start)
     → to_z w64 (of_z w64 (get_or s.args.over.now s.args.v (pos 0))) ≡ get_or s.args.over.now s.args.v (pos 0)
 over-read s =
-    read (get_or s.args.over.now s.args.v (pos 0)) (mostMarks * mostDifference)
+    read (get_or s.args.over.now s.args.v (pos 0)) (most_marks * most_difference)
     (omega (arith, s.requires.1.0.spotted.size s.args.v, s.requires.1.0.held.few)) (omega arith)
 
 base_read : (s : tie.Start) (i : ℕ) → to_z w64 (of_z w64 (get_or s.args.base.now i (pos 0))) ≡ get_or s.args.base.now i (pos 0)
-base_read s i = read (get_or s.args.base.now i (pos 0)) mostRoot (s.requires.1.1.size i) (omega arith)
+base_read s i = read (get_or s.args.base.now i (pos 0)) most_root (s.requires.1.1.size i) (omega arith)
 
 mul-add-2 : tie.Need-overflow-mul-add-2
 mul-add-2 c =

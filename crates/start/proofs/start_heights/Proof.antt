@@ -1,7 +1,7 @@
 use mathlib.Core.Path.{sym}
 use lib.IntN.{pos}
 use borrow.Author.Rules.{rules}
-use Rattle.start.proofs.Zeros.{so-many, bare}
+use Rattle.start.proofs.Zeros.{so_many, bare}
 use Rattle.start.proofs.start_heights.Statement.{statement}
 use Rattle.start.proofs.start_heights.Tie as tie
 
@@ -16,9 +16,9 @@ start-heights-spec =
     tie.close
     (tie.spec
     (λ c. search rules)  -- array-borrow-prefix-root
-    (λ c. let s : tie.Start = search in sym (so-many 0 s.args.b 256 s.pre.1.1.0.few))  -- slice-aggregate-place-and-raise
+    (λ c. let s : tie.Start = search in sym (so_many 0 s.args.b 256 s.pre.1.1.0.few))  -- slice-aggregate-place-and-raise
     (λ c. search rules)  -- array-borrow-prefix-over
-    (λ c. let s : tie.Start = search in sym (so-many (pos 0) s.args.b 256 s.pre.1.1.0.few))  -- slice-aggregate-place-and-raise-2
+    (λ c. let s : tie.Start = search in sym (so_many (pos 0) s.args.b 256 s.pre.1.1.0.few))  -- slice-aggregate-place-and-raise-2
     place-and-raise-requires
     (λ c. search rules)  -- same-length
     (λ c. search rules))  -- returns

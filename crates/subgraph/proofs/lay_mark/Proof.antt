@@ -1,5 +1,5 @@
 use mathlib.Core.Path.{refl}
-use Rattle.chains.proofs.Joining.{bounded-fits}
+use Rattle.chains.proofs.Joining.{bounded_fits}
 use Rattle.subgraph.specs.Drawn.{stayed, joined}
 use native.Mathlib.Omega.{arith}
 use borrow.Author.Rules.{rules}
@@ -12,7 +12,7 @@ returns c = stayed c.if1.true refl refl refl
 join-requires : tie.Need-join-requires
 join-requires c κs =
     let entry : tie.Start = search in
-    (bounded-fits entry.pre.0 _ (omega arith), entry.pre.1)
+    (bounded_fits entry.pre.0 _ (omega arith), entry.pre.1)
 
 returns-2 : tie.Need-returns-2
 returns-2 c =

@@ -6,7 +6,7 @@ use Rattle.network.specs.Standing.{Line}
 use Rattle.network.specs.Tree.{tree}
 use Rattle.chains.specs.Listed.{Listed}
 use Rattle.tree.specs.Plant.{Holding}
-use Rattle.subgraph.proofs.Laying.{LayingAt, lay-start, laid_next, lay-end, laid-high}
+use Rattle.subgraph.proofs.Laying.{LayingAt, lay_start, laid_next, lay_end, laid_high}
 use borrow.Author.Rules.{rules}
 use native.Mathlib.Omega.{arith}
 use Rattle.subgraph.proofs.lay_tree.Statement.{statement}
@@ -26,11 +26,11 @@ loop-holds c =
     let entry : tie.Start invariant-loop decreases-loop = search in
     let p = entry.pre.1 in
     let z = c.before.before.zero.ensures in (
-      p.some-mark,
+      p.some_mark,
       omega arith,
       refl,
       refl,
-      λ q lines li ho. lay-start _ _ _ lines li _ _ ho _ _
+      λ q lines li ho. lay_start _ _ _ lines li _ _ ho _ _
           (record { heads = omega (arith, p.chains.heads); nexts = p.chains.nexts }) z,
     )
 
@@ -65,7 +65,7 @@ add-count : tie.Need-overflow-add-count invariant-loop decreases-loop
 add-count c =
     let after-lay-mark : tie.After-lay-mark invariant-loop decreases-loop = search in
     let at-loop : tie.At-loop invariant-loop decreases-loop = search in
-    omega (arith, laid-high after-lay-mark.lay-mark.ensures, at-loop.loop.inv)
+    omega (arith, laid_high after-lay-mark.lay-mark.ensures, at-loop.loop.inv)
 
 loop-again : tie.Need-loop-preserved invariant-loop decreases-loop
 loop-again c =
@@ -75,7 +75,7 @@ loop-again c =
     let v = at-loop.loop.inv in
     let e = after-lay-mark.lay-mark.ensures in (
       omega arith,
-      omega (arith, laid-high e, v),
+      omega (arith, laid_high e, v),
       omega arith,
       omega arith,
       λ q lines li ho. laid_next _ _ _ lines li _ _ ho _ _ _ _ _ _ _ (omega arith)
@@ -90,7 +90,7 @@ returns : tie.Need-returns invariant-loop decreases-loop
 returns c =
     let entry : tie.Start invariant-loop decreases-loop = search in
     let v = c.before.loop.invariant in
-    λ q lines li ho. lay-end _ _ _ lines li _ _ ho _ _ _ _ entry.pre.1.some-mark (omega arith) (v.4 q lines li ho)
+    λ q lines li ho. lay_end _ _ _ lines li _ _ ho _ _ _ _ entry.pre.1.some_mark (omega arith) (v.4 q lines li ho)
 
 pub lay-tree-spec : {M : Type 1} → statement M
 lay-tree-spec =

@@ -1,8 +1,8 @@
 use mathlib.Core.Path.{◌≡◌, sym, ◌∙◌}
 use Rattle.book.specs.Lent.{lent}
 use Rattle.book.specs.Test.{test_of}
-use Rattle.book.proofs.Goods.{tested-good, good-lines}
-use Rattle.survey.specs.Correction.{correctOf, withdrawOf}
+use Rattle.book.proofs.Goods.{tested_good, good_lines}
+use Rattle.survey.specs.Correction.{correct_of, withdraw_of}
 use borrow.Author.Rules.{rules}
 use Rattle.survey.proofs.withdraw.Statement.{statement}
 use Rattle.survey.proofs.withdraw.Tie as tie
@@ -18,17 +18,17 @@ withdraw-good-requires c κs =
     let entry : tie.Start = search in
     let g = c.before.before.before in
     let a = entry.args in
-    good-lines _ _ (tested-good (lent a.version a.b a.t a.held.now a.lines.now) g.book.given.0.0
+    good_lines _ _ (tested_good (lent a.version a.b a.t a.held.now a.lines.now) g.book.given.0.0
     (sym (tested after_test) ∙ g.book.given.1))
 
 returns : tie.Need-returns
-unfolding withdrawOf correctOf
+unfolding withdraw_of correct_of
 returns c =
     let after_test : tie.After-test = search in
     rw (← (tested after_test), c.before.before.r.given.1, c.refused.ensures)
 
 returns-2 : tie.Need-returns-2
-unfolding withdrawOf correctOf
+unfolding withdraw_of correct_of
 returns-2 c =
     let after-book : tie.After-book = search in
     let after_test : tie.After-test = search in

@@ -5,28 +5,28 @@ use lib.IntN.{pos}
 use mir.Syntax.{w64}
 use mir.Val.{to_z, of_z}
 use Rattle.laws.proofs.Signed.{stored}
-use Rattle.book.specs.Limits.{mostHeight}
+use Rattle.book.specs.Limits.{most_height}
 use Rattle.divisions.specs.Nearest.{nearest}
 use Rattle.fields.proofs.Readback.{read}
-use Rattle.sweeps.proofs.MarkTurns.{pullHere, total-zero, total-fits, pull-fits, move-is, move-fits}
+use Rattle.sweeps.proofs.MarkTurns.{pull_here, total_zero, total_fits, pull_fits, move_is, move_fits}
 use borrow.Author.Rules.{rules}
 use Rattle.sweeps.proofs.move_of.Statement.{statement}
 use Rattle.sweeps.proofs.move_of.Tie as tie
 
 height-read : (s : tie.Start)
     → to_z w64 (of_z w64 (get_or s.args.h.now s.args.v (pos 0))) ≡ get_or s.args.h.now s.args.v (pos 0)
-height-read s = read (get_or s.args.h.now s.args.v (pos 0)) mostHeight (s.requires.1.0.inside s.args.v) (omega arith)
+height-read s = read (get_or s.args.h.now s.args.v (pos 0)) most_height (s.requires.1.0.inside s.args.v) (omega arith)
 
 pull-read : (c : tie.After-pull-of)
     → (let s : tie.Start = search in to_z w64 (of_z w64 c.pull-of.result)
-    ≡ pullHere s.pre.0 s.pre.1.0 s.pre.1.1)
+    ≡ pull_here s.pre.0 s.pre.1.0 s.pre.1.1)
 pull-read c =
     let entry : tie.Start = search in
     stored c.pull-of.result c.pull-of.type-inv (c.pull-of.ensures ∙ rw (height-read entry))
 
 move_read : (c : tie.After-move-by)
     → (let s : tie.Start = search in to_z w64 (of_z w64 c.move-by.result)
-    ≡ nearest (pullHere s.pre.0 s.pre.1.0 s.pre.1.1) (get_or s.args.total.now s.args.v 0))
+    ≡ nearest (pull_here s.pre.0 s.pre.1.0 s.pre.1.1) (get_or s.args.total.now s.args.v 0))
 move_read c = stored c.move-by.result c.move-by.type-inv (c.move-by.ensures ∙ rw (pull-read c.before.before))
 
 pull-of-requires : tie.Need-pull-of-requires
@@ -43,10 +43,10 @@ move-by-requires : tie.Need-move-by-requires
 move-by-requires c κs =
     let s : tie.Start = search in
     rw (pull-read c.before) (
-      total-zero s.pre.0 s.pre.1.0 s.pre.1.1,
+      total_zero s.pre.0 s.pre.1.0 s.pre.1.1,
       (
-        total-fits s.pre.0 s.pre.1.0 s.pre.1.1,
-        omega (arith, pull-fits s.pre.0 s.pre.1.0 s.pre.1.1),
+        total_fits s.pre.0 s.pre.1.0 s.pre.1.1,
+        omega (arith, pull_fits s.pre.0 s.pre.1.0 s.pre.1.1),
       ),
     )
 
@@ -54,8 +54,8 @@ returns : tie.Need-returns
 returns c =
     let s : tie.Start = search in
     let e = move_read c in (
-      e ∙ move-is s.pre.0 s.pre.1.0 s.pre.1.1,
-      rw e (move-fits s.pre.0 s.pre.1.0 s.pre.1.1),
+      e ∙ move_is s.pre.0 s.pre.1.0 s.pre.1.1,
+      rw e (move_fits s.pre.0 s.pre.1.0 s.pre.1.1),
     )
 
 pub move-of-spec : {M : Type 1} → statement M

@@ -3,22 +3,22 @@ use Prim.Native.Nat.{◌-◌, ◌*◌, ◌≤◌}
 use native.Mathlib.Omega.{arith}
 use Rattle.sights.specs.Sights.{pull}
 use Rattle.sights.specs.Table.{columns, seen}
-use Rattle.sweeps.specs.MarkTurns.{termAt}
-use Rattle.sweeps.proofs.Sums.{mostTerm, shorter, pull-turn, pull-end, term-size}
+use Rattle.sweeps.specs.MarkTurns.{term_at}
+use Rattle.sweeps.proofs.Sums.{most_term, shorter, pull_turn, pull_end, term_size}
 use borrow.Author.Rules.{rules}
 use lib.IntN.{ℤ, nat_abs, ◌+ℤ◌, +ℤ_idl}
 use mir.Syntax.{w64}
 use mir.Val.{to_z, of_z}
 use mir.Facts.{to_z-of_z}
 use Rattle.laws.proofs.Signed.{stored}
-use Rattle.laws.proofs.Size.{size-add}
+use Rattle.laws.proofs.Size.{size_add}
 use Rattle.sweeps.proofs.pull_of.Statement.{statement}
 use Rattle.sweeps.proofs.pull_of.Tie as tie
 
 abbrev invariant-loop : tie.invariant-loop
 invariant-loop other rise weight h b z a e g₀ j₀ g j =
     let cols = columns other rise weight in
-    (a ≤ j) × (j ≤ e) × (nat_abs (to_z w64 g) ≤ (j - a) * mostTerm)
+    (a ≤ j) × (j ≤ e) × (nat_abs (to_z w64 g) ≤ (j - a) * most_term)
     × (to_z w64 g +ℤ pull h (to_z w64 z) (seen cols j (e - j)) ≡ pull h (to_z w64 z) (seen cols a (e - a)))
 
 abbrev decreases-loop : tie.decreases-loop
@@ -31,13 +31,13 @@ start_of c = c.before.before.before
 abbrev term_of : tie.After-term invariant-loop decreases-loop → ℤ
 term_of c =
     let s = start_of c.before.before in
-    termAt (columns s.args.other.now s.args.rise.now s.args.weight.now) s.args.h.now (to_z w64 (of_z w64 s.args.z))
+    term_at (columns s.args.other.now s.args.rise.now s.args.weight.now) s.args.h.now (to_z w64 (of_z w64 s.args.z))
     c.before.before.loop.j
 
-size : (c : tie.After-term invariant-loop decreases-loop) → nat_abs (term_of c) ≤ mostTerm
+size : (c : tie.After-term invariant-loop decreases-loop) → nat_abs (term_of c) ≤ most_term
 size c =
     let s = start_of c.before.before in
-    term-size (columns s.args.other.now s.args.rise.now s.args.weight.now) s.args.h.now (to_z w64 (of_z w64 s.args.z))
+    term_size (columns s.args.other.now s.args.rise.now s.args.weight.now) s.args.h.now (to_z w64 (of_z w64 s.args.z))
     s.args.b s.args.e s.pre.0 s.pre.1.0
     (rw (to_z-of_z s.fits.z) s.pre.1.1.0) c.before.before.loop.j
 
@@ -73,11 +73,11 @@ loop-again c =
     let s = start_of l in
     let i = l.loop.invariant in
     let t = size c.before in
-    let k = size-add (to_z w64 l.loop.g) (term_of c.before) in (
+    let k = size_add (to_z w64 l.loop.g) (term_of c.before) in (
       search rules,
       search rules,
       rw (sum-read c) (omega arith),
-      rw (sum-read c) (pull-turn (columns s.args.other.now s.args.rise.now s.args.weight.now) s.args.h.now
+      rw (sum-read c) (pull_turn (columns s.args.other.now s.args.rise.now s.args.weight.now) s.args.h.now
           (to_z w64 (of_z w64 s.args.z)) s.args.a s.args.e l.loop.j (to_z w64 l.loop.g) (term_of c.before)
           c.before.before.loop-test.true refl i.3),
     )
@@ -86,7 +86,7 @@ returns : tie.Need-returns invariant-loop decreases-loop
 returns c =
     let l = c.before in
     let s = start_of l in
-    pull-end (columns s.args.other.now s.args.rise.now s.args.weight.now) s.args.h.now (to_z w64 (of_z w64 s.args.z))
+    pull_end (columns s.args.other.now s.args.rise.now s.args.weight.now) s.args.h.now (to_z w64 (of_z w64 s.args.z))
     s.args.e l.loop.j (to_z w64 l.loop.g)
     (pull s.args.h.now (to_z w64 (of_z w64 s.args.z))
     (seen (columns s.args.other.now s.args.rise.now s.args.weight.now) s.args.a (s.args.e - s.args.a)))

@@ -1,7 +1,7 @@
 use mathlib.Core.Path.{◌∙◌}
 use native.Mathlib.Omega.{arith}
-use Rattle.sights.proofs.Fresh.{range-zeros, room-zeros}
-use Rattle.sweeps.proofs.States.{settle-same}
+use Rattle.sights.proofs.Fresh.{range_zeros, room_zeros}
+use Rattle.sweeps.proofs.States.{settle_same}
 use borrow.Author.Rules.{rules}
 use Rattle.sweeps.proofs.settle_lines.Statement.{statement}
 use Rattle.sweeps.proofs.settle_lines.Tie as tie
@@ -14,8 +14,8 @@ write-rows-requires c κs =
       (
         s.pre.1.0,
         (
-          range-zeros 1024 _ q.0,
-          room-zeros _ _ _ 257 1024 256 s.pre.0 (omega (arith, q.1)) q.1
+          range_zeros 1024 _ q.0,
+          room_zeros _ _ _ 257 1024 256 s.pre.0 (omega (arith, q.1)) q.1
               (omega (arith, s.pre.0.few)),
         ),
       ),
@@ -27,7 +27,7 @@ returns c =
     let s : tie.Start = search in
     let t = after-write-rows.write-rows in
     let e = c.before.settle.ensures in
-    e ∙ settle-same _ _ _ _ t.ensures.1 _
+    e ∙ settle_same _ _ _ _ t.ensures.1 _
 
 pub settle-lines-spec : {M : Type 1} → statement M
 settle-lines-spec =

@@ -4,7 +4,7 @@ use Rattle.fields.specs.Heights.{Working}
 use Rattle.sights.specs.Table.{columns, rows}
 use Rattle.sweeps.specs.Sweeps.{sweep}
 use Rattle.sweeps.specs.MarkTurns.{flags, swept}
-use Rattle.sweeps.proofs.States.{sweep-none, sweep-turn}
+use Rattle.sweeps.proofs.States.{sweep_none, sweep_turn}
 use native.Mathlib.Omega.{arith}
 use Rattle.sweeps.proofs.sweep.Statement.{statement}
 use Rattle.sweeps.proofs.sweep.Tie as tie
@@ -22,7 +22,7 @@ loop-holds c =
     let f = rows s.args.first.now (columns s.args.other.now s.args.rise.now s.args.weight.now) in
     let e : 0 ≡ s.args.b - s.args.b = omega arith in (
       omega arith,
-      sweep-none f (flags s.args.held.now) s.args.h.now
+      sweep_none f (flags s.args.held.now) s.args.h.now
           ∙ ap (sweep f (flags s.args.held.now) s.args.h.now) e,
       s.pre.1.0,
     )
@@ -42,7 +42,7 @@ loop-again c =
     let e : s.args.b - l.loop.left + 1 ≡ s.args.b - (l.loop.left - 1) =
     omega (arith, l.loop.inv.0, c.before.before.before.loop-test.true) in (
       omega (arith, l.loop.inv.0),
-      sweep-turn f (flags s.args.held.now) s.args.h.now (s.args.b - l.loop.left) (swept l.loop.s l.loop.h)
+      sweep_turn f (flags s.args.held.now) s.args.h.now (s.args.b - l.loop.left) (swept l.loop.s l.loop.h)
           (swept t.result t.new.1.1.1.1.1.1.0) l.loop.inv.1 t.ensures.0
           ∙ ap (sweep f (flags s.args.held.now) s.args.h.now) e,
       t.ensures.1,

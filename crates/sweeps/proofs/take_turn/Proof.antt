@@ -1,5 +1,5 @@
 use mathlib.Core.Path.{sym, ◌∙◌}
-use Rattle.sweeps.proofs.States.{turn-held, turn-outside, turn-free}
+use Rattle.sweeps.proofs.States.{turn_held, turn_outside, turn_free}
 use borrow.Author.Rules.{rules}
 use Rattle.sweeps.proofs.take_turn.Statement.{statement}
 use Rattle.sweeps.proofs.take_turn.Tie as tie
@@ -7,14 +7,14 @@ use Rattle.sweeps.proofs.take_turn.Tie as tie
 returns : tie.Need-returns
 returns c =
     let s : tie.Start = search in (
-      turn-held s.args.held.now _ s.args.h.now s.args.v s.args.s c.if1.true,
+      turn_held s.args.held.now _ s.args.h.now s.args.v s.args.s c.if1.true,
       s.pre.1.0,
     )
 
 returns-2 : tie.Need-returns-2
 returns-2 c =
     let s : tie.Start = search in (
-      turn-outside s.args.held.now _ s.args.h.now s.args.v s.args.s
+      turn_outside s.args.held.now _ s.args.h.now s.args.v s.args.s
           (sym c.before.is-outside.ensures ∙ c.if2.true),
       s.pre.1.0,
     )
@@ -26,7 +26,7 @@ returns-3 c =
     let else1 : tie.Else1 = search in
     let s : tie.Start = search in
     let d = c.before.before in (
-      turn-free s.args.held.now _ s.args.h.now s.args.v s.args.s else1.if1.left
+      turn_free s.args.held.now _ s.args.h.now s.args.v s.args.s else1.if1.left
           (sym after-is-outside.is-outside.ensures ∙ else2.if2.left) d.visit.result c.joined.result
           d.visit.new.1.1.1.1.1.0 c.joined.ensures d.visit.ensures.0,
       d.visit.ensures.1,

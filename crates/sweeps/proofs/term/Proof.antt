@@ -4,14 +4,14 @@ use lib.IntN.{ℤ, pos, nat_abs, ◌+ℤ◌, ◌-ℤ◌}
 use mir.Syntax.{w64}
 use mir.Val.{to_z, of_z}
 use Rattle.laws.proofs.Signed.{stored}
-use Rattle.laws.proofs.Size.{size-add, size-sub}
+use Rattle.laws.proofs.Size.{size_add, size_sub}
 use mathlib.Core.Path.{◌≡◌, ◌∙◌}
 use Prim.Native.Nat.{ℕ, ◌*◌, ◌≤◌}
 use native.Mathlib.Omega.{arith}
-use Rattle.sweeps.proofs.Sums.{mostApart}
-use Rattle.divisions.specs.Weight.{mostWeight}
-use Rattle.book.specs.Limits.{mostHeight, mostDifference}
-use Rattle.sweeps.specs.MarkTurns.{termAt}
+use Rattle.sweeps.proofs.Sums.{most_apart}
+use Rattle.divisions.specs.Weight.{most_weight}
+use Rattle.book.specs.Limits.{most_height, most_difference}
+use Rattle.sweeps.specs.MarkTurns.{term_at}
 use Rattle.fields.proofs.Readback.{read}
 use borrow.Author.Rules.{rules}
 use Rattle.sweeps.proofs.term.Statement.{statement}
@@ -30,35 +30,35 @@ weight-of s = get_or s.args.weight.now s.args.j 0
 abbrev rise-over : tie.Start → ℤ
 rise-over s = height-of s +ℤ rise-of s -ℤ s.args.z
 
-height-size : (s : tie.Start) → nat_abs (height-of s) ≤ mostHeight
+height-size : (s : tie.Start) → nat_abs (height-of s) ≤ most_height
 height-size s = s.requires.1.0.inside (get_or s.args.other.now s.args.j 0)
 
-rise-size : (s : tie.Start) → nat_abs (rise-of s) ≤ mostDifference
-rise-size s = s.requires.0.range.riseIn s.args.j
+rise_size : (s : tie.Start) → nat_abs (rise-of s) ≤ most_difference
+rise_size s = s.requires.0.range.rise_in s.args.j
 
 given-size : (s : tie.Start) → nat_abs (height-of s +ℤ rise-of s) ≤ 50100000000
 given-size s =
-    let h = size-add (height-of s) (rise-of s) in
+    let h = size_add (height-of s) (rise-of s) in
     let x = height-size s in
-    let r = rise-size s in
+    let r = rise_size s in
     omega arith
 
-rise-over-size : (s : tie.Start) → nat_abs (rise-over s) ≤ mostApart
+rise-over-size : (s : tie.Start) → nat_abs (rise-over s) ≤ most_apart
 rise-over-size s =
-    let h = size-sub (height-of s +ℤ rise-of s) s.args.z in
+    let h = size_sub (height-of s +ℤ rise-of s) s.args.z in
     let x = given-size s in
     let z = s.requires.1.1 in
     omega arith
 
 -- what the machine reads back
 height-read : (s : tie.Start) → to_z w64 (of_z w64 (height-of s)) ≡ height-of s
-height-read s = read (height-of s) mostHeight (height-size s) (omega arith)
+height-read s = read (height-of s) most_height (height-size s) (omega arith)
 
 rise-read : (s : tie.Start) → to_z w64 (of_z w64 (rise-of s)) ≡ rise-of s
-rise-read s = read (rise-of s) mostDifference (rise-size s) (omega arith)
+rise-read s = read (rise-of s) most_difference (rise_size s) (omega arith)
 
 present-read : (s : tie.Start) → to_z w64 (of_z w64 s.args.z) ≡ s.args.z
-present-read s = read s.args.z mostHeight s.requires.1.1 (omega arith)
+present-read s = read s.args.z most_height s.requires.1.1 (omega arith)
 
 abbrev start_of : tie.After-add → tie.Start
 start_of c = search
@@ -77,7 +77,7 @@ over-read c =
 add-requires : tie.Need-add-requires
 add-requires c κs =
     let s : tie.Start = search in
-    let x = height-size s in let r = rise-size s in rw (height-read s, rise-read s) (omega arith)
+    let x = height-size s in let r = rise_size s in rw (height-read s, rise-read s) (omega arith)
 
 sub-requires : tie.Need-sub-requires
 sub-requires c κs =
@@ -88,12 +88,12 @@ mul-requires : tie.Need-mul-requires
 mul-requires c κs =
     let s = start_of c.before.before.before in
     let h = rise-over-size s in
-    let w = s.pre.0.range.weightIn s.args.j in
-    let k : weight-of s * nat_abs (rise-over s) ≤ mostWeight * mostApart = mul-le-mul w h in
+    let w = s.pre.0.range.weight_in s.args.j in
+    let k : weight-of s * nat_abs (rise-over s) ≤ most_weight * most_apart = mul-le-mul w h in
     rw (count-read c.before, over-read c) (omega arith)
 
 returns : tie.Need-returns
-unfolding termAt
+unfolding term_at
 returns c = stored c.mul.result c.mul.type-inv (c.mul.ensures ∙ rw (count-read c.before.before, over-read c.before))
 
 pub term-spec : {M : Type 1} → statement M
@@ -102,14 +102,14 @@ term-spec =
     (tie.spec
     (λ c. search rules)  -- mul-add
     (λ c. search rules)  -- shared-slice-read-add
-    (λ c. let s = c.before.before.before in omega (arith, s.requires.0.range.otherIn s.args.j))  -- mul-add-2
-    (λ c. let s = c.before.before.before in omega (arith, s.requires.0.range.otherIn s.args.j))  -- shared-slice-copy-out-add
+    (λ c. let s = c.before.before.before in omega (arith, s.requires.0.range.other_in s.args.j))  -- mul-add-2
+    (λ c. let s = c.before.before.before in omega (arith, s.requires.0.range.other_in s.args.j))  -- shared-slice-copy-out-add
     (λ c. search rules)  -- mul-add-3
     (λ c. search rules)  -- shared-slice-copy-out-add-2
     add-requires
     (λ c. search rules)  -- mul-signed-count
     (λ c. search rules)  -- shared-slice-read-signed-count
-    (λ c κs. let s : tie.Start = search in omega (arith, s.pre.0.range.weightIn s.args.j))  -- signed-count-requires
+    (λ c κs. let s : tie.Start = search in omega (arith, s.pre.0.range.weight_in s.args.j))  -- signed-count-requires
     sub-requires
     mul-requires
     returns)

@@ -2,8 +2,8 @@ use Prim.Native.Nat.{◌≤◌, ◌<◌, ◌+◌, ◌*◌, ◌-◌, ◌^◌}
 use native.Mathlib.Omega.{arith}
 use mathlib.Core.Path.{◌≡◌, refl, ◌∙◌}
 use lib.ListN.{length, get_or, length-set, length-take, length-drop}
-use Rattle.chains.specs.Chains.{numberLimit}
-use Rattle.table.proofs.Filling.{AllFilledTo, all_start, all-next, fill_end, run_room, path-few, small-number, takes_of}
+use Rattle.chains.specs.Chains.{number_limit}
+use Rattle.table.proofs.Filling.{AllFilledTo, all_start, all_next, fill_end, run_room, path_few, small_number, takes_of}
 use Rattle.table.proofs.fill.Statement.{statement}
 use Rattle.table.proofs.fill.Tie as tie
 
@@ -21,8 +21,8 @@ abbrev entry_of : tie.At-loop invariant-loop decreases-loop → tie.Start invari
 entry_of c = search
 
 -- the loop that is next: its closing line has a small number, and there is room for its run
-small : (c : tie.In-loop invariant-loop decreases-loop) → get_or (entry_of c.before).args.close.now c.before.loop.i 0 < numberLimit
-small c = small-number (entry_of c.before).pre c.before.loop.invariant.2 c.loop-test.true _ refl
+small : (c : tie.In-loop invariant-loop decreases-loop) → get_or (entry_of c.before).args.close.now c.before.loop.i 0 < number_limit
+small c = small_number (entry_of c.before).pre c.before.loop.invariant.2 c.loop-test.true _ refl
 
 room : (c : tie.In-loop invariant-loop decreases-loop) → c.before.loop.at + 1 + (entry_of c.before).args.n ≤ length c.before.loop.runs
 room c = run_room (entry_of c.before).pre c.before.loop.invariant.2 c.loop-test.true c.before.loop.invariant.1.5
@@ -50,7 +50,7 @@ add-at-2 c =
     let after-take-loop : tie.After-take-loop invariant-loop decreases-loop = search in
     let i : tie.In-loop invariant-loop decreases-loop = search in
     let s = entry_of i.before in
-    let few = path-few s.pre i.before.loop.inv.2 i.loop-test.taken _ refl after-take-loop.take-loop.ensures in
+    let few = path_few s.pre i.before.loop.inv.2 i.loop-test.taken _ refl after-take-loop.take-loop.ensures in
     omega (arith, room i, few, i.before.loop.inv.1, s.good)
 
 loop-again : tie.Need-loop-preserved invariant-loop decreases-loop
@@ -70,13 +70,13 @@ loop-again c =
         simp length-set v.1.4,
         after-runs.runs.given.1 ∙ simp length-set v.1.5,
       ),
-      all-next v.2 lt _ refl (omega (arith, begins i.before, lt)) (room i) _ after-take-loop.take-loop.ensures,
+      all_next v.2 lt _ refl (omega (arith, begins i.before, lt)) (room i) _ after-take-loop.take-loop.ensures,
     )
 
 returns : tie.Need-returns invariant-loop decreases-loop
 returns c =
     let l : tie.At-loop invariant-loop decreases-loop = search in
-    λ lines r. fill_end (l.loop.inv.2.of lines r) _ r.count-is (omega (arith, l.loop.inv.0)) (begins l)
+    λ lines r. fill_end (l.loop.inv.2.of lines r) _ r.count_is (omega (arith, l.loop.inv.0)) (begins l)
 
 pub fill_spec : {M : Type 1} → statement M
 fill_spec =

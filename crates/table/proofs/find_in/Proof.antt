@@ -1,5 +1,5 @@
 use native.Mathlib.Omega.{arith}
-use Rattle.table.proofs.Finding.{listed_of, orders-of, fills_of, found-is, table_is}
+use Rattle.table.proofs.Finding.{listed_of, orders_of, fills_of, found_is, table_is}
 use borrow.Author.Rules.{rules}
 use Rattle.table.proofs.find_in.Statement.{statement}
 use Rattle.table.proofs.find_in.Tie as tie
@@ -23,7 +23,7 @@ order-loops-requires c κs =
     let entry : tie.Start = search in
     let p = entry.pre in
     let k = after-plant-book.plant-book.kept in
-    orders-of _ _ p.0 p.1.1 after-plant-book.plant-book.ensures (omega (arith, k)) (omega (arith, k)) (omega (arith, k))
+    orders_of _ _ p.0 p.1.1 after-plant-book.plant-book.ensures (omega (arith, k)) (omega (arith, k)) (omega (arith, k))
     (omega (arith, k))
 
 fill-requires : tie.Need-fill-requires
@@ -48,7 +48,7 @@ returns c =
     let k = after-plant-book.plant-book.kept in
     let planted = after-plant-book.plant-book.ensures in
     let started = after-order-loops.order-loops.ensures _ (listed_of _ _ p.0 planted) planted.holding in
-    (found-is _ _ p.0 p.1.1 planted started, table_is _ _ p.0 p.1.1 planted started after-fill.fill.ensures)
+    (found_is _ _ p.0 p.1.1 planted started, table_is _ _ p.0 p.1.1 planted started after-fill.fill.ensures)
 
 pub find-in-spec : {M : Type 1} → statement M
 find-in-spec =

@@ -11,8 +11,8 @@ find-in-requires c κs =
         p.1,
         record {
           book = record {
-            by-half = (search rules, search rules);
-            by-mark = (search rules, search rules, search rules);
+            by_half = (search rules, search rules);
+            by_mark = (search rules, search rules, search rules);
             tournament
                 = search rules;
           };

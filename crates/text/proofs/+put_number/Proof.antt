@@ -4,8 +4,8 @@ use Prim.Native.Nat.{ℕ, ◌<◌}
 use native.Mathlib.Omega.{arith}
 use borrow.Fn.Kinds.{In}
 use borrow.Fn.PlainCycle.{Measures, is, falls, and}
-use Rattle.text.proofs.Puts.{put-length}
-use Rattle.text.proofs.Numbers.{put_one, put-more}
+use Rattle.text.proofs.Puts.{put_length}
+use Rattle.text.proofs.Numbers.{put_one, put_more}
 use Rattle.text.proofs.put_digit.Reads as put-digit
 use Rattle.text.proofs.put_number.Reads as put-number
 use Rattle.text.proofs.put_number.Kinds as kinds
@@ -31,7 +31,7 @@ module _ (t : ℕ) where
   returns c = search put_one
 
   same_length : lts.Need-same-length (calls t) (given t) put-number.Post
-  same_length c = put-length (returns c)
+  same_length c = put_length (returns c)
 
   put-number-requires : lts.Need-put-number-requires (calls t) (given t) put-number.Post
   put-number-requires c κs = (omega arith, tt)
@@ -40,10 +40,10 @@ module _ (t : ℕ) where
   put-digit-requires-2 c κs = tt
 
   returns-2 : lts.Need-returns-2 (calls t) (given t) put-number.Post
-  returns-2 c = search put-more
+  returns-2 c = search put_more
 
   same-length-2 : lts.Need-same-length-2 (calls t) (given t) put-number.Post
-  same-length-2 c = put-length (returns-2 c)
+  same-length-2 c = put_length (returns-2 c)
 
 pub +put-number-spec : {M : Type 1} → statement M
 +put-number-spec =

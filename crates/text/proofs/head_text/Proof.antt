@@ -1,12 +1,12 @@
 use mathlib.Core.Path.{refl}
 use Rattle.text.specs.Bytes.{bytes}
-use Rattle.text.specs.Report.{headText}
-use Rattle.text.proofs.Puts.{◌then◌, put-length}
+use Rattle.text.specs.Report.{head_text}
+use Rattle.text.proofs.Puts.{◌then◌, put_length}
 use Rattle.text.proofs.head_text.Statement.{statement}
 use Rattle.text.proofs.head_text.Tie as tie
 
 returns : tie.Need-returns
-unfolding bytes headText
+unfolding bytes head_text
 returns c =
     let end = c.before.before in
     let loops = end.before.before.before.before in
@@ -51,5 +51,5 @@ head-text-spec =
     (λ c κs. tt)  -- put-requires-5
     (λ c κs. tt)  -- put-number-requires-5
     (λ c κs. tt)  -- put-byte-requires
-    (λ c. put-length (returns c))  -- same-length
+    (λ c. put_length (returns c))  -- same-length
     returns)

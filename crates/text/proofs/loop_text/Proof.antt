@@ -1,13 +1,13 @@
 use mathlib.Core.Path.{refl}
 use mir.Facts.{to_z-of_z}
 use Rattle.text.specs.Bytes.{bytes}
-use Rattle.text.specs.Report.{loopText}
-use Rattle.text.proofs.Puts.{◌then◌, put-length}
+use Rattle.text.specs.Report.{loop_text}
+use Rattle.text.proofs.Puts.{◌then◌, put_length}
 use Rattle.text.proofs.loop_text.Statement.{statement}
 use Rattle.text.proofs.loop_text.Tie as tie
 
 returns : tie.Need-returns
-unfolding bytes loopText
+unfolding bytes loop_text
 returns c =
     let end = c.before.before in
     let listing = end.before.before.before.before in
@@ -46,5 +46,5 @@ loop-text-spec =
     (λ c κs. tt)  -- put-verdict-requires
     (λ c κs. tt)  -- put-listed-requires
     (λ c κs. tt)  -- put-byte-requires
-    (λ c. put-length (returns c))  -- same-length
+    (λ c. put_length (returns c))  -- same-length
     returns)

@@ -1,12 +1,12 @@
 use mathlib.Core.Path.{refl}
 use Rattle.text.specs.Bytes.{bytes}
-use Rattle.text.specs.Report.{notCheckedText}
-use Rattle.text.proofs.Puts.{◌then◌, put-length}
+use Rattle.text.specs.Report.{not_checked_text}
+use Rattle.text.proofs.Puts.{◌then◌, put_length}
 use Rattle.text.proofs.not_checked_text.Statement.{statement}
 use Rattle.text.proofs.not_checked_text.Tie as tie
 
 returns : tie.Need-returns
-unfolding bytes notCheckedText
+unfolding bytes not_checked_text
 returns c =
     let end = c.before.before in
     let list = end.before.before.before.before in
@@ -29,5 +29,5 @@ not-checked-text-spec =
     (λ c κs. tt)  -- put-byte-requires
     (λ c κs. tt)  -- put-listed-requires
     (λ c κs. tt)  -- put-byte-requires-2
-    (λ c. put-length (returns c))  -- same-length
+    (λ c. put_length (returns c))  -- same-length
     returns)

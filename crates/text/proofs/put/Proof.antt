@@ -3,7 +3,7 @@ use Prim.Native.Nat.{◌-◌, ◌≤◌}
 use native.Mathlib.Omega.{arith}
 use lib.ListN.{length, take}
 use Rattle.text.specs.Put.{Put}
-use Rattle.text.proofs.Puts.{nothing_put, put-length, one_more, all-put}
+use Rattle.text.proofs.Puts.{nothing_put, put_length, one_more, all_put}
 use Rattle.text.proofs.put.Statement.{statement}
 use Rattle.text.proofs.put.Tie as tie
 
@@ -14,7 +14,7 @@ abbrev decreases-loop : tie.decreases-loop
 decreases-loop out₀ at s next₀ i₀ out next i = length s - i
 
 returns : tie.Need-returns invariant-loop decreases-loop
-returns c = search (all-put (λ s. s) (λ a b. refl))
+returns c = search (all_put (λ s. s) (λ a b. refl))
 
 pub put_spec : {M : Type 1} → statement M
 put_spec =
@@ -28,5 +28,5 @@ put_spec =
     (λ c. omega arith)  -- add-i
     (λ c. omega arith)  -- loop-less
     (λ c. (omega arith, search (one_more (λ s. s) (λ a b. refl))))  -- loop-again
-    (λ c. search put-length)  -- same-length
+    (λ c. search put_length)  -- same-length
     returns)

@@ -1,7 +1,7 @@
 use mir.Facts.{to_z-of_z}
 use Rattle.text.specs.Bytes.{bytes}
-use Rattle.text.proofs.Puts.{◌then◌, put-length}
-use Rattle.text.proofs.Lists.{listed-one}
+use Rattle.text.proofs.Puts.{◌then◌, put_length}
+use Rattle.text.proofs.Lists.{listed_one}
 use Rattle.text.proofs.put_line.Statement.{statement}
 use Rattle.text.proofs.put_line.Tie as tie
 
@@ -11,7 +11,7 @@ returns c =
     let line = c.before.before in
     let space = line.before.before.before.before in
     let start = space.before.before.before in
-    rw (listed-one start.args.line, ← (to_z-of_z start.ranges.line)) (space.put_byte.ensures then line.put-signed.ensures)
+    rw (listed_one start.args.line, ← (to_z-of_z start.ranges.line)) (space.put_byte.ensures then line.put-signed.ensures)
 
 pub put-line-spec : {M : Type 1} → statement M
-put-line-spec = tie.close (tie.spec (λ c κs. tt) (λ c κs. tt) (λ c. put-length (returns c)) returns)
+put-line-spec = tie.close (tie.spec (λ c κs. tt) (λ c κs. tt) (λ c. put_length (returns c)) returns)

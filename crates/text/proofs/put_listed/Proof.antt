@@ -5,20 +5,20 @@ use lib.ListN.{length, take}
 use borrow.Author.Rules.{rules}
 use Rattle.laws.proofs.Signed.{back}
 use Rattle.text.specs.Put.{Put}
-use Rattle.text.specs.Report.{listedText}
-use Rattle.text.proofs.Lists.{listed-append}
-use Rattle.text.proofs.Puts.{nothing_put, put-length, one_more, all-put}
+use Rattle.text.specs.Report.{listed_text}
+use Rattle.text.proofs.Lists.{listed_append}
+use Rattle.text.proofs.Puts.{nothing_put, put_length, one_more, all_put}
 use Rattle.text.proofs.put_listed.Statement.{statement}
 use Rattle.text.proofs.put_listed.Tie as tie
 
 abbrev invariant-loop : tie.invariant-loop
-invariant-loop out₀ at list next₀ i₀ out next i = (i ≤ length list) × Put out₀ out at next (listedText (take i list))
+invariant-loop out₀ at list next₀ i₀ out next i = (i ≤ length list) × Put out₀ out at next (listed_text (take i list))
 
 abbrev decreases-loop : tie.decreases-loop
 decreases-loop out₀ at list next₀ i₀ out next i = length list - i
 
 loop-holds : tie.Need-loop-init invariant-loop decreases-loop
-unfolding listedText
+unfolding listed_text
 loop-holds c = (omega arith, search nothing_put)
 
 loop-again : tie.Need-loop-preserved invariant-loop decreases-loop
@@ -28,12 +28,12 @@ loop-again c =
     let at = arg.before.before.before in
     let list = at.before.before.args.list.now in (
       omega arith,
-      one_more listedText listed-append list at.loop.i at.loop.invariant.1 (pos 0) (omega arith)
+      one_more listed_text listed_append list at.loop.i at.loop.invariant.1 (pos 0) (omega arith)
           (rw (back _ arg.put-line-arg2.given) at turn.put-line.ensures),
     )
 
 returns : tie.Need-returns invariant-loop decreases-loop
-returns c = search (all-put listedText listed-append)
+returns c = search (all_put listed_text listed_append)
 
 pub put-listed-spec : {M : Type 1} → statement M
 put-listed-spec =
@@ -48,5 +48,5 @@ put-listed-spec =
     (λ c. omega arith)  -- add-i
     (λ c. omega arith)  -- loop-less
     loop-again
-    (λ c. search put-length)  -- same-length
+    (λ c. search put_length)  -- same-length
     returns)

@@ -2,8 +2,8 @@ use mathlib.Core.Path.{◌≡◌, sym}
 use lib.IntN.{nat_abs}
 use mir.Facts.{to_z-of_z}
 use Rattle.text.specs.Bytes.{bytes}
-use Rattle.text.proofs.Puts.{◌then◌, put-length}
-use Rattle.text.proofs.Numbers.{signed_below, signed-plain}
+use Rattle.text.proofs.Puts.{◌then◌, put_length}
+use Rattle.text.proofs.Numbers.{signed_below, signed_plain}
 use Rattle.text.proofs.put_signed.Statement.{statement}
 use Rattle.text.proofs.put_signed.Tie as tie
 
@@ -25,7 +25,7 @@ returns-2 c =
     let number = c.before.before in
     let plain = number.before.before in
     let m = plain.before in
-    rw (signed-plain m.before.before.args.x (rw (to_z-of_z m.before.before.ranges.x) at plain.if1.false), size m)
+    rw (signed_plain m.before.before.args.x (rw (to_z-of_z m.before.before.ranges.x) at plain.if1.false), size m)
     number.put-number2.ensures
 
 pub put-signed-spec : {M : Type 1} → statement M
@@ -35,8 +35,8 @@ put-signed-spec =
     (λ c κs. tt)  -- magnitude-requires
     (λ c κs. tt)  -- put-byte-requires
     (λ c κs. tt)  -- put-number-requires
-    (λ c. put-length (returns c))  -- same-length
+    (λ c. put_length (returns c))  -- same-length
     returns
     (λ c κs. tt)  -- put-number-requires-2
-    (λ c. put-length (returns-2 c))  -- same-length-2
+    (λ c. put_length (returns-2 c))  -- same-length-2
     returns-2)

@@ -1,13 +1,13 @@
 use mathlib.Core.Path.{refl}
 use mir.Facts.{to_z-of_z}
 use Rattle.text.specs.Bytes.{bytes}
-use Rattle.text.specs.Report.{verdictText}
-use Rattle.text.proofs.Puts.{put-length}
+use Rattle.text.specs.Report.{verdict_text}
+use Rattle.text.proofs.Puts.{put_length}
 use Rattle.text.proofs.put_verdict.Statement.{statement}
 use Rattle.text.proofs.put_verdict.Tie as tie
 
 returns : tie.Need-returns
-unfolding bytes verdictText
+unfolding bytes verdict_text
 returns c =
     let within = c.before.before in
     let same = within.before.before.before.before in
@@ -15,7 +15,7 @@ returns c =
     within.put.ensures
 
 returns-2 : tie.Need-returns-2
-unfolding bytes verdictText
+unfolding bytes verdict_text
 returns-2 c =
     let over = c.before.before in
     let same = over.before.before.before.before in
@@ -31,7 +31,7 @@ put-verdict-spec =
     (λ c κs. tt)  -- put-requires
     (λ c. refl)  -- slice-aggregate-put-2
     (λ c κs. tt)  -- put-requires-2
-    (λ c. put-length (returns c))  -- same-length
+    (λ c. put_length (returns c))  -- same-length
     returns
-    (λ c. put-length (returns-2 c))  -- same-length-2
+    (λ c. put_length (returns-2 c))  -- same-length-2
     returns-2)

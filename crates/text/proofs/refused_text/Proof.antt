@@ -1,12 +1,12 @@
 use mathlib.Core.Path.{refl}
 use Rattle.text.specs.Bytes.{bytes}
-use Rattle.text.specs.Report.{refusedText}
-use Rattle.text.proofs.Puts.{◌then◌, put-length}
+use Rattle.text.specs.Report.{refused_text}
+use Rattle.text.proofs.Puts.{◌then◌, put_length}
 use Rattle.text.proofs.refused_text.Statement.{statement}
 use Rattle.text.proofs.refused_text.Tie as tie
 
 returns : tie.Need-returns
-unfolding bytes refusedText
+unfolding bytes refused_text
 returns c =
     let end = c.before.before in
     let place = end.before.before.before.before in
@@ -27,5 +27,5 @@ refused-text-spec =
     (λ c κs. tt)  -- put-requires-2
     (λ c κs. tt)  -- put-number-requires-2
     (λ c κs. tt)  -- put-byte-requires
-    (λ c. put-length (returns c))  -- same-length
+    (λ c. put_length (returns c))  -- same-length
     returns)

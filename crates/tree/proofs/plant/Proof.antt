@@ -8,8 +8,8 @@ use Rattle.network.specs.Standing.{Line}
 use Rattle.chains.specs.Chains.{Given}
 use Rattle.search.specs.Front.{Stage}
 use Rattle.tree.specs.Plant.{Below}
-use Rattle.tree.proofs.Planting.{Planting, plant-start, plant-end, sprouted-next, sprouted-high, sprouted-below, sprouted-stage}
-use Rattle.tree.proofs.Planting.{stage-clear}
+use Rattle.tree.proofs.Planting.{Planting, plant_start, plant_end, sprouted_next, sprouted_high, sprouted_below, sprouted_stage}
+use Rattle.tree.proofs.Planting.{stage_clear}
 use Rattle.tree.proofs.plant.Statement.{statement}
 use Rattle.tree.proofs.plant.Tie as tie
 
@@ -31,15 +31,15 @@ loop-holds c =
     let z = after-zero.zero.ensures in
     let a = after-clear.clear.ensures in
     let b = c.before.before.clear2.ensures in (
-      p.some-mark,
-      omega (arith, p.some-mark),
-      stage-clear _ after-clear.clear.last.0 c.before.before.clear2.new.0 p.room.few p.some-mark
+      p.some_mark,
+      omega (arith, p.some_mark),
+      stage_clear _ after-clear.clear.last.0 c.before.before.clear2.new.0 p.room.few p.some_mark
           (omega (arith, a.0, p.room.bests)) (omega (arith, b.0, p.room.segs)) a.1 (λ i h. b.1 i (omega arith)),
       refl,
       refl,
       refl,
       λ k h. omega (arith, z k h),
-      λ lines g. plant-start lines _ _ _ _ g after-clear.clear.last.0 c.before.before.clear2.new.0 _ a.1
+      λ lines g. plant_start lines _ _ _ _ g after-clear.clear.last.0 c.before.before.clear2.new.0 _ a.1
           (λ i h. b.1 i (omega arith)),
     )
 
@@ -60,18 +60,18 @@ loop-again c =
     let e = after-sprout.sprout.ensures in
     let p = entry.pre in (
       omega arith,
-      sprouted-high _ _ _ _ _ _ _ _ _ _ _ _ _ v.1 e,
-      sprouted-stage _ _ _ _ _ _ _ _ _ _ _ _ _ v.2 p.0 e,
+      sprouted_high _ _ _ _ _ _ _ _ _ _ _ _ _ v.1 e,
+      sprouted_stage _ _ _ _ _ _ _ _ _ _ _ _ _ v.2 p.0 e,
       omega (arith, c),
       omega arith,
       omega arith,
-      sprouted-below _ _ _ _ _ _ _ _ _ _ _ _ _ v.2 p.0 v.6 e,
-      λ lines g. sprouted-next lines _ _ _ _ g _ _ _ _ _ v.2 (v.7 lines g) (omega (arith, p.1.1.room.few)) (omega arith)
+      sprouted_below _ _ _ _ _ _ _ _ _ _ _ _ _ v.2 p.0 v.6 e,
+      λ lines g. sprouted_next lines _ _ _ _ g _ _ _ _ _ v.2 (v.7 lines g) (omega (arith, p.1.1.room.few)) (omega arith)
           (omega (arith, v, p.1.1.orders)) _ _ _ _ e,
     )
 
 returns : tie.Need-returns invariant-loop decreases-loop
-returns c = (λ lines g. plant-end lines _ _ _ _ g _ _ _ _ _ (c.before.loop.invariant.7 lines g) (omega arith), c.before.loop.invariant.6)
+returns c = (λ lines g. plant_end lines _ _ _ _ g _ _ _ _ _ (c.before.loop.invariant.7 lines g) (omega arith), c.before.loop.invariant.6)
 
 pub plant-spec : {M : Type 1} → statement M
 plant-spec =

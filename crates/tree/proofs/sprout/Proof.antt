@@ -2,9 +2,9 @@ use Prim.Native.Nat.{◌<◌}
 use native.Mathlib.Omega.{arith}
 use mathlib.Core.Path.{refl}
 use lib.ListN.{length-set}
-use Rattle.search.proofs.Relaxing.{stage-set}
-use Rattle.search.proofs.Searched.{turned-any}
-use Rattle.tree.specs.Plant.{by-line, by-root, ended}
+use Rattle.search.proofs.Relaxing.{stage_set}
+use Rattle.search.proofs.Searched.{turned_any}
+use Rattle.tree.specs.Plant.{by_line_lem, by_root, ended}
 use borrow.Author.Rules.{rules}
 use Rattle.tree.proofs.sprout.Statement.{statement}
 use Rattle.tree.proofs.sprout.Tie as tie
@@ -12,7 +12,7 @@ use Rattle.tree.proofs.sprout.Tie as tie
 returns : tie.Need-returns
 returns c =
     let after_turn : tie.After-turn = search in
-    by-line after_turn.turn.result after_turn.turn.ensures (λ e. omega arith) refl refl
+    by_line_lem after_turn.turn.result after_turn.turn.ensures (λ e. omega arith) refl refl
 
 relax-requires : tie.Need-relax-requires
 relax-requires c κs =
@@ -20,9 +20,9 @@ relax-requires c κs =
     let after_turn : tie.After-turn = search in
     let entry : tie.Start = search in
     let p = entry.pre in
-    let st = turned-any _ _ _ _ _ _ _ _ _ _ p.1.1.0 after_turn.turn.ensures in
+    let st = turned_any _ _ _ _ _ _ _ _ _ _ p.1.1.0 after_turn.turn.ensures in
     let lt : after-first-far.first-far.result < entry.args.n = omega arith in
-    (p.0, (p.1.0.chained _ lt, (stage-set _ _ _ _ st lt, omega arith)))
+    (p.0, (p.1.0.chained _ lt, (stage_set _ _ _ _ st lt, omega arith)))
 
 same-length-4 : tie.Need-same-length-4
 same-length-4 c =
@@ -35,7 +35,7 @@ returns-2 c =
     let after-relax : tie.After-relax = search in
     let after-first-far : tie.After-first-far = search in
     let after_turn : tie.After-turn = search in
-    by-root after_turn.turn.result after_turn.turn.last.1.1.1.0 after_turn.turn.last.1.1.1.1.0
+    by_root after_turn.turn.result after_turn.turn.last.1.1.1.0 after_turn.turn.last.1.1.1.1.0
     after_turn.turn.ensures (omega arith) after-first-far.first-far.ensures (omega arith) after-relax.relax.ensures refl
 
 returns-3 : tie.Need-returns-3

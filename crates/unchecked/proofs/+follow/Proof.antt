@@ -1,8 +1,8 @@
 -- `follow` passes one line of the farther mark's way and calls itself for the rest. The measure is the distance, of both marks together:
 -- it "falls at each step", by at least the least length of a line. Assumes nothing.
 use Rattle.unchecked.proofs.Following.{distance_at}
-use Rattle.unchecked.proofs.Marking.{climbed-length, follows-turn, u-low, followed-met, distance-falls, follows-rest}
-use Rattle.unchecked.proofs.Marking.{followed-rest, followed-turn}
+use Rattle.unchecked.proofs.Marking.{climbed_length, follows_turn, u_low, followed_met, distance_falls, follows_rest}
+use Rattle.unchecked.proofs.Marking.{followed_rest, followed_turn}
 use Prim.Native.Nat.{ℕ, ◌+◌, ◌<◌}
 use native.Mathlib.Omega.{arith}
 use mathlib.Core.Path.{refl, ◌∙◌}
@@ -32,45 +32,45 @@ module _ (t : ℕ) where
   mul-key-u : lts.Need-overflow-mul-key-u (calls t) (given t) follow.Post
   mul-key-u c =
       let entry : Entry = search in
-      omega (arith, u-low entry.pre.1)
+      omega (arith, u_low entry.pre.1)
 
   element-copy-out-key-u : lts.Need-element-copy-out-key-u (calls t) (given t) follow.Post
   element-copy-out-key-u c =
       let entry : Entry = search in
-      u-low entry.pre.1
+      u_low entry.pre.1
 
   mul-key-v : lts.Need-overflow-mul-key-v (calls t) (given t) follow.Post
   mul-key-v c =
       let entry : Entry = search in
-      omega (arith, u-low (follows-turn entry.pre.1))
+      omega (arith, u_low (follows_turn entry.pre.1))
 
   element-copy-out-key-v : lts.Need-element-copy-out-key-v (calls t) (given t) follow.Post
   element-copy-out-key-v c =
       let entry : Entry = search in
-      u-low (follows-turn entry.pre.1)
+      u_low (follows_turn entry.pre.1)
 
   returns : lts.Need-returns (calls t) (given t) follow.Post
   returns c =
       let entry : Entry = search in
-      (followed-met entry.pre.1 (omega arith), refl)
+      (followed_met entry.pre.1 (omega arith), refl)
 
   climb-requires : lts.Need-climb-requires (calls t) (given t) follow.Post
   climb-requires c κs =
       let entry : Entry = search in
-      u-low (follows-turn entry.pre.1)
+      u_low (follows_turn entry.pre.1)
 
   follow-requires : lts.Need-follow-requires (calls t) (given t) follow.Post
   follow-requires c κs =
       let climbed : lts.After-climb (calls t) (given t) follow.Post = search in
       let entry : Entry = search in
-      let p = follows-turn entry.pre.1 in
+      let p = follows_turn entry.pre.1 in
       let by = climbed.climb.ensures in
-      (omega (arith, entry.pre.0, distance-falls p (omega arith) by), follows-rest p (omega arith) by)
+      (omega (arith, entry.pre.0, distance_falls p (omega arith) by), follows_rest p (omega arith) by)
 
   climb-requires-2 : lts.Need-climb-requires-2 (calls t) (given t) follow.Post
   climb-requires-2 c κs =
       let entry : Entry = search in
-      u-low entry.pre.1
+      u_low entry.pre.1
 
   follow-requires-2 : lts.Need-follow-requires-2 (calls t) (given t) follow.Post
   follow-requires-2 c κs =
@@ -78,7 +78,7 @@ module _ (t : ℕ) where
       let entry : Entry = search in
       let p = entry.pre.1 in
       let by = climbed.climb2.ensures in
-      (omega (arith, entry.pre.0, distance-falls p (omega arith) by), follows-rest p (omega arith) by)
+      (omega (arith, entry.pre.0, distance_falls p (omega arith) by), follows_rest p (omega arith) by)
 
   returns-2 : lts.Need-returns-2 (calls t) (given t) follow.Post
   returns-2 c =
@@ -86,8 +86,8 @@ module _ (t : ℕ) where
       let entry : Entry = search in
       let by = climbed.climb.ensures in
       let f = c.follow in
-      let p = follows-turn entry.pre.1 in
-      (followed-turn p (omega arith) by f.new.1.1.0 f.ensures.0, f.ensures.1 ∙ climbed-length by)
+      let p = follows_turn entry.pre.1 in
+      (followed_turn p (omega arith) by f.new.1.1.0 f.ensures.0, f.ensures.1 ∙ climbed_length by)
 
   returns-3 : lts.Need-returns-3 (calls t) (given t) follow.Post
   returns-3 c =
@@ -95,7 +95,7 @@ module _ (t : ℕ) where
       let entry : Entry = search in
       let by = climbed.climb2.ensures in
       let f = c.follow2 in
-      (followed-rest entry.pre.1 (omega arith) by f.new.1.1.0 f.ensures.0, f.ensures.1 ∙ climbed-length by)
+      (followed_rest entry.pre.1 (omega arith) by f.new.1.1.0 f.ensures.0, f.ensures.1 ∙ climbed_length by)
 
 pub +follow-spec : {M : Type 1} → statement M
 +follow-spec =

@@ -2,10 +2,10 @@
 use Prim.Native.Nat.{◌+◌, ◌*◌, ◌-◌}
 use native.Mathlib.Omega.{arith}
 use mathlib.Core.Path.{refl, sym, ◌∙◌}
-use Rattle.network.proofs.ClosingLines.{closing-line-stands}
-use Rattle.unchecked.specs.Ways.{closing-line, other-line}
-use Rattle.unchecked.proofs.Following.{tree-held, book-sound}
-use Rattle.unchecked.proofs.Checking.{closes-closing}
+use Rattle.network.proofs.ClosingLines.{closing_line_stands}
+use Rattle.unchecked.specs.Ways.{closing_line, other_line}
+use Rattle.unchecked.proofs.Following.{tree_held, book_sound}
+use Rattle.unchecked.proofs.Checking.{closes_closing}
 use Rattle.unchecked.proofs.check_line.Statement.{statement}
 use Rattle.unchecked.proofs.check_line.Tie as tie
 
@@ -15,8 +15,8 @@ closes-requires c κs =
     let p = entry.pre.0 in (
       omega (arith, c, p.few, p.bounded.ends_at),
       (
-        omega (arith, p.bests, p.bounded.mark-ok (entry.args.number * 2) (omega (arith, c, p.few))),
-        omega (arith, p.bests, p.bounded.mark-ok (entry.args.number * 2 + 1) (omega (arith, c, p.few))),
+        omega (arith, p.bests, p.bounded.mark_ok (entry.args.number * 2) (omega (arith, c, p.few))),
+        omega (arith, p.bests, p.bounded.mark_ok (entry.args.number * 2 + 1) (omega (arith, c, p.few))),
       ),
     )
 
@@ -26,8 +26,8 @@ check-loop-requires c κs =
     let after-closes : tie.After-closes = search in
     let entry : tie.Start = search in
     let p = entry.pre.0 in
-    let held = tree-held p.listed p.holding in
-    let k = closes-closing p.listed p.holding entry.args.number entry.pre.1
+    let held = tree_held p.listed p.holding in
+    let k = closes_closing p.listed p.holding entry.args.number entry.pre.1
     (sym after-closes.closes.ensures ∙ closing.if1.taken) in
     record {
       marks = p.marks;
@@ -36,7 +36,7 @@ check-loop-requires c κs =
       lines = p.lines;
       held = held;
       c = k.0;
-      is_line = closing-line-stands (p.n - 1) p.lines (book-sound p.n p.lines _ _ held) k.0 k.1;
+      is_line = closing_line_stands (p.n - 1) p.lines (book_sound p.n p.lines _ _ held) k.0 k.1;
       its = k.2;
     }
 
@@ -46,12 +46,12 @@ returns c =
     let closing : tie.Then1 = search in
     let after-closes : tie.After-closes = search in
     let looped = after-check-loop.check-loop.ensures in
-    (closing-line (sym after-closes.closes.ensures ∙ closing.if1.taken) looped.0, looped.1)
+    (closing_line (sym after-closes.closes.ensures ∙ closing.if1.taken) looped.0, looped.1)
 
 returns-2 : tie.Need-returns-2
 returns-2 c =
     let after-closes : tie.After-closes = search in
-    (other-line (sym after-closes.closes.ensures ∙ c.if1.false) refl, refl)
+    (other_line (sym after-closes.closes.ensures ∙ c.if1.false) refl, refl)
 
 pub check-line-spec : {M : Type 1} → statement M
 check-line-spec =

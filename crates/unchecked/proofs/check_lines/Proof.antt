@@ -6,16 +6,16 @@ use lib.ListN.{length}
 use borrow.Author.Rules.{rules}
 use Rattle.network.specs.Standing.{Line}
 use Rattle.network.specs.Tree.{tree}
-use Rattle.chains.specs.Chains.{numberLimit}
+use Rattle.chains.specs.Chains.{number_limit}
 use Rattle.chains.specs.Listed.{Listed}
 use Rattle.tree.specs.Plant.{Holding}
-use Rattle.unchecked.proofs.Checking.{SoFar, start-so-far, next-so-far, all-so-far}
+use Rattle.unchecked.proofs.Checking.{SoFar, start_so_far, next_so_far, all_so_far}
 use Rattle.unchecked.proofs.check_lines.Statement.{statement}
 use Rattle.unchecked.proofs.check_lines.Tie as tie
 
 abbrev invariant-loop : tie.invariant-loop
 invariant-loop ends best marked₀ q number₀ marked number =
-    (numberLimit ≤ length marked)
+    (number_limit ≤ length marked)
     × ((n : ℕ) (order : List ℕ) (lines : List Line) → Listed lines n q ends → Holding (tree (n - 1) lines) best order ends
     → SoFar n lines marked number)
 
@@ -26,7 +26,7 @@ loop-holds : tie.Need-loop-init invariant-loop decreases-loop
 loop-holds c =
     let after-zero : tie.After-zero invariant-loop decreases-loop = search in
     let entry : tie.Start invariant-loop decreases-loop = search in
-    (omega (arith, c, entry.pre.marks), λ n order lines li ho. start-so-far li ho after-zero.zero.ensures)
+    (omega (arith, c, entry.pre.marks), λ n order lines li ho. start_so_far li ho after-zero.zero.ensures)
 
 check-line-requires : tie.Need-check-line-requires invariant-loop decreases-loop
 check-line-requires c κs =
@@ -53,10 +53,10 @@ loop-again c =
     let at-loop : tie.At-loop invariant-loop decreases-loop = search in
     let v = at-loop.loop.inv in
     let checked = after-check-line.check-line.ensures in
-    (omega (arith, v.0, checked.1), λ n order lines li ho. next-so-far li ho (omega (arith, c)) (v.1 n order lines li ho) checked.0)
+    (omega (arith, v.0, checked.1), λ n order lines li ho. next_so_far li ho (omega (arith, c)) (v.1 n order lines li ho) checked.0)
 
 returns : tie.Need-returns invariant-loop decreases-loop
-returns c = λ n order lines li ho. all-so-far li ho (omega arith) (c.before.loop.invariant.1 n order lines li ho)
+returns c = λ n order lines li ho. all_so_far li ho (omega arith) (c.before.loop.invariant.1 n order lines li ho)
 
 pub check-lines-spec : {M : Type 1} → statement M
 check-lines-spec =

@@ -4,15 +4,15 @@ use mathlib.Core.Path.{◌∙◌}
 use Prim.Native.Nat.{ℕ, ◌<◌}
 use native.Mathlib.Omega.{arith}
 use lib.ListN.{length-set}
-use Rattle.chains.specs.Chains.{numberLimit}
+use Rattle.chains.specs.Chains.{number_limit}
 use Rattle.unchecked.specs.Ways.{Checks}
-use Rattle.unchecked.proofs.Marking.{from-mark, to-mark, small-number, loop-checked}
+use Rattle.unchecked.proofs.Marking.{from_mark, to_mark, small_number, loop_checked}
 use Rattle.unchecked.proofs.check_loop.Statement.{statement}
 use Rattle.unchecked.proofs.check_loop.Tie as tie
 
 -- the number of the line is below the limit
-low : {ends best marked : List ℕ} {number : ℕ} → Checks ends best marked number → number < numberLimit
-low p = small-number p.held p.c p.is_line p.its
+low : {ends best marked : List ℕ} {number : ℕ} → Checks ends best marked number → number < number_limit
+low p = small_number p.held p.c p.is_line p.its
 
 follow-requires : tie.Need-follow-requires
 follow-requires c κs =
@@ -23,15 +23,15 @@ follow-requires c κs =
       bests = p.bests;
       lines = p.lines;
       held = p.held;
-      u-is = from-mark p.held p.c p.is_line p.its;
-      v-is = to-mark p.held p.c p.is_line p.its;
+      u_is = from_mark p.held p.c p.is_line p.its;
+      v_is = to_mark p.held p.c p.is_line p.its;
     }
 
 returns : tie.Need-returns
 returns c =
     let s : tie.Start = search in
     let f = c.follow in (
-      λ n lines t l i e. loop-checked t l i e s.args.marked.now f.new.1.1.0 s.pre.marks f.ensures.0,
+      λ n lines t l i e. loop_checked t l i e s.args.marked.now f.new.1.1.0 s.pre.marks f.ensures.0,
       f.ensures.1 ∙ simp length-set,
     )
 

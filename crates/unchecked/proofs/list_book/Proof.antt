@@ -2,7 +2,7 @@
 use mathlib.Core.Path.{◌≡◌}
 use Prim.Native.Nat.{◌+◌, ◌-◌}
 use native.Mathlib.Omega.{arith}
-use Rattle.unchecked.proofs.Planted.{listed_by, list-ready}
+use Rattle.unchecked.proofs.Planted.{listed_by, list_ready}
 use borrow.Author.Rules.{rules}
 use Rattle.unchecked.proofs.list_book.Statement.{statement}
 use Rattle.unchecked.proofs.list_book.Tie as tie
@@ -15,7 +15,7 @@ not-checked-requires : tie.Need-not-checked-requires
 not-checked-requires c κs =
     let after-plant-book : tie.After-plant-book = search in
     let entry : tie.Start = search in
-    list-ready _ _ entry.pre.0 after-plant-book.plant-book.ensures entry.pre.1.1
+    list_ready _ _ entry.pre.0 after-plant-book.plant-book.ensures entry.pre.1.1
 
 returns : tie.Need-returns
 returns c =
@@ -23,8 +23,8 @@ returns c =
     let after-plant-book : tie.After-plant-book = search in
     let entry = entry-before after-plant-book in
     let planted = after-plant-book.plant-book.ensures in
-    let marks-are : entry.args.book.marks + 1 - 1 ≡ entry.args.book.marks = omega arith in
-    rw marks-are at (after-not-checked.not-checked.ensures _ _ _ (listed_by _ _ entry.pre.0 planted) planted.holding)
+    let marks_are : entry.args.book.marks + 1 - 1 ≡ entry.args.book.marks = omega arith in
+    rw marks_are at (after-not-checked.not_checked.ensures _ _ _ (listed_by _ _ entry.pre.0 planted) planted.holding)
 
 pub list-book-spec : {M : Type 1} → statement M
 list-book-spec =

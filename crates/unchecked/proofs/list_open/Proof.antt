@@ -5,7 +5,7 @@ use Prim.Native.Nat.{◌-◌, ◌<◌}
 use native.Mathlib.Omega.{arith}
 use borrow.Author.Rules.{rules}
 use lib.ListN.{length, length-set}
-use Rattle.unchecked.proofs.Listing.{Writing, writing_start, writing-open, writing-shut, writing-end}
+use Rattle.unchecked.proofs.Listing.{Writing, writing_start, writing_open, writing_shut, writing_end}
 use Rattle.unchecked.proofs.list_open.Statement.{statement}
 use Rattle.unchecked.proofs.list_open.Tie as tie
 
@@ -27,14 +27,14 @@ loop-again c =
     ⊎_elim (λ w. (
       omega (arith, w.2),
       ap length w.1 ∙ simp length-set v.1,
-      writing-open v.2 (omega arith) (sym o ∙ w.0.taken)
+      writing_open v.2 (omega arith) (sym o ∙ w.0.taken)
           w.1 w.2,
     ))
-    (λ w. (omega (arith, w.2), ap length w.1 ∙ v.1, writing-shut v.2 (omega arith) (sym o ∙ w.0.left) w.1 w.2))
+    (λ w. (omega (arith, w.2), ap length w.1 ∙ v.1, writing_shut v.2 (omega arith) (sym o ∙ w.0.left) w.1 w.2))
     c.if1.branch
 
 returns : tie.Need-returns invariant-loop decreases-loop
-returns c = writing-end c.before.loop.invariant.2 (omega arith)
+returns c = writing_end c.before.loop.invariant.2 (omega arith)
 
 pub list-open-spec : {M : Type 1} → statement M
 list-open-spec =

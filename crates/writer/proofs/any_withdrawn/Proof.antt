@@ -5,21 +5,21 @@ use Prim.Native.Nat.{ℕ, ◌+◌, ◌*◌, ◌-◌, ◌≤◌}
 use native.Mathlib.Omega.{arith}
 use lib.ListN.{length}
 use lib.IntN.{ℤ, pos}
-use Rattle.laws.specs.Tests.{eqZ}
-use Rattle.laws.specs.Scan.{anyBelow}
+use Rattle.laws.specs.Tests.{eq_z}
+use Rattle.laws.specs.Scan.{any_below}
 use Rattle.laws.proofs.Signed.{back}
 use Rattle.laws.proofs.Scans.{any_none, any_next, any_found}
-use Rattle.book.specs.Line.{lineWords, standingAt}
+use Rattle.book.specs.Line.{line_words, standing_at}
 use Rattle.file.proofs.Entries.{room_for}
-use Rattle.writer.specs.Write.{anyWithdrawn}
+use Rattle.writer.specs.Write.{any_withdrawn}
 use Rattle.writer.proofs.any_withdrawn.Statement.{statement}
 use Rattle.writer.proofs.any_withdrawn.Tie as tie
 
 abbrev isWithdrawn : List ℤ → ℕ → Bool
-isWithdrawn lines i = eqZ (standingAt lines i) (pos 0)
+isWithdrawn lines i = eq_z (standing_at lines i) (pos 0)
 
 abbrev invariant-loop : tie.invariant-loop
-invariant-loop lines n i₀ i = (i ≤ n) × (anyBelow (isWithdrawn lines) i ≡ false)
+invariant-loop lines n i₀ i = (i ≤ n) × (any_below (isWithdrawn lines) i ≡ false)
 
 abbrev decreases-loop : tie.decreases-loop
 decreases-loop lines n i₀ i = n - i
@@ -28,9 +28,9 @@ abbrev entry_of : tie.At-loop invariant-loop decreases-loop → tie.Start invari
 entry_of c = search
 
 -- the line that is looked at is whole
-room : (c : tie.In-loop invariant-loop decreases-loop) → c.before.loop.i * lineWords + lineWords ≤ length (entry_of c.before).args.lines.now
+room : (c : tie.In-loop invariant-loop decreases-loop) → c.before.loop.i * line_words + line_words ≤ length (entry_of c.before).args.lines.now
 room c =
-    let r = room_for c.before.loop.i (entry_of c.before).args.n lineWords c.loop-test.true in
+    let r = room_for c.before.loop.i (entry_of c.before).args.n line_words c.loop-test.true in
     omega (arith, (entry_of c.before).pre)
 
 -- and whether it is withdrawn
@@ -48,7 +48,7 @@ loop-again c =
     )
 
 returns : tie.Need-returns invariant-loop decreases-loop
-unfolding anyWithdrawn
+unfolding any_withdrawn
 returns c =
     let after_same : tie.After-same invariant-loop decreases-loop = search in
     let at-loop : tie.At-loop invariant-loop decreases-loop = search in
@@ -57,7 +57,7 @@ returns c =
     (sym (withdrawn after_same) ∙ c.if1.true))
 
 returns-2 : tie.Need-returns-2 invariant-loop decreases-loop
-unfolding anyWithdrawn
+unfolding any_withdrawn
 returns-2 c =
     let at-loop : tie.At-loop invariant-loop decreases-loop = search in
     let n : at-loop.loop.i ≡ (entry_of at-loop).args.n = omega (arith, at-loop.loop.inv.0, c.loop-test.false) in

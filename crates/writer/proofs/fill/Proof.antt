@@ -2,20 +2,20 @@ use mathlib.Core.Path.{◌≡◌, ◌∙◌}
 use Prim.Native.Nat.{◌+◌, ◌*◌}
 use native.Mathlib.Omega.{arith}
 use lib.ListN.{length-take, length-drop}
-use Rattle.file.specs.Entry.{entryBytes, lineKind}
+use Rattle.file.specs.Entry.{entry_bytes, line_kind}
 use Rattle.file.specs.declared.entry.Kind.TheVariants.{Held}
-use Rattle.file.proofs.Entries.{line-words}
+use Rattle.file.proofs.Entries.{line_words_lem}
 use Rattle.writer.specs.Entry.{written}
-use Rattle.writer.specs.Write.{headBytes, fileOf}
-use Rattle.writer.proofs.Entries.{head-length, written-length}
-use Rattle.writer.proofs.Parts.{none-poured, then-part}
+use Rattle.writer.specs.Write.{head_bytes, file_of}
+use Rattle.writer.proofs.Entries.{head_length, written_length}
+use Rattle.writer.proofs.Parts.{none_poured, then_part}
 use borrow.Author.Rules.{rules}
 use Rattle.writer.proofs.fill.Statement.{statement}
 use Rattle.writer.proofs.fill.Tie as tie
 
 -- the bytes of head, held entries and lines
 size : (c : tie.Start) → (let k = c.args.book in
-    c.args.bytes ≡ 13 + k.held * 10 + k.lines * entryBytes (lineKind k.version))
+    c.args.bytes ≡ 13 + k.held * 10 + k.lines * entry_bytes (line_kind k.version))
 size c = c.requires.1.1.0
 
 write-head-requires : tie.Need-write-head-requires
@@ -36,13 +36,13 @@ write-entries-requires-2 c κs =
     let entry : tie.Start = search in
     let back : tie.After-file = search in
     let again : tie.After-file2 = search in
-    rw (c.before.of-lines.ensures, line-words entry.args.book.version) (
+    rw (c.before.of-lines.ensures, line_words_lem entry.args.book.version) (
       omega (arith, entry.pre.0.good.whole),
       simp (length-take, length-drop) (omega (arith, back.file.given.1, again.file2.given.1, size entry, entry.pre.1.1.1)),
     )
 
 returns : tie.Need-returns
-unfolding fileOf
+unfolding file_of
 returns c =
     let entry : tie.Start = search in
     let k = entry.args.book in
@@ -53,13 +53,13 @@ returns c =
     let kind : tie.After-of-lines = search in
     let h = entry.args.held.now in
     let l = entry.args.lines.now in
-    let p₁ = then-part (none-poured entry.args.file.now) _ (headBytes k) 13 (omega arith) head.write-head.ensures
-    (head-length k) in
-    let p₂ = then-part p₁ _ (written Held h k.held) (13 + k.held * 10) (omega arith) held.write_entries.ensures
-    (written-length Held h k.held ∙ omega arith) in
-    let p₃ = then-part p₂ _ (written (lineKind k.version) l k.lines) bytes (omega (arith, size entry))
+    let p₁ = then_part (none_poured entry.args.file.now) _ (head_bytes k) 13 (omega arith) head.write-head.ensures
+    (head_length k) in
+    let p₂ = then_part p₁ _ (written Held h k.held) (13 + k.held * 10) (omega arith) held.write_entries.ensures
+    (written_length Held h k.held ∙ omega arith) in
+    let p₃ = then_part p₂ _ (written (line_kind k.version) l k.lines) bytes (omega (arith, size entry))
     (rw kind.of-lines.ensures at lines.write-entries2.ensures)
-    (written-length (lineKind k.version) l k.lines ∙ omega (arith, size entry)) in
+    (written_length (line_kind k.version) l k.lines ∙ omega (arith, size entry)) in
     p₃.is
 
 pub fill_spec : {M : Type 1} → statement M
@@ -76,7 +76,7 @@ fill_spec =
     (λ c. search rules)  -- part-write-entries-start
     (λ c. let entry : tie.Start = search in omega (arith, size entry, entry.pre.1.1.1))  -- part-write-entries-end
     write-entries-requires
-    (λ c κs. let entry : tie.Start = search in omega (arith, entry.pre.0.known-version))  -- of-lines-requires
+    (λ c κs. let entry : tie.Start = search in omega (arith, entry.pre.0.known_version))  -- of-lines-requires
     (λ c. let entry : tie.Start = search in omega (arith, size entry))  -- sub-write-entries-2
     (λ c. let entry : tie.Start = search in omega (arith, size entry))  -- part-write-entries-start-2
     (λ c. let entry : tie.Start = search in omega (arith, size entry, entry.pre.1.1.1))  -- part-write-entries-end-2

@@ -1,8 +1,8 @@
 use mathlib.Core.Path.{◌≡◌, sym, ◌∙◌}
 use Rattle.book.specs.Lent.{lent}
 use Rattle.book.specs.Test.{test_of}
-use Rattle.book.proofs.Goods.{tested-good, good-lines}
-use Rattle.writer.specs.Write.{writeOf}
+use Rattle.book.proofs.Goods.{tested_good, good_lines}
+use Rattle.writer.specs.Write.{write_of}
 use borrow.Author.Rules.{rules}
 use Rattle.writer.proofs.write.Statement.{statement}
 use Rattle.writer.proofs.write.Tie as tie
@@ -18,18 +18,18 @@ write-good-requires c κs =
     let entry : tie.Start = search in
     let g = c.before.before in
     let a = entry.args in
-    let good = tested-good (lent a.version a.b a.t a.held.now a.lines.now) g.book.given.0.0
+    let good = tested_good (lent a.version a.b a.t a.held.now a.lines.now) g.book.given.0.0
     (sym (tested after_test) ∙ g.book.given.1) in
-    (good-lines _ _ good, good.held-good)
+    (good_lines _ _ good, good.held_good)
 
 returns : tie.Need-returns
-unfolding writeOf
+unfolding write_of
 returns c =
     let after_test : tie.After-test = search in
     rw (← (tested after_test), c.before.before.r.given.1, c.refused.ensures)
 
 returns-2 : tie.Need-returns-2
-unfolding writeOf
+unfolding write_of
 returns-2 c =
     let after-book : tie.After-book = search in
     let after_test : tie.After-test = search in

@@ -1,5 +1,5 @@
 use mathlib.Core.Path.{sym, ◌∙◌}
-use Rattle.writer.proofs.Answers.{not-said, no_room, is-written}
+use Rattle.writer.proofs.Answers.{not_said, no_room, is_written}
 use borrow.Author.Rules.{rules}
 use Rattle.writer.proofs.write_good.Statement.{statement}
 use Rattle.writer.proofs.write_good.Tie as tie
@@ -7,7 +7,7 @@ use Rattle.writer.proofs.write_good.Tie as tie
 length-of-requires : tie.Need-length-of-requires
 length-of-requires c κs =
     let entry : tie.Start = search in
-    (entry.pre.0.known-version, entry.pre.1.few, entry.pre.0.good.few)
+    (entry.pre.0.known_version, entry.pre.1.few, entry.pre.0.good.few)
 
 fill-requires : tie.Need-fill-requires
 fill-requires c κs =
@@ -18,7 +18,7 @@ fill-requires c κs =
 returns : tie.Need-returns
 returns c =
     let said : tie.After-cannot-say = search in
-    rw c.refuse.ensures (sym (not-said _ _ _ _ (sym said.cannot-say.ensures ∙ c.before.if1.true)))
+    rw c.refuse.ensures (sym (not_said _ _ _ _ (sym said.cannot-say.ensures ∙ c.before.if1.true)))
 
 returns-2 : tie.Need-returns-2
 returns-2 c =
@@ -35,7 +35,7 @@ returns-3 c =
     let else2 : tie.Else2 = search in
     let size : tie.After-length-of = search in
     let filled : tie.After-fill = search in
-    is-written _ _ _ _ _ _ _ (sym said.cannot-say.ensures ∙ else1.if1.left) c.none.ensures size.length-of.ensures
+    is_written _ _ _ _ _ _ _ (sym said.cannot-say.ensures ∙ else1.if1.left) c.none.ensures size.length-of.ensures
     else2.if2.left filled.fill.ensures
 
 pub write-good-spec : {M : Type 1} → statement M

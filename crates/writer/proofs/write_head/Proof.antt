@@ -1,8 +1,8 @@
 use mathlib.Core.Path.{refl}
 use native.Mathlib.Omega.{arith}
 use Rattle.file.specs.Read.{length_of}
-use Rattle.writer.specs.Write.{headBytes}
-use Rattle.writer.proofs.Parts.{none-poured, then-number, all-poured}
+use Rattle.writer.specs.Write.{head_bytes}
+use Rattle.writer.proofs.Parts.{none_poured, then_number, all_poured}
 use borrow.Author.Rules.{rules}
 use Rattle.writer.proofs.write_head.Statement.{statement}
 use Rattle.writer.proofs.write_head.Tie as tie
@@ -21,7 +21,7 @@ abbrev entry_of : tie.After-put → tie.Start
 entry_of c = search
 
 returns : tie.Need-returns
-unfolding headBytes
+unfolding head_bytes
 returns c =
     let lines : tie.After-put6 = search in
     let held : tie.After-put5 = search in
@@ -32,14 +32,14 @@ returns c =
     let entry = entry_of bytes in
     let k = entry.args.book in
     let whole = entry.pre.1 in
-    let p₁ = then-number (none-poured entry.args.out.now) _ 4 (length_of k) (omega (arith, whole)) entry.pre.0
+    let p₁ = then_number (none_poured entry.args.out.now) _ 4 (length_of k) (omega (arith, whole)) entry.pre.0
     bytes.put.ensures in
-    let p₂ = then-number p₁ _ 1 k.version (omega (arith, whole)) refl version.put2.ensures in
-    let p₃ = then-number p₂ _ 2 k.tolerance (omega (arith, whole)) refl tolerance.put3.ensures in
-    let p₄ = then-number p₃ _ 2 k.marks (omega (arith, whole)) refl marks.put4.ensures in
-    let p₅ = then-number p₄ _ 2 k.held (omega (arith, whole)) refl held.put5.ensures in
-    let p₆ = then-number p₅ _ 2 k.lines (omega (arith, whole)) refl lines.put6.ensures in
-    all-poured p₆ whole
+    let p₂ = then_number p₁ _ 1 k.version (omega (arith, whole)) refl version.put2.ensures in
+    let p₃ = then_number p₂ _ 2 k.tolerance (omega (arith, whole)) refl tolerance.put3.ensures in
+    let p₄ = then_number p₃ _ 2 k.marks (omega (arith, whole)) refl marks.put4.ensures in
+    let p₅ = then_number p₄ _ 2 k.held (omega (arith, whole)) refl held.put5.ensures in
+    let p₆ = then_number p₅ _ 2 k.lines (omega (arith, whole)) refl lines.put6.ensures in
+    all_poured p₆ whole
 
 pub write-head-spec : {M : Type 1} → statement M
 write-head-spec =

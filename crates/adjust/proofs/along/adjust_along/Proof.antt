@@ -1,6 +1,6 @@
 use native.Mathlib.Omega.{arith}
 use borrow.Author.Rules.{rules}
-use Rattle.adjust.proofs.Whole.{held_in, unheld-answer, working, settled-answer}
+use Rattle.adjust.proofs.Whole.{held_in, unheld_answer, working, settled_answer}
 use Rattle.adjust.proofs.along.adjust_along.Statement.{statement}
 use Rattle.adjust.proofs.along.adjust_along.Tie as tie
 
@@ -11,9 +11,9 @@ start-heights-requires c κs =
     let g = s.pre.0 in
     let p = s.pre.1.0 in
     let held =
-    held_in _ _ _ _ _ _ _ g.lines-good.few-marks g.lines-good.good g.held-good p.entered _ _
+    held_in _ _ _ _ _ _ _ g.lines_good.few_marks g.lines_good.good g.held_good p.entered _ _
     after-hold-all.hold-all.ensures in
-    (g.lines-good.good, (p.growth, (held, s.pre.1.1.1)))
+    (g.lines_good.good, (p.growth, (held, s.pre.1.1.1)))
 
 returns : tie.Need-returns
 returns c =
@@ -22,7 +22,7 @@ returns c =
     let s : tie.Start = search in
     let g = s.pre.0 in
     let p = s.pre.1.0 in
-    unheld-answer _ _ _ _ _ _ _ g.lines-good.few-marks g.lines-good.good g.held-good p.entered _ _
+    unheld_answer _ _ _ _ _ _ _ g.lines_good.few_marks g.lines_good.good g.held_good p.entered _ _
     after-hold-all.hold-all.ensures
     after-start-heights.start-heights.last.1.1.1.1.1.0 _ after-start-heights.start-heights.ensures _ _
     c.before.if1.true c.refuse.ensures
@@ -38,9 +38,9 @@ settle-lines-requires c κs =
     let held = after-hold-all.hold-all.ensures in
     let started = after-start-heights.start-heights.ensures in
     let at-work =
-    working _ _ _ _ _ _ _ g.lines-good.few-marks g.lines-good.good g.held-good p.entered _ _ held _ _ started
+    working _ _ _ _ _ _ _ g.lines_good.few_marks g.lines_good.good g.held_good p.entered _ _ held _ _ started
     (omega (arith, else1.if1.left)) in
-    (g.lines-good.good, (p.ordered, ((g.lines-good.a-mark, g.lines-good.few-marks), (at-work, omega (arith, held.flagged)))))
+    (g.lines_good.good, (p.ordered, ((g.lines_good.a_mark, g.lines_good.few_marks), (at-work, omega (arith, held.flagged)))))
 
 returns-2 : tie.Need-returns-2
 returns-2 c =
@@ -51,7 +51,7 @@ returns-2 c =
     let g = s.pre.0 in
     let p = s.pre.1.0 in
     let swept = c.before.before.settle-lines in
-    settled-answer _ _ _ _ _ _ _ g.lines-good.few-marks g.lines-good.good g.held-good p.entered _ _
+    settled_answer _ _ _ _ _ _ _ g.lines_good.few_marks g.lines_good.good g.held_good p.entered _ _
     after-hold-all.hold-all.ensures _ _
     after-start-heights.start-heights.ensures (omega (arith, else1.if1.left)) _ swept.result _ c.answer-of.ensures
     swept.ensures

@@ -1,4 +1,4 @@
-use Rattle.adjust.proofs.Calling.{call-done, call-refused}
+use Rattle.adjust.proofs.Calling.{call_done, call_refused}
 use borrow.Author.Rules.{rules}
 use Rattle.adjust.proofs.heights.adjust_by.Statement.{statement}
 use Rattle.adjust.proofs.heights.adjust_by.Tie as tie
@@ -9,7 +9,7 @@ returns c =
     let after-adjust-into : tie.After-adjust-into = search in
     let s : tie.Start = search in
     let a = after-adjust-into.adjust-into in
-    call-done s.args.book s.args.held.now s.args.lines.now s.args.heights.now a.result _ s.pre.1.1
+    call_done s.args.book s.args.held.now s.args.lines.now s.args.heights.now a.result _ s.pre.1.1
     a.ensures then1.if1.taken _ c.before.put.ensures
 
 returns-2 : tie.Need-returns-2
@@ -17,7 +17,7 @@ returns-2 c =
     let after-adjust-into : tie.After-adjust-into = search in
     let s : tie.Start = search in
     let a = after-adjust-into.adjust-into in
-    call-refused s.args.book s.args.held.now s.args.lines.now s.args.heights.now a.result _ s.pre.1.1
+    call_refused s.args.book s.args.held.now s.args.lines.now s.args.heights.now a.result _ s.pre.1.1
     a.ensures c.if1.false
 
 pub adjust-by-spec : {M : Type 1} → statement M

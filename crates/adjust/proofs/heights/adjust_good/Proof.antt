@@ -1,25 +1,25 @@
 use mathlib.Core.Path.{sym}
 use lib.IntN.{pos}
-use Rattle.start.proofs.Zeros.{so-many}
-use Rattle.adjust.proofs.Calling.{call-ten}
+use Rattle.start.proofs.Zeros.{so_many}
+use Rattle.adjust.proofs.Calling.{call_ten}
 use borrow.Author.Rules.{rules}
 use Rattle.adjust.proofs.heights.adjust_good.Statement.{statement}
 use Rattle.adjust.proofs.heights.adjust_good.Tie as tie
 
 returns : tie.Need-returns
 returns c =
-    let s = c.before.before in call-ten s.args.book s.args.held.now s.args.lines.now s.args.heights.now
+    let s = c.before.before in call_ten s.args.book s.args.held.now s.args.lines.now s.args.heights.now
     c.refuse.result c.before.if1.true c.refuse.ensures
 
 slice-aggregate-adjust-by : tie.Need-slice-aggregate-adjust-by
-slice-aggregate-adjust-by c = let s = c.before.before in sym (so-many (pos 0) s.args.book.marks 256 s.requires.lines-good.few-marks)
+slice-aggregate-adjust-by c = let s = c.before.before in sym (so_many (pos 0) s.args.book.marks 256 s.requires.lines_good.few_marks)
 
 adjust-by-requires : tie.Need-adjust-by-requires
 adjust-by-requires c κs =
     let s = c.before.before.before in (
       s.requires,
       (
-        so-many (pos 0) s.args.book.marks 256 s.requires.lines-good.few-marks,
+        so_many (pos 0) s.args.book.marks 256 s.requires.lines_good.few_marks,
         c.before.before.if1.false,
       ),
     )

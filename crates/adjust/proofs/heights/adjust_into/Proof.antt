@@ -7,7 +7,7 @@ adjust-in-requires c κs =
     let entry : tie.Start = search in (
       entry.pre.0,
       (
-        record { by-half = (search rules, search rules); by-mark = (search rules, search rules, search rules); tournament = search rules },
+        record { by_half = (search rules, search rules); by_mark = (search rules, search rules, search rules); tournament = search rules },
         entry.pre.1,
       ),
     )

@@ -1,20 +1,20 @@
 use mathlib.Core.Bool.{◌||◌}
 use mathlib.Core.Path.{◌≡◌, ◌∙◌}
-use Rattle.book.specs.Version.{versionOut}
-use Rattle.book.specs.Test.{bookOut, bookOf}
+use Rattle.book.specs.Version.{version_out}
+use Rattle.book.specs.Test.{book_out, book_of}
 use borrow.Author.Rules.{rules}
 use Rattle.book.proofs.Book.new.Statement.{statement}
 use Rattle.book.proofs.Book.new.Tie as tie
 
 -- the flags that the code has are the definition's tests
-known : (c : tie.After-outside-version) → c.outside-version.result ≡ versionOut c.before.args.version
+known : (c : tie.After-outside-version) → c.outside-version.result ≡ version_out c.before.args.version
 known c = c.outside-version.ensures ∙ search rules
 
 flag : (c : tie.After-outside-count2) → (let c₃ = c.before in let c₂ = c₃.before in let c₁ = c₂.before in
     let a = c₁.before.before.before.args in
     c₁.outside.result || c₂.outside-tolerance.result || c₃.outside-count.result || c.outside-count2.result
-    ≡ bookOut a.version a.b a.t a.h a.n)
-unfolding bookOut
+    ≡ book_out a.version a.b a.t a.h a.n)
+unfolding book_out
 flag c =
     let c₃ = c.before in
     let c₂ = c₃.before in
@@ -22,18 +22,18 @@ flag c =
     rw (c₁.outside.ensures, c₂.outside-tolerance.ensures, c₃.outside-count.ensures, c.outside-count2.ensures) (search rules)
 
 returns : tie.Need-returns
-unfolding bookOf
+unfolding book_of
 returns c = rw (← (known c.before.before), c.before.if1.true) c.refuse.ensures
 
 returns-2 : tie.Need-returns-2
-unfolding bookOf
+unfolding book_of
 returns-2 c =
     let outside = c.before.before in
     let v = outside.before.before.before.before in
     rw (← (known v.before), v.if1.false, ← (flag outside), c.before.if2.true) c.refuse2.ensures
 
 returns-3 : tie.Need-returns-3
-unfolding bookOf
+unfolding book_of
 returns-3 c =
     let m₂ = c.before in
     let m₁ = m₂.before in

@@ -1,19 +1,19 @@
 use mathlib.Core.Path.{◌≡◌, sym, ◌∙◌}
-use Rattle.book.specs.Version.{hasClasses, toleranceOut}
+use Rattle.book.specs.Version.{has_classes, tolerance_out}
 use borrow.Author.Rules.{rules}
 use Rattle.book.proofs.Book.outside_tolerance.Statement.{statement}
 use Rattle.book.proofs.Book.outside_tolerance.Tie as tie
 
 -- whether the version has classes, as the code and as the definition has it
-flag : (c : tie.After-has-classes) → c.has-classes.result ≡ hasClasses c.before.args.version
+flag : (c : tie.After-has-classes) → c.has-classes.result ≡ has_classes c.before.args.version
 flag c = c.has-classes.ensures ∙ search rules
 
 returns : tie.Need-returns
-unfolding toleranceOut
+unfolding tolerance_out
 returns c = rw (← (flag c.before.before), c.before.if1.true) (rw c.same.ensures (search rules))
 
 returns-2 : tie.Need-returns-2
-unfolding toleranceOut
+unfolding tolerance_out
 returns-2 c = rw (← (flag c.before.before), c.before.if1.false) (rw c.outside.ensures (search rules))
 
 pub outside-tolerance-spec : {M : Type 1} → statement M

@@ -1,11 +1,11 @@
 use mathlib.Core.Path.{◌∙◌}
-use Rattle.book.specs.Version.{versionOut}
+use Rattle.book.specs.Version.{version_out}
 use borrow.Author.Rules.{rules}
 use Rattle.book.proofs.Book.outside_version.Statement.{statement}
 use Rattle.book.proofs.Book.outside_version.Tie as tie
 
 returns : tie.Need-returns
-unfolding versionOut
+unfolding version_out
 returns c = c.outside.ensures ∙ search rules
 
 pub outside-version-spec : {M : Type 1} → statement M

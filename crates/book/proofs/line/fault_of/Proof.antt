@@ -1,7 +1,7 @@
 use mathlib.Core.Path.{◌≡◌, ◌∙◌}
-use Rattle.book.specs.Line.{entry_of, classFault}
+use Rattle.book.specs.Line.{entry_of, class_fault}
 use borrow.Author.Rules.{rules}
-use Rattle.book.proofs.Lines.{fault-refused, fault-good}
+use Rattle.book.proofs.Lines.{fault_refused, fault_good}
 use Rattle.book.proofs.line.fault_of.Statement.{statement}
 use Rattle.book.proofs.line.fault_of.Tie as tie
 
@@ -10,13 +10,13 @@ made : (c : tie.After-line-of) → c.Line-of.result ≡ entry_of c.before.args.b
 made c = c.Line-of.ensures ∙ search rules
 
 returns : tie.Need-returns
-returns c = fault-refused _ _ _ _ (made c.before.before.before) _ _ c.before.fault.given.1
+returns c = fault_refused _ _ _ _ (made c.before.before.before) _ _ c.before.fault.given.1
 
 returns-2 : tie.Need-returns-2
-unfolding classFault
+unfolding class_fault
 returns-2 c =
     let told : tie.After-enum-told = search in
-    rw (fault-good _ _ _ _ (made told.before.before) _ told.enum_told.given.1, c.first.ensures, c.before.outside.ensures)
+    rw (fault_good _ _ _ _ (made told.before.before) _ told.enum_told.given.1, c.first.ensures, c.before.outside.ensures)
     (search rules)
 
 pub fault-of-spec : {M : Type 1} → statement M

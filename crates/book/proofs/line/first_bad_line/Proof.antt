@@ -7,14 +7,14 @@ use lib.ListN.{length-take, length-drop}
 use borrow.Author.Tests.{lt-ltb, le-ltb}
 use mir.Syntax.{w64}
 use mir.Val.{to_z, of_z}
-use Rattle.laws.proofs.Scans.{Scanned, scan-start, scan-next, scan-stop, scan-end}
-use Rattle.book.specs.Line.{faultAt, lineBad, firstBadLine}
-use Rattle.book.proofs.Lines.{entry-fault}
+use Rattle.laws.proofs.Scans.{Scanned, scan_start, scan_next, scan_stop, scan_end}
+use Rattle.book.specs.Line.{fault_at, line_bad, first_bad_line}
+use Rattle.book.proofs.Lines.{entry_fault}
 use Rattle.book.proofs.line.first_bad_line.Statement.{statement}
 use Rattle.book.proofs.line.first_bad_line.Tie as tie
 
 abbrev invariant-loop : tie.invariant-loop
-invariant-loop lines version b n i₀ i = Scanned (lineBad (to_z w64 version) (to_z w64 b) lines) n i
+invariant-loop lines version b n i₀ i = Scanned (line_bad (to_z w64 version) (to_z w64 b) lines) n i
 
 abbrev decreases-loop : tie.decreases-loop
 decreases-loop lines version b n i₀ i = n - i
@@ -22,31 +22,31 @@ decreases-loop lines version b n i₀ i = n - i
 -- the number that the code has is the fault of the line at place i
 found : (c : tie.After-fault-of invariant-loop decreases-loop)
     → (let in-loop : tie.In-loop invariant-loop decreases-loop = search in let a = in-loop.before.before.args in
-    c.fault-of.result ≡ faultAt (to_z w64 (of_z w64 a.version)) (to_z w64 (of_z w64 a.b)) a.lines.now in-loop.before.loop.i)
+    c.fault-of.result ≡ fault_at (to_z w64 (of_z w64 a.version)) (to_z w64 (of_z w64 a.b)) a.lines.now in-loop.before.loop.i)
 found c =
     let in-loop : tie.In-loop invariant-loop decreases-loop = search in
     let a = in-loop.before.before.args in
     (simp add-sub_cancel_left at c.fault-of.ensures)
-    ∙ entry-fault (to_z w64 (of_z w64 a.version)) (to_z w64 (of_z w64 a.b)) a.lines.now in-loop.before.loop.i
+    ∙ entry_fault (to_z w64 (of_z w64 a.version)) (to_z w64 (of_z w64 a.b)) a.lines.now in-loop.before.loop.i
 
 returns : tie.Need-returns invariant-loop decreases-loop
-unfolding firstBadLine lineBad
+unfolding first_bad_line line_bad
 returns c =
     let in-loop : tie.In-loop invariant-loop decreases-loop = search in
     let i = in-loop.before.loop.i in
-    scan-stop _ _ i in-loop.loop-test.taken (rw (← (found c.before)) (lt-ltb _ _ c.if1.true)) in-loop.before.loop.inv
+    scan_stop _ _ i in-loop.loop-test.taken (rw (← (found c.before)) (lt-ltb _ _ c.if1.true)) in-loop.before.loop.inv
     ∙ search rules
 
 loop-again : tie.Need-loop-preserved invariant-loop decreases-loop
-unfolding lineBad
+unfolding line_bad
 loop-again c =
     let in-loop : tie.In-loop invariant-loop decreases-loop = search in
     let i = in-loop.before.loop.i in
-    scan-next _ _ i in-loop.loop-test.taken (rw (← (found c.before)) (le-ltb _ _ c.if1.false)) in-loop.before.loop.inv
+    scan_next _ _ i in-loop.loop-test.taken (rw (← (found c.before)) (le-ltb _ _ c.if1.false)) in-loop.before.loop.inv
 
 returns-2 : tie.Need-returns-2 invariant-loop decreases-loop
-unfolding firstBadLine
-returns-2 c = scan-end _ _ c.before.loop.i c.loop-test.false c.before.loop.invariant ∙ search rules
+unfolding first_bad_line
+returns-2 c = scan_end _ _ c.before.loop.i c.loop-test.false c.before.loop.invariant ∙ search rules
 
 pub first-bad-line-spec : {M : Type 1} → statement M
 first-bad-line-spec =
@@ -54,7 +54,7 @@ first-bad-line-spec =
     (tie.spec
     invariant-loop
     decreases-loop
-    (λ c. scan-start _ _)  -- loop-holds
+    (λ c. scan_start _ _)  -- loop-holds
     (λ c. omega arith)  -- mul-at
     (λ c. omega arith)  -- add-fault-of
     (λ c. omega arith)  -- mul-fault-of

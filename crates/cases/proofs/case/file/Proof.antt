@@ -4,8 +4,8 @@ use Prim.Native.Nat.{◌-◌}
 use lib.ListN.{length, drop, length-drop}
 use lib.Seq.{take_all}
 use borrow.Author.Rules.{rules}
-use Rattle.cases.specs.Case.{headBytes}
-use Rattle.cases.proofs.Most.{drop-most}
+use Rattle.cases.specs.Case.{head_bytes}
+use Rattle.cases.proofs.Most.{drop_most}
 use Rattle.cases.proofs.case.file.Statement.{statement}
 use Rattle.cases.proofs.case.file.Tie as tie
 
@@ -15,7 +15,7 @@ returns c =
     let most : tie.After-at-most = search in
     take_all (length s.args.case.now - most.at_most.result) (drop most.at_most.result s.args.case.now)
     (simp length-drop (omega arith))
-    ∙ drop-most _ (headBytes s.args.numbers) s.args.case.now most.at_most.ensures
+    ∙ drop_most _ (head_bytes s.args.numbers) s.args.case.now most.at_most.ensures
 
 pub file-spec : {M : Type 1} → statement M
 file-spec =

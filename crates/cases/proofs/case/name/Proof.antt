@@ -1,13 +1,13 @@
 use native.Mathlib.Omega.{arith}
 use borrow.Author.Rules.{rules}
 use lib.ListN.{length-take}
-use Rattle.cases.proofs.Most.{take-most}
+use Rattle.cases.proofs.Most.{take_most}
 use Rattle.cases.proofs.case.name.Statement.{statement}
 use Rattle.cases.proofs.case.name.Tie as tie
 
 returns : tie.Need-returns
 returns c =
-    let s : tie.Start = search in let most : tie.After-at-most = search in take-most _ 48 s.args.case.now most.at_most.ensures
+    let s : tie.Start = search in let most : tie.After-at-most = search in take_most _ 48 s.args.case.now most.at_most.ensures
 
 pub name-spec : {M : Type 1} → statement M
 name-spec = tie.close (tie.spec (λ c κs. search rules) (λ c. simp length-take (omega (arith, c.before.at_most.ensures))) returns)

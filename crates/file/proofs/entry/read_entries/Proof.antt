@@ -5,7 +5,7 @@ use Prim.Native.Nat.{◌+◌, ◌*◌, ◌-◌, ◌≤◌}
 use native.Mathlib.Omega.{arith}
 use lib.ListN.{length, drop, length-take, length-drop}
 use Rattle.file.specs.Entry.{entries}
-use Rattle.file.proofs.Entries.{room_for, entries-pour}
+use Rattle.file.proofs.Entries.{room_for, entries_pour}
 use Rattle.file.proofs.entry.read_entries.Statement.{statement}
 use Rattle.file.proofs.entry.read_entries.Tie as tie
 
@@ -49,7 +49,7 @@ loop-again c =
     let g = b.before.before.args in (
       omega arith,
       c.out.given.1 ∙ l.loop.invariant.1,
-      entries-pour g.kind g.file.now g.a b.bytes.result w.words.result b.bytes.ensures w.words.ensures
+      entries_pour g.kind g.file.now g.a b.bytes.result w.words.result b.bytes.ensures w.words.ensures
           g.out.now l.loop.out _ l.loop.i l.loop.invariant.2 entered.read-entry.ensures,
     )
 

@@ -5,13 +5,13 @@ use mir.Syntax.{w64}
 use mir.Val.{to_z}
 use Rattle.laws.proofs.Signed.{stored}
 use Rattle.laws.proofs.Lists.{filled}
-use Rattle.file.specs.Entry.{heldNumbers}
+use Rattle.file.specs.Entry.{held_numbers}
 use borrow.Author.Rules.{rules}
 use Rattle.file.proofs.entry.read_held.Statement.{statement}
 use Rattle.file.proofs.entry.read_held.Tie as tie
 
 returns : tie.Need-returns
-unfolding heldNumbers
+unfolding held_numbers
 returns c =
     let c₃ = c.before in
     let c₂ = c₃.before in

@@ -8,13 +8,13 @@ use mir.Val.{to_z}
 use mir.Facts.{to_z-of_z}
 use Rattle.laws.proofs.Signed.{stored}
 use Rattle.laws.proofs.Lists.{filled}
-use Rattle.file.specs.Entry.{lineNumbers}
+use Rattle.file.specs.Entry.{line_numbers}
 use borrow.Author.Rules.{rules}
 use Rattle.file.proofs.entry.read_line.Statement.{statement}
 use Rattle.file.proofs.entry.read_line.Tie as tie
 
 returns : tie.Need-returns
-unfolding lineNumbers
+unfolding line_numbers
 returns c =
     let c₇ = c.before in
     let c₆ = c₇.before in

@@ -1,5 +1,5 @@
 use native.Mathlib.Omega.{arith}
-use Rattle.file.proofs.BigEndian.{be-join}
+use Rattle.file.proofs.BigEndian.{be_join}
 use borrow.Author.Rules.{rules}
 use Rattle.file.proofs.wire.be8.Statement.{statement}
 use Rattle.file.proofs.wire.be8.Tie as tie
@@ -7,7 +7,7 @@ use Rattle.file.proofs.wire.be8.Tie as tie
 returns : tie.Need-returns
 returns c =
     let a = c.before.before.before.args in
-    let j = be-join 4 4 a.s.now a.a in
+    let j = be_join 4 4 a.s.now a.a in
     omega arith
 
 pub be8-spec : {M : Type 1} → statement M

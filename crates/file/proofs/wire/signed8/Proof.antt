@@ -5,7 +5,7 @@ use lib.IntN.{ℤ, pos, negsuc, ◌-ℤ◌}
 use mir.Syntax.{w64}
 use mir.Val.{to_z}
 use mir.Facts.{to_z_pos, to_z-of_z}
-use Rattle.file.proofs.BigEndian.{high64, minus-one-less}
+use Rattle.file.proofs.BigEndian.{high64, minus_one_less}
 use borrow.Author.Rules.{rules}
 use Rattle.file.proofs.wire.signed8.Statement.{statement}
 use Rattle.file.proofs.wire.signed8.Tie as tie
@@ -15,7 +15,7 @@ sub-result-2 c =
     let x = c.before.args.x in
     let m = 18446744073709551615 - x in
     let e : to_z w64 m ≡ pos m = to_z_pos w64 (omega arith) in
-    rw (e, minus-one-less m) (record { sfits = omega arith })
+    rw (e, minus_one_less m) (record { sfits = omega arith })
 
 returns-2 : tie.Need-returns-2
 returns-2 c =
@@ -25,7 +25,7 @@ returns-2 c =
     let f : to_z w64 m ≡ pos m = to_z_pos w64 (omega arith) in
     to_z-of_z (sub-result-2 c)
     ∙ ap (λ (z : ℤ). negsuc 0 -ℤ z) f
-    ∙ minus-one-less m
+    ∙ minus_one_less m
     ∙ ap negsuc e
     ∙ sym (high64 x c.if1.false)
 

@@ -1,7 +1,7 @@
 use Prim.Native.Nat.{◌-◌, ◌≤◌}
 use native.Mathlib.Omega.{arith}
 use lib.ListN.{length}
-use Rattle.joins.proofs.Counted.{CountedTo, counted_start, counted_next, counted-end, first-asked, last-asked}
+use Rattle.joins.proofs.Counted.{CountedTo, counted_start, counted_next, counted_end, first_asked, last_asked}
 use Rattle.joins.proofs.ends.count.Statement.{statement}
 use Rattle.joins.proofs.ends.count.Tie as tie
 
@@ -20,7 +20,7 @@ one-more-requires c κs =
     let at-loop : tie.At-loop invariant-loop decreases-loop = search in
     let p = (entry_of at-loop).pre in
     let v = at-loop.loop.inv in
-    first-asked _ _ _ _ p.0 p.1 in-loop.loop-test.taken v.1 _ c.first.ensures
+    first_asked _ _ _ _ p.0 p.1 in-loop.loop-test.taken v.1 _ c.first.ensures
 
 one-more-requires-2 : tie.Need-one-more-requires-2 invariant-loop decreases-loop
 one-more-requires-2 c κs =
@@ -30,7 +30,7 @@ one-more-requires-2 c κs =
     let at-loop : tie.At-loop invariant-loop decreases-loop = search in
     let p = (entry_of at-loop).pre in
     let v = at-loop.loop.inv in
-    last-asked _ _ _ _ p.0 p.1 in-loop.loop-test.taken v.1 _ after_first.first.ensures
+    last_asked _ _ _ _ p.0 p.1 in-loop.loop-test.taken v.1 _ after_first.first.ensures
     _ after_one.one_more.ensures _ c.last.ensures
 
 loop-again : tie.Need-loop-preserved invariant-loop decreases-loop
@@ -68,4 +68,4 @@ count_spec =
     (λ c. omega arith)  -- loop-less
     loop-again
     (λ c. c.before.loop.invariant.1.as_long)  -- same-length
-    (λ c. counted-end _ _ _ _ c.loop-test.false c.before.loop.invariant.1))  -- returns
+    (λ c. counted_end _ _ _ _ c.loop-test.false c.before.loop.invariant.1))  -- returns

@@ -4,13 +4,13 @@ use mathlib.Core.Path.{sym, ◌∙◌}
 use mathlib.Core.Bool.{Bool}
 use mathlib.Core.List.{List}
 use lib.ListN.{length, get_or}
-use Rattle.laws.proofs.Scans.{Scanned, scan-start, scan-next, scan-stop, scan-end}
-use Rattle.joins.specs.Row.{rowHasEnd}
+use Rattle.laws.proofs.Scans.{Scanned, scan_start, scan_next, scan_stop, scan_end}
+use Rattle.joins.specs.Row.{row_has_end}
 use Rattle.joins.proofs.ends.link_at.Statement.{statement}
 use Rattle.joins.proofs.ends.link_at.Tie as tie
 
 abbrev isIt : List ℕ → ℕ → ℕ → Bool
-isIt rows m i = rowHasEnd m (get_or rows i 0)
+isIt rows m i = row_has_end m (get_or rows i 0)
 
 abbrev invariant-loop : tie.invariant-loop
 invariant-loop rows m i₀ i = (i ≤ length rows) × Scanned (isIt rows m) (length rows) i
@@ -21,17 +21,17 @@ decreases-loop rows m i₀ i = length rows - i
 loop-holds : tie.Need-loop-init invariant-loop decreases-loop
 loop-holds c =
     let args = c.before.args in
-    (omega arith, scan-start (isIt args.rows.now args.m) (length args.rows.now))
+    (omega arith, scan_start (isIt args.rows.now args.m) (length args.rows.now))
 
 returns : tie.Need-returns invariant-loop decreases-loop
 returns c =
     let at-loop : tie.At-loop invariant-loop decreases-loop = search in
-    scan-stop _ _ _ (omega arith) (sym c.before.has_end.ensures ∙ c.if1.true) at-loop.loop.inv.1
+    scan_stop _ _ _ (omega arith) (sym c.before.has_end.ensures ∙ c.if1.true) at-loop.loop.inv.1
 
 loop-again : tie.Need-loop-preserved invariant-loop decreases-loop
 loop-again c =
     let at-loop : tie.At-loop invariant-loop decreases-loop = search in
-    (omega arith, scan-next _ _ _ (omega arith) (sym c.before.has_end.ensures ∙ c.if1.false) at-loop.loop.inv.1)
+    (omega arith, scan_next _ _ _ (omega arith) (sym c.before.has_end.ensures ∙ c.if1.false) at-loop.loop.inv.1)
 
 pub link-at-spec : {M : Type 1} → statement M
 link-at-spec =
@@ -48,4 +48,4 @@ link-at-spec =
     (λ c. omega arith)  -- add-i
     (λ c. omega arith)  -- loop-less
     loop-again
-    (λ c. scan-end _ _ _ c.loop-test.false c.before.loop.invariant.1))  -- returns-2
+    (λ c. scan_end _ _ _ c.loop-test.false c.before.loop.invariant.1))  -- returns-2

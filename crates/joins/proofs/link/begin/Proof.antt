@@ -2,7 +2,7 @@ use native.Mathlib.Omega.{arith}
 use mathlib.Core.Path.{sym}
 use lib.Seq.{length-take-le}
 use borrow.Author.Rules.{rules}
-use Rattle.joins.proofs.Moves.{begun-in}
+use Rattle.joins.proofs.Moves.{begun_in}
 use Rattle.joins.proofs.link.begin.Statement.{statement}
 use Rattle.joins.proofs.link.begin.Tie as tie
 
@@ -16,7 +16,7 @@ returns c = λ before x after at_i h.
     let after-lines : tie.After-lines = search in
     let after-count : tie.After-count = search in
     let after-begin : tie.After-begin-lowest = search in
-    begun-in before x after _ _ _ at_i h _ _ after-lines.lines.ensures after-count.count.ensures
+    begun_in before x after _ _ _ at_i h _ _ after-lines.lines.ensures after-count.count.ensures
     _ after-begin.begin-lowest.ensures
 
 pub begin-spec : {M : Type 1} → statement M

@@ -3,7 +3,7 @@ use lib.Dec.{leb}
 use borrow.Author.Rules.{rules}
 use borrow.Author.Tests.{le-leb, lt-leb}
 use native.Mathlib.Omega.{arith}
-use Rattle.joins.proofs.Moves.{first-at, last-at, turns-it, lets-it}
+use Rattle.joins.proofs.Moves.{first_at, last_at, turns_it, lets_it}
 use Rattle.joins.proofs.link.lower_first.Statement.{statement}
 use Rattle.joins.proofs.link.lower_first.Tie as tie
 
@@ -13,10 +13,10 @@ returns c =
     let then1 : tie.Then1 = search in
     let after_first : tie.After-first = search in
     let after_last : tie.After-last = search in
-    turns-it (λ x. leb x.first x.last) _ _ _
+    turns_it (λ x. leb x.first x.last) _ _ _
     (λ before x after e h.
-    let f = after_first.first.ensures ∙ first-at before x after _ _ _ e h in
-    let l = after_last.last.ensures ∙ last-at before x after _ _ _ e h in
+    let f = after_first.first.ensures ∙ first_at before x after _ _ _ e h in
+    let l = after_last.last.ensures ∙ last_at before x after _ _ _ e h in
     lt-leb x.first x.last (omega (arith, then1.if1.taken)))
     _ _ after_turn.turn.ensures
 
@@ -24,10 +24,10 @@ returns-2 : tie.Need-returns-2
 returns-2 c =
     let after_first : tie.After-first = search in
     let after_last : tie.After-last = search in
-    lets-it (λ x. leb x.first x.last) _ _ _
+    lets_it (λ x. leb x.first x.last) _ _ _
     (λ before x after e h.
-    let f = after_first.first.ensures ∙ first-at before x after _ _ _ e h in
-    let l = after_last.last.ensures ∙ last-at before x after _ _ _ e h in
+    let f = after_first.first.ensures ∙ first_at before x after _ _ _ e h in
+    let l = after_last.last.ensures ∙ last_at before x after _ _ _ e h in
     le-leb x.first x.last (omega (arith, c.if1.false)))
 
 pub lower-first-spec : {M : Type 1} → statement M

@@ -2,7 +2,7 @@ use native.Mathlib.Omega.{arith}
 use mathlib.Core.Path.{sym}
 use lib.Seq.{length-take-le}
 use borrow.Author.Rules.{rules}
-use Rattle.joins.proofs.Moves.{behind-in}
+use Rattle.joins.proofs.Moves.{behind_in}
 use Rattle.joins.proofs.link.move_behind.Statement.{statement}
 use Rattle.joins.proofs.link.move_behind.Tie as tie
 
@@ -18,8 +18,8 @@ returns c = λ before x after later at_i up_to_lem h.
     let after-mid : tie.After-lines2 = search in
     let after-rows : tie.After-first-to-end = search in
     let after-runs : tie.After-begin-at = search in
-    behind-in before x after later _ _ _ _ at_i up_to_lem h _ _ _ after-lines.lines.ensures after-count.count.ensures
-    after-mid.lines2.ensures _ after-rows.first-to-end.ensures _ after-runs.begin-at.ensures
+    behind_in before x after later _ _ _ _ at_i up_to_lem h _ _ _ after-lines.lines.ensures after-count.count.ensures
+    after-mid.lines2.ensures _ after-rows.first-to-end.ensures _ after-runs.begin_at.ensures
 
 pub move-behind-spec : {M : Type 1} → statement M
 move-behind-spec =

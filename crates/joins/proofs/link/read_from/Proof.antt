@@ -2,7 +2,7 @@ use mathlib.Core.Path.{sym, ◌∙◌}
 use lib.Dec.{eqb}
 use borrow.Author.Rules.{rules}
 use borrow.Author.Tests.{eq-eqb, ne_eqb}
-use Rattle.joins.proofs.Moves.{first-at, turns-it, lets-it}
+use Rattle.joins.proofs.Moves.{first_at, turns_it, lets_it}
 use Rattle.joins.proofs.link.read_from.Statement.{statement}
 use Rattle.joins.proofs.link.read_from.Tie as tie
 
@@ -12,16 +12,16 @@ returns c =
     let then1 : tie.Then1 = search in
     let after_first : tie.After-first = search in
     let entry : tie.Start = search in
-    turns-it (λ x. eqb x.first entry.args.m) _ _ _
-    (λ before x after e h. ne_eqb _ _ (λ z. then1.if1.taken (after_first.first.ensures ∙ first-at before x after _ _ _ e h ∙ z)))
+    turns_it (λ x. eqb x.first entry.args.m) _ _ _
+    (λ before x after e h. ne_eqb _ _ (λ z. then1.if1.taken (after_first.first.ensures ∙ first_at before x after _ _ _ e h ∙ z)))
     _ _ after_turn.turn.ensures
 
 returns-2 : tie.Need-returns-2
 returns-2 c =
     let after_first : tie.After-first = search in
     let entry : tie.Start = search in
-    lets-it (λ x. eqb x.first entry.args.m) _ _ _
-    (λ before x after e h. eq-eqb _ _ (sym (after_first.first.ensures ∙ first-at before x after _ _ _ e h) ∙ c.if1.false))
+    lets_it (λ x. eqb x.first entry.args.m) _ _ _
+    (λ before x after e h. eq-eqb _ _ (sym (after_first.first.ensures ∙ first_at before x after _ _ _ e h) ∙ c.if1.false))
 
 pub read-from-spec : {M : Type 1} → statement M
 read-from-spec =

@@ -2,7 +2,7 @@ use native.Mathlib.Omega.{arith}
 use mathlib.Core.Path.{sym}
 use lib.Seq.{length-take-le}
 use borrow.Author.Rules.{rules}
-use Rattle.joins.proofs.Moves.{turned-in}
+use Rattle.joins.proofs.Moves.{turned_in}
 use Rattle.joins.proofs.link.turn.Statement.{statement}
 use Rattle.joins.proofs.link.turn.Tie as tie
 
@@ -19,7 +19,7 @@ returns c = λ before x after at_i h.
     let after_first : tie.After-first = search in
     let after-new : tie.After-new = search in
     let after_turn : tie.After-turn = search in
-    turned-in before x after _ _ _ at_i h _ _ _ _ _ after_last.last.ensures after_first.first.ensures after-lines.lines.ensures
+    turned_in before x after _ _ _ at_i h _ _ _ _ _ after_last.last.ensures after_first.first.ensures after-lines.lines.ensures
     after-count.count.ensures after-new.new.ensures _ after_turn.turn.ensures
 
 pub turn_spec : {M : Type 1} → statement M

@@ -3,7 +3,7 @@ use native.Mathlib.Omega.{arith}
 use mathlib.Core.Path.{sym}
 use lib.Seq.{length-take-le}
 use borrow.Author.Rules.{rules}
-use Rattle.joins.proofs.Taking.{one-there, one-before, one-asked, other-before, other-asked, both-asked, merged}
+use Rattle.joins.proofs.Taking.{one_there, one_before, one_asked, other_before, other_asked, both_asked, merged}
 use Rattle.joins.proofs.merge.at.Statement.{statement}
 use Rattle.joins.proofs.merge.at.Tie as tie
 
@@ -13,7 +13,7 @@ first-in : (c : tie.After-link-at) → (let entry : tie.Start = search in
 first-in c =
     let entry : tie.Start = search in
     let p = entry.pre.1.1 in
-    (one-there _ p.tabled p.two _ c.link_at.ensures, one-before _ p.tabled p.two _ c.link_at.ensures)
+    (one_there _ p.tabled p.two _ c.link_at.ensures, one_before _ p.tabled p.two _ c.link_at.ensures)
 
 abbrev entry_of : tie.After-link-at → tie.Start
 entry_of c = search
@@ -21,13 +21,13 @@ entry_of c = search
 sub-i : tie.Need-overflow-sub-i
 sub-i c =
     let entry : tie.Start = search in
-    one-there _ entry.pre.1.1.tabled entry.pre.1.1.two _ c.link_at.ensures
+    one_there _ entry.pre.1.1.tabled entry.pre.1.1.two _ c.link_at.ensures
 
 add-j : tie.Need-overflow-add-j
 add-j c =
     let after-link : tie.After-link-at = search in
     let p = (entry_of after-link).pre in
-    omega (arith, p.0, other-before _ p.1.1.tabled p.1.1.two _ after-link.link_at.ensures _ c.link-at2.ensures)
+    omega (arith, p.0, other_before _ p.1.1.tabled p.1.1.two _ after-link.link_at.ensures _ c.link-at2.ensures)
 
 sub-t12 : tie.Need-overflow-sub-t12
 sub-t12 c =
@@ -35,14 +35,14 @@ sub-t12 c =
     let after-from : tie.After-read-from = search in
     let after-to : tie.After-read-to = search in
     let after-link : tie.After-link-at = search in
-    (entry_of after-link).pre.1.1.some-link
+    (entry_of after-link).pre.1.1.some_link
 
 read-to-requires : tie.Need-read-to-requires
 read-to-requires c κs =
     let after_next : tie.After-link-at2 = search in
     let after-link : tie.After-link-at = search in
     let p = (entry_of after-link).pre in
-    one-asked _ p.1.1.tabled p.1.1.two _ after-link.link_at.ensures _ after_next.link-at2.ensures p.0.few
+    one_asked _ p.1.1.tabled p.1.1.two _ after-link.link_at.ensures _ after_next.link-at2.ensures p.0.few
 
 read-from-requires : tie.Need-read-from-requires
 read-from-requires c κs =
@@ -50,7 +50,7 @@ read-from-requires c κs =
     let after_next : tie.After-link-at2 = search in
     let after-link : tie.After-link-at = search in
     let p = (entry_of after-link).pre in
-    other-asked _ p.1.1.tabled p.1.1.two _ after-link.link_at.ensures _ after_next.link-at2.ensures
+    other_asked _ p.1.1.tabled p.1.1.two _ after-link.link_at.ensures _ after_next.link-at2.ensures
     _ _ after-to.read-to.ensures (omega (arith, after-to.read-to.kept.0, p.0.few))
 
 join-requires : tie.Need-join-requires
@@ -60,7 +60,7 @@ join-requires c κs =
     let after_next : tie.After-link-at2 = search in
     let after-link : tie.After-link-at = search in
     let p = (entry_of after-link).pre in
-    both-asked _ p.1.1.tabled p.1.1.two _ after-link.link_at.ensures _ after_next.link-at2.ensures
+    both_asked _ p.1.1.tabled p.1.1.two _ after-link.link_at.ensures _ after_next.link-at2.ensures
     _ _ after-to.read-to.ensures _ _ after-from.read-from.ensures
     (omega (arith, after-from.read-from.kept.0, after-to.read-to.kept.0, p.0.few))
     (omega (arith, after-from.read-from.kept.1, after-to.read-to.kept.1, p.1.0))

@@ -47,7 +47,7 @@ returns c = λ before x between y after at_i at_j up_to_lem h.
     let entry = entry_of after-other in
     joined_in before x between y after _ _ _ _ _ at_i at_j up_to_lem h entry.pre.both _ _ _ _ _ _ _ after_first.first.ensures
     after_last.last.ensures after_one.count2.ensures after-other.count.ensures after-lines.lines.ensures
-    after-between.lines2.ensures after-new.new.ensures _ after-rows.first-to-end.ensures _ after-runs.begin-at.ensures
+    after-between.lines2.ensures after-new.new.ensures _ after-rows.first-to-end.ensures _ after-runs.begin_at.ensures
 
 pub join-spec : {M : Type 1} → statement M
 join-spec =

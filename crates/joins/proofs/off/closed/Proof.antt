@@ -1,5 +1,5 @@
 use borrow.Author.Rules.{rules}
-use Rattle.joins.proofs.Taking.{loop-asked, loop-lines, loop-moves, loop-taken}
+use Rattle.joins.proofs.Taking.{loop_asked, loop_lines, loop_moves, loop_taken}
 use Rattle.joins.proofs.off.closed.Statement.{statement}
 use Rattle.joins.proofs.off.closed.Tie as tie
 
@@ -7,20 +7,20 @@ begin-requires : tie.Need-begin-requires
 begin-requires c κs =
     let entry : tie.Start = search in
     let p = entry.pre.1 in
-    (loop-asked p.tabled p.first entry.pre.0.few, loop-lines p.tabled p.first p.some-line)
+    (loop_asked p.tabled p.first entry.pre.0.few, loop_lines p.tabled p.first p.some_line)
 
 move-behind-requires : tie.Need-move-behind-requires
 move-behind-requires c κs =
     let after-begin : tie.After-begin = search in
     let entry : tie.Start = search in
     let p = entry.pre.1 in
-    loop-moves p.tabled p.first _ after-begin.begin.ensures entry.pre.0.few
+    loop_moves p.tabled p.first _ after-begin.begin.ensures entry.pre.0.few
 
 returns : tie.Need-returns
 returns c = λ s t x f.
     let after-move : tie.After-move-behind = search in
     let after-begin : tie.After-begin = search in
-    loop-taken t f _ after-begin.begin.ensures _ _ after-move.move-behind.ensures
+    loop_taken t f _ after-begin.begin.ensures _ _ after-move.move-behind.ensures
 
 pub closed-spec : {M : Type 1} → statement M
 closed-spec =

@@ -1,10 +1,10 @@
 use borrow.Author.Rules.{rules}
-use Rattle.joins.specs.Row.{rowCloses}
+use Rattle.joins.specs.Row.{row_closes}
 use Rattle.joins.proofs.row.closes.Statement.{statement}
 use Rattle.joins.proofs.row.closes.Tie as tie
 
 returns : tie.Need-returns
-unfolding rowCloses
+unfolding row_closes
 returns c = rw (c.before.first.ensures, c.last.ensures)
 
 pub closes-spec : {M : Type 1} → statement M

@@ -2,13 +2,13 @@ use Prim.Native.Nat.{◌+◌, ◌*◌, ◌-◌, ◌≤◌}
 use native.Mathlib.Omega.{arith}
 use mathlib.Core.Path.{◌≡◌}
 use lib.ListN.{length, drop}
-use Rattle.joins.specs.Row.{rowLimit, row_lines}
+use Rattle.joins.specs.Row.{row_limit, row_lines}
 use Rattle.joins.proofs.Sums.{lines_next, lines_end}
 use Rattle.joins.proofs.row.lines.Statement.{statement}
 use Rattle.joins.proofs.row.lines.Tie as tie
 
 abbrev invariant-loop : tie.invariant-loop
-invariant-loop rows sum₀ i₀ sum i = (i ≤ length rows) × (sum + row_lines (drop i rows) ≡ row_lines rows) × (sum ≤ i * rowLimit)
+invariant-loop rows sum₀ i₀ sum i = (i ≤ length rows) × (sum + row_lines (drop i rows) ≡ row_lines rows) × (sum ≤ i * row_limit)
 
 abbrev decreases-loop : tie.decreases-loop
 decreases-loop rows sum₀ i₀ sum i = length rows - i

@@ -1,7 +1,7 @@
 use mathlib.Core.Path.{sym}
 use lib.Seq.{length-take-le}
 use borrow.Author.Rules.{rules}
-use Rattle.joins.proofs.Codes.{parts-turned}
+use Rattle.joins.proofs.Codes.{parts_turned}
 use Rattle.joins.proofs.run.begin_at.Statement.{statement}
 use Rattle.joins.proofs.run.begin_at.Tie as tie
 
@@ -11,7 +11,7 @@ returns c =
     let after-second : tie.After-turn2 = search in
     let after_first : tie.After-turn = search in
     let entry : tie.Start = search in
-    parts-turned entry.args.run.now entry.args.k entry.pre
+    parts_turned entry.args.run.now entry.args.k entry.pre
     _ after_first.turn.ensures _ after-second.turn2.ensures _ after-third.turn3.ensures
 
 pub begin-at-spec : {M : Type 1} → statement M

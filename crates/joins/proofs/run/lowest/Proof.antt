@@ -2,7 +2,7 @@ use Prim.Native.Nat.{◌+◌, ◌-◌, ◌≤◌, ◌<◌}
 use native.Mathlib.Omega.{arith}
 use mathlib.Core.Logic.{⊎_elim}
 use lib.ListN.{length}
-use Rattle.joins.proofs.Lowest.{LowestTo, lowest_start, lowest-lower, lowest-not, lowest-end}
+use Rattle.joins.proofs.Lowest.{LowestTo, lowest_start, lowest_lower, lowest_not, lowest_end}
 use Rattle.joins.proofs.run.lowest.Statement.{statement}
 use Rattle.joins.proofs.run.lowest.Tie as tie
 
@@ -18,8 +18,8 @@ loop-again c =
     let t = at-loop.loop.inv.2 in
     let entry : tie.Start invariant-loop decreases-loop = search in
     let now : LowestTo entry.args.run.now c.if1.k (at-loop.loop.i + 1) =
-    ⊎_elim (λ w. rw w.1 (lowest-lower _ _ _ t w.0.taken)) (λ w. rw w.1 (lowest-not _ _ _ t w.0.left)) c.if1.branch in
-    (omega arith, now.isThere, now)
+    ⊎_elim (λ w. rw w.1 (lowest_lower _ _ _ t w.0.taken)) (λ w. rw w.1 (lowest_not _ _ _ t w.0.left)) c.if1.branch in
+    (omega arith, now.is_there, now)
 
 pub lowest-spec : {M : Type 1} → statement M
 lowest-spec =
@@ -35,4 +35,4 @@ lowest-spec =
     (λ c. omega arith)  -- add-i
     (λ c. omega arith)  -- loop-less
     loop-again
-    (λ c. lowest-end _ _ _ (omega arith) c.before.loop.invariant.2))  -- returns
+    (λ c. lowest_end _ _ _ (omega arith) c.before.loop.invariant.2))  -- returns

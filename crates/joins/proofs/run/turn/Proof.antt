@@ -2,7 +2,7 @@ use Prim.Native.Nat.{◌+◌, ◌-◌, ◌≤◌}
 use native.Mathlib.Omega.{arith}
 use mathlib.Core.Path.{◌≡◌}
 use lib.ListN.{length, length-set}
-use Rattle.joins.proofs.Turned.{TurnedTo, turned-start, turned-next, turned-end}
+use Rattle.joins.proofs.Turned.{TurnedTo, turned_start, turned_next, turned_end}
 use Rattle.joins.proofs.run.turn.Statement.{statement}
 use Rattle.joins.proofs.run.turn.Tie as tie
 
@@ -20,7 +20,7 @@ loop-again c =
       simp length-set (omega arith),
       omega arith,
       rw (after-flip.flip.ensures, c.flip2.ensures)
-          (turned-next _ _ at-loop.loop.i _ at-loop.loop.inv.3 (omega arith) (omega arith)),
+          (turned_next _ _ at-loop.loop.i _ at-loop.loop.inv.3 (omega arith) (omega arith)),
     )
 
 pub turn_spec : {M : Type 1} → statement M
@@ -29,7 +29,7 @@ turn_spec =
     (tie.spec
     invariant-loop
     decreases-loop
-    (λ c. (omega arith, omega arith, omega arith, turned-start _))  -- loop-holds
+    (λ c. (omega arith, omega arith, omega arith, turned_start _))  -- loop-holds
     (λ c. omega arith)  -- sub-loop
     (λ c. omega arith)  -- sub-j
     (λ c. omega arith)  -- sub-j-2
@@ -47,4 +47,4 @@ turn_spec =
     (λ c. omega arith)  -- loop-less
     loop-again
     (λ c. omega arith)  -- same-length
-    (λ c. turned-end _ _ c.before.loop.i (omega arith) c.before.loop.invariant.3))  -- returns
+    (λ c. turned_end _ _ c.before.loop.i (omega arith) c.before.loop.invariant.3))  -- returns

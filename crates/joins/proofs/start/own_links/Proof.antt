@@ -3,13 +3,13 @@ use native.Mathlib.Omega.{arith}
 use mathlib.Core.Path.{◌≡◌, refl, sym, ◌∙◌}
 use lib.IntN.{pos}
 use lib.ListN.{length, length-set}
-use Rattle.laws.specs.Tests.{eqZ}
+use Rattle.laws.specs.Tests.{eq_z}
 use Rattle.laws.proofs.Signed.{back}
-use Rattle.book.specs.Limits.{mostLines}
-use Rattle.book.specs.Line.{standingAt}
+use Rattle.book.specs.Limits.{most_lines}
+use Rattle.book.specs.Line.{standing_at}
 use Rattle.fields.specs.Places.{Place}
-use Rattle.fields.proofs.Stands.{place-of}
-use Rattle.joins.proofs.Starting.{BegunTo, begun-start, begun-not, begun-next, begun-end}
+use Rattle.fields.proofs.Stands.{place_of_lem}
+use Rattle.joins.proofs.Starting.{BegunTo, begun_start, begun_not, begun_next, begun_end}
 use Rattle.joins.proofs.start.own_links.Statement.{statement}
 use Rattle.joins.proofs.start.own_links.Tie as tie
 
@@ -26,15 +26,15 @@ entry_of c = search
 -- the line that is looked at
 good : (c : tie.In-loop invariant-loop decreases-loop) → Place (entry_of c.before).args.lines.now (entry_of c.before).args.book.marks
     (entry_of c.before).args.book.lines c.before.loop.i
-good c = place-of _ _ _ _ (entry_of c.before).pre.0.good c.loop-test.true
+good c = place_of_lem _ _ _ _ (entry_of c.before).pre.0.good c.loop-test.true
 
 -- and whether it is withdrawn
 withdrawn : (c : tie.After-same invariant-loop decreases-loop) → (let at-loop : tie.At-loop invariant-loop decreases-loop = search in
-    c.same.result ≡ eqZ (standingAt (entry_of at-loop).args.lines.now at-loop.loop.i) (pos 0))
+    c.same.result ≡ eq_z (standing_at (entry_of at-loop).args.lines.now at-loop.loop.i) (pos 0))
 withdrawn c = c.same.ensures ∙ rw (back _ c.before.same-arg.given)
 
 -- there is a place for its link
-room : (c : tie.In-loop invariant-loop decreases-loop) → (c.before.loop.links < mostLines) × (c.before.loop.links < length c.before.loop.rows)
+room : (c : tie.In-loop invariant-loop decreases-loop) → (c.before.loop.links < most_lines) × (c.before.loop.links < length c.before.loop.rows)
     × (c.before.loop.links < length c.before.loop.runs)
 room c =
     let v = c.before.loop.invariant in
@@ -54,15 +54,15 @@ loop-again c =
       omega (arith, v.1),
       v.2,
       v.3,
-      begun-not _ _ (entry_of at-loop).pre.0 _ _ in-loop.loop-test.taken v.4 (sym (withdrawn after_same) ∙ c.if1.true),
+      begun_not _ _ (entry_of at-loop).pre.0 _ _ in-loop.loop-test.taken v.4 (sym (withdrawn after_same) ∙ c.if1.true),
     )
 
 new-requires : tie.Need-new-requires invariant-loop decreases-loop
 new-requires c κs =
     let after-from : tie.After-from-mark invariant-loop decreases-loop = search in
     let at-loop : tie.At-loop invariant-loop decreases-loop = search in
-    let few = (entry_of at-loop).pre.0.few-marks in
-    (omega (arith, after-from.from-mark.ensures.2, few), omega (arith, c.to-mark.ensures.2, few), omega arith)
+    let few = (entry_of at-loop).pre.0.few_marks in
+    (omega (arith, after-from.from_mark.ensures.2, few), omega (arith, c.to_mark.ensures.2, few), omega arith)
 
 loop-again-2 : tie.Need-loop-preserved-2 invariant-loop decreases-loop
 loop-again-2 c =
@@ -79,8 +79,8 @@ loop-again-2 c =
       omega (arith, v.1),
       simp length-set v.2,
       simp length-set v.3,
-      begun-next _ _ p.0 _ _ in-loop.loop-test.taken v.4 (sym (withdrawn after_same) ∙ else1.if1.left) _ _ _ _
-          after-from.from-mark.ensures.0 after-to.to-mark.ensures.0 after-new.new.ensures refl
+      begun_next _ _ p.0 _ _ in-loop.loop-test.taken v.4 (sym (withdrawn after_same) ∙ else1.if1.left) _ _ _ _
+          after-from.from_mark.ensures.0 after-to.to_mark.ensures.0 after-new.new.ensures refl
           (room in-loop).1 (room in-loop).2,
     )
 
@@ -90,7 +90,7 @@ own-links-spec =
     (tie.spec
     invariant-loop
     decreases-loop
-    (λ c. (omega arith, omega arith, refl, refl, begun-start _ _ _))  -- loop-holds
+    (λ c. (omega arith, omega arith, refl, refl, begun_start _ _ _))  -- loop-holds
     (λ c. omega (arith, good c))  -- mul-same
     (λ c. omega (arith, good c))  -- add-same
     (λ c. omega (arith, good c))  -- mul-same-2
@@ -114,4 +114,4 @@ own-links-spec =
     loop-again-2
     (λ c. c.before.loop.invariant.2)  -- same-length
     (λ c. c.before.loop.invariant.3)  -- same-length-2
-    (λ c. begun-end _ _ (entry_of c.before).pre.0 _ _ c.loop-test.false c.before.loop.invariant.4))  -- returns
+    (λ c. begun_end _ _ (entry_of c.before).pre.0 _ _ c.loop-test.false c.before.loop.invariant.4))  -- returns

@@ -4,7 +4,7 @@ use mathlib.Core.Path.{sym}
 use lib.ListN.{length, take}
 use lib.Seq.{length-take-le}
 use borrow.Author.Rules.{rules}
-use Rattle.joins.proofs.Stepping.{EndsOf, marks-between, spur-in, spur-done, loop-in, loop-done, two_in, merge-done, none_done}
+use Rattle.joins.proofs.Stepping.{EndsOf, marks_between, spur_in, spur_done, loop_in, loop_done, two_in, merge_done, none_done}
 use Rattle.joins.proofs.step.step.Statement.{statement}
 use Rattle.joins.proofs.step.step.Tie as tie
 
@@ -25,7 +25,7 @@ count-requires c κs =
     let p = entry.pre in
     let e = p.1.1.1 in (
       omega (arith, p.0, length-take-le entry.args.counts.links entry.args.rows.now (omega (arith, p.0))),
-      marks-between e.stage e.tabled _ (omega (arith, p.1.1.0)),
+      marks_between e.stage e.tabled _ (omega (arith, p.1.1.0)),
     )
 
 spur-requires : tie.Need-spur-requires
@@ -35,7 +35,7 @@ spur-requires c κs =
     let after-count : tie.After-count = search in
     let p = (entry_of after-count).pre in
     let e = p.1.1.1 in
-    (p.0, spur-in e.stage e.tabled (ends_of after-count) _ after-spur.lowest-with.ensures then1.if1.taken)
+    (p.0, spur_in e.stage e.tabled (ends_of after-count) _ after-spur.lowest-with.ensures then1.if1.taken)
 
 returns : tie.Need-returns
 returns c = λ lines s st t.
@@ -43,7 +43,7 @@ returns c = λ lines s st t.
     let then1 : tie.Then1 = search in
     let after-spur : tie.After-lowest-with = search in
     let after-count : tie.After-count = search in
-    spur-done st t (ends_of after-count) _ after-spur.lowest-with.ensures then1.if1.taken _ _ _ after-off.spur.ensures
+    spur_done st t (ends_of after-count) _ after-spur.lowest-with.ensures then1.if1.taken _ _ _ after-off.spur.ensures
 
 slice-aggregate-closed-link : tie.Need-slice-aggregate-closed-link
 slice-aggregate-closed-link c =
@@ -61,7 +61,7 @@ closed-requires c κs =
     let p = (entry_of after-count).pre in
     let e = p.1.1.1 in (
       p.0,
-      loop-in e.stage e.tabled (ends_of after-count) _ after-spur.lowest-with.ensures else1.if1.left
+      loop_in e.stage e.tabled (ends_of after-count) _ after-spur.lowest-with.ensures else1.if1.left
           _ after-closed.closed-link.ensures then2.if2.taken,
     )
 
@@ -73,7 +73,7 @@ returns-2 c = λ lines s st t.
     let else1 : tie.Else1 = search in
     let after-spur : tie.After-lowest-with = search in
     let after-count : tie.After-count = search in
-    loop-done st t (ends_of after-count) _ after-spur.lowest-with.ensures else1.if1.left _ after-closed.closed-link.ensures
+    loop_done st t (ends_of after-count) _ after-spur.lowest-with.ensures else1.if1.left _ after-closed.closed-link.ensures
     then2.if2.taken _ _ _ after-off.closed.ensures
 
 at-requires : tie.Need-at-requires
@@ -105,7 +105,7 @@ returns-3 c = λ lines s st t.
     let else1 : tie.Else1 = search in
     let after-spur : tie.After-lowest-with = search in
     let after-count : tie.After-count = search in
-    merge-done st t (ends_of after-count) _ after-spur.lowest-with.ensures else1.if1.left _ after-closed.closed-link.ensures
+    merge_done st t (ends_of after-count) _ after-spur.lowest-with.ensures else1.if1.left _ after-closed.closed-link.ensures
     else2.if2.left _ after_two.lowest-with2.ensures then3.if3.taken _ _ _ after-at.at.ensures
 
 returns-4 : tie.Need-returns-4

@@ -2,9 +2,9 @@ use Prim.Native.Nat.{◌+◌, ◌*◌, ◌-◌, ◌≤◌}
 use native.Mathlib.Omega.{arith}
 use mathlib.Core.Path.{◌≡◌, refl}
 use lib.ListN.{length, length-take, length-drop}
-use Rattle.book.specs.Limits.{mostLines}
-use Rattle.links.specs.Sketch.{entryWords}
-use Rattle.junctions.proofs.Writing.{AllWrote, wrote-start, wrote-next, wrote-end, turn-ends, turn_lines, turn-marks}
+use Rattle.book.specs.Limits.{most_lines}
+use Rattle.links.specs.Sketch.{entry_words}
+use Rattle.junctions.proofs.Writing.{AllWrote, wrote_start, wrote_next, wrote_end, turn_ends, turn_lines, turn_marks}
 use Rattle.junctions.proofs.entries.write.Statement.{statement}
 use Rattle.junctions.proofs.entries.write.Tie as tie
 
@@ -24,11 +24,11 @@ ends : (c : tie.After-count invariant-loop decreases-loop) → (let at-loop : ti
 ends c =
     let in-loop : tie.In-loop invariant-loop decreases-loop = search in
     let at-loop : tie.At-loop invariant-loop decreases-loop = search in
-    turn-ends at-loop.loop.inv.2 in-loop.loop-test.taken (entry_of at-loop).pre.1.0 _ c.count.ensures
+    turn_ends at-loop.loop.inv.2 in-loop.loop-test.taken (entry_of at-loop).pre.1.0 _ c.count.ensures
 
 -- and there is room for its entry
-room : (c : tie.In-loop invariant-loop decreases-loop) → (c.before.loop.i * entryWords + entryWords ≤ length c.before.loop.out)
-    × (length (entry_of c.before).args.rows.now ≤ mostLines)
+room : (c : tie.In-loop invariant-loop decreases-loop) → (c.before.loop.i * entry_words + entry_words ≤ length c.before.loop.out)
+    × (length (entry_of c.before).args.rows.now ≤ most_lines)
 room c =
     let p = (entry_of c.before).pre in
     (omega (arith, c.loop-test.true, c.before.loop.invariant.1, p.1.1), p.1.0.few)
@@ -55,7 +55,7 @@ write-entry-requires c κs =
       p.0,
       (
         turn_lines w h p.1.0 _ _ after-count.count.ensures refl,
-        (simp (length-take, length-drop) (omega (arith, room in-loop)), turn-marks w h p.1.0),
+        (simp (length-take, length-drop) (omega (arith, room in-loop)), turn_marks w h p.1.0),
       ),
     )
 
@@ -69,7 +69,7 @@ loop-again c =
     let h = in-loop.loop-test.taken in (
       omega (arith, h),
       omega (arith, v.1, c.out.given.1),
-      wrote-next v.2 h _ _ after-count.count.ensures refl _ after_write.write-entry.ensures,
+      wrote_next v.2 h _ _ after-count.count.ensures refl _ after_write.write-entry.ensures,
     )
 
 pub write_spec : {M : Type 1} → statement M
@@ -78,7 +78,7 @@ write_spec =
     (tie.spec
     invariant-loop
     decreases-loop
-    (λ c. (omega arith, refl, wrote-start _ _ _ _))  -- loop-holds
+    (λ c. (omega arith, refl, wrote_start _ _ _ _))  -- loop-holds
     (λ c. omega (arith, room c))  -- mul-count
     (λ c. let in-loop : tie.In-loop invariant-loop decreases-loop = search in in-loop.loop-test.taken)  -- shared-slice-read-count
     (λ c κs. tt)  -- count-requires
@@ -100,4 +100,4 @@ write_spec =
     (λ c. let in-loop : tie.In-loop invariant-loop decreases-loop = search in omega (arith, in-loop.loop-test.taken))  -- loop-less
     loop-again
     (λ c. c.before.loop.invariant.1)  -- same-length
-    (λ c. wrote-end c.before.loop.invariant.2 c.loop-test.false))  -- returns
+    (λ c. wrote_end c.before.loop.invariant.2 c.loop-test.false))  -- returns

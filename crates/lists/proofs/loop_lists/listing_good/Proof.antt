@@ -4,20 +4,20 @@ use mathlib.Core.Path.{◌≡◌, sym, ◌∙◌}
 use native.Mathlib.Omega.{arith}
 use lib.IntN.{pos, nat_abs}
 use lib.ListN.{length, get_or}
-use Rattle.laws.specs.Tests.{outZ}
+use Rattle.laws.specs.Tests.{out_z}
 use Rattle.laws.proofs.Signed.{stored}
-use Rattle.book.specs.Limits.{mostLines}
+use Rattle.book.specs.Limits.{most_lines}
 use Rattle.loops.specs.Report.{loops_of}
-use Rattle.loops.proofs.Sounding.{few-loops}
-use Rattle.loops.proofs.Table.{run-rises, run_fits}
-use Rattle.lists.proofs.Runs.{eight_is, place-of, run-coded, run-listed}
+use Rattle.loops.proofs.Sounding.{few_loops}
+use Rattle.loops.proofs.Table.{run_rises, run_fits}
+use Rattle.lists.proofs.Runs.{eight_is, place_of_lem, run_coded, run_listed}
 use borrow.Author.Rules.{rules}
 use Rattle.lists.proofs.loop_lists.listing_good.Statement.{statement}
 use Rattle.lists.proofs.loop_lists.listing_good.Tie as tie
 
 -- the flag that the code has is the definition's test
 flag : (c : tie.After-outside) → (let a : tie.After-find-loops = search in let s : tie.Start = search in
-    c.outside.result ≡ outZ (pos 1) (pos a.find-loops.result.count) s.args.number)
+    c.outside.result ≡ out_z (pos 1) (pos a.find-loops.result.count) s.args.number)
 flag c =
     let s : tie.Start = search in
     simp (to_z-of_z s.fits.number) at (rw (stored _ c.before.signed-count.type-inv c.before.signed-count.ensures) at
@@ -36,7 +36,7 @@ there c =
     let else1 : tie.Else1 = search in
     let s : tie.Start = search in
     let w =
-    place-of _ _ s.pre after-find-loops.find-loops.ensures.1 s.args.number (sym (flag after-outside) ∙ else1.if1.left)
+    place_of_lem _ _ s.pre after-find-loops.find-loops.ensures.1 s.args.number (sym (flag after-outside) ∙ else1.if1.left)
     in
     rw (size c) w
 
@@ -47,13 +47,13 @@ returns c =
     rw c.refuse.ensures (eight_is _ _ s.pre after-find-loops.find-loops.ensures.1 s.args.number s.args.out.now
     (sym (flag c.before.before) ∙ c.before.if1.true))
 
-few : (c : tie.After-magnitude) → c.magnitude.result ≤ mostLines
-few c = let s : tie.Start = search in omega (arith, there c, few-loops _ _ s.pre, s.pre.good.few)
+few : (c : tie.After-magnitude) → c.magnitude.result ≤ most_lines
+few c = let s : tie.Start = search in omega (arith, there c, few_loops _ _ s.pre, s.pre.good.few)
 
 -- where its run begins and ends
 rises : (c : tie.After-magnitude) → (let f : tie.After-find-loops = search in let starts = f.find-loops.last.1.1.0 in
     get_or starts (c.magnitude.result - 1) 0 ≤ get_or starts (c.magnitude.result - 1 + 1) 0)
-rises c = let f : tie.After-find-loops = search in run-rises f.find-loops.ensures.1 _ (there c).1
+rises c = let f : tie.After-find-loops = search in run_rises f.find-loops.ensures.1 _ (there c).1
 
 ends : (c : tie.After-magnitude) → (let f : tie.After-find-loops = search in let tables = f.find-loops.last.1.1 in
     get_or tables.0 (c.magnitude.result - 1 + 1) 0 ≤ length tables.1.0)
@@ -70,7 +70,7 @@ write-run-requires c κs =
     let after-find-loops : tie.After-find-loops = search in
     let after-magnitude : tie.After-magnitude = search in
     let s : tie.Start = search in
-    run-coded _ _ s.pre after-find-loops.find-loops.ensures.1 (after-magnitude.magnitude.result - 1) (there after-magnitude).1
+    run_coded _ _ s.pre after-find-loops.find-loops.ensures.1 (after-magnitude.magnitude.result - 1) (there after-magnitude).1
 
 returns-2 : tie.Need-returns-2
 returns-2 c =
@@ -80,7 +80,7 @@ returns-2 c =
     let after-outside : tie.After-outside = search in
     let else1 : tie.Else1 = search in
     c.before.write-run.ensures
-    ∙ run-listed _ _ s.pre after-find-loops.find-loops.ensures.1 (after-magnitude.magnitude.result - 1)
+    ∙ run_listed _ _ s.pre after-find-loops.find-loops.ensures.1 (after-magnitude.magnitude.result - 1)
     (there after-magnitude).1 s.args.number s.args.out.now (sym (flag after-outside) ∙ else1.if1.left)
     (omega (arith, size after-magnitude))
 

@@ -4,13 +4,13 @@ use mathlib.Core.Path.{◌∙◌, sym}
 use mathlib.Core.List.{map}
 use lib.ListN.{length, length-map, get_or-map}
 use Rattle.laws.proofs.Signed.{stored}
-use Rattle.laws.proofs.Laid.{Laid, laid-start, laid_next, laid_end}
-use Rattle.lists.specs.Run.{listedBy}
+use Rattle.laws.proofs.Laid.{Laid, laid_start, laid_next, laid_end}
+use Rattle.lists.specs.Run.{listed_by}
 use Rattle.lists.proofs.run.list_run.Statement.{statement}
 use Rattle.lists.proofs.run.list_run.Tie as tie
 
 abbrev invariant-loop : tie.invariant-loop
-invariant-loop run out₀ i₀ out i = Laid (map listedBy run) out₀ out i
+invariant-loop run out₀ i₀ out i = Laid (map listed_by run) out₀ out i
 
 abbrev decreases-loop : tie.decreases-loop
 decreases-loop run out₀ i₀ out i = length run - i
@@ -32,15 +32,15 @@ loop-again c =
     let at-loop : tie.At-loop invariant-loop decreases-loop = search in
     let entry : tie.Start invariant-loop decreases-loop = search in
     let run = entry.args.run.now in
-    let n = length-map run listedBy in
-    laid_next _ _ _ at-loop.loop.i _ (listedBy 0) (omega (arith, n, entry.pre.1)) (omega (arith, n))
-    (stored _ c.listed_by.type-inv c.listed_by.ensures ∙ sym (get_or-map listedBy run at-loop.loop.i 0))
+    let n = length-map run listed_by in
+    laid_next _ _ _ at-loop.loop.i _ (listed_by 0) (omega (arith, n, entry.pre.1)) (omega (arith, n))
+    (stored _ c.listed_by.type-inv c.listed_by.ensures ∙ sym (get_or-map listed_by run at-loop.loop.i 0))
     at-loop.loop.inv
 
 returns : tie.Need-returns invariant-loop decreases-loop
 returns c =
     let entry : tie.Start invariant-loop decreases-loop = search in
-    let n = length-map entry.args.run.now listedBy in
+    let n = length-map entry.args.run.now listed_by in
     rw n at (laid_end _ _ _ c.before.loop.i (omega (arith, n)) c.before.loop.invariant)
 
 pub list-run-spec : {M : Type 1} → statement M
@@ -49,7 +49,7 @@ list-run-spec =
     (tie.spec
     invariant-loop
     decreases-loop
-    (λ c. laid-start _ _)  -- loop-holds
+    (λ c. laid_start _ _)  -- loop-holds
     (λ c. let entry : tie.Start invariant-loop decreases-loop = search in omega (arith, entry.pre.1, entry.good))  -- mul-listed-by
     (λ c. omega arith)  -- shared-slice-read-listed-by
     listed-by-requires

@@ -7,7 +7,7 @@ use mir.Val.{to_z}
 use mir.Facts.{to_z_pos}
 use borrow.Author.Tests.{eq-eqb, ne_eqb}
 use Rattle.laws.proofs.Signed.{back}
-use Rattle.lists.specs.Run.{listedBy}
+use Rattle.lists.specs.Run.{listed_by}
 use borrow.Author.Rules.{rules}
 use Rattle.lists.proofs.run.listed_by.Statement.{statement}
 use Rattle.lists.proofs.run.listed_by.Tie as tie
@@ -17,11 +17,11 @@ number : (c : tie.Else1) → to_z w64 (c.before.args.code / 2) ≡ pos (c.before
 number c = to_z_pos w64 (omega arith)
 
 returns : tie.Need-returns
-unfolding listedBy
+unfolding listed_by
 returns c = rw (eq-eqb _ _ c.if1.true) (to_z_pos w64 (omega arith))
 
 returns-2 : tie.Need-returns-2
-unfolding listedBy
+unfolding listed_by
 returns-2 c =
     let e = c.before in
     rw (ne_eqb _ _ e.if1.false)

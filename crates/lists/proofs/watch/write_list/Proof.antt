@@ -5,8 +5,8 @@ use mathlib.Core.List.{map}
 use lib.IntN.{pos}
 use lib.ListN.{length, length-map, get_or-map}
 use Rattle.laws.proofs.Signed.{stored}
-use Rattle.laws.proofs.Laid.{Laid, laid-start, laid_next, laid_end}
-use Rattle.lists.proofs.Lists.{list-ten, list-whole}
+use Rattle.laws.proofs.Laid.{Laid, laid_start, laid_next, laid_end}
+use Rattle.lists.proofs.Lists.{list_ten, list_whole}
 use borrow.Author.Rules.{rules}
 use Rattle.lists.proofs.watch.write_list.Statement.{statement}
 use Rattle.lists.proofs.watch.write_list.Tie as tie
@@ -20,7 +20,7 @@ decreases-loop list out₀ count i₀ out i = length list - i
 returns : tie.Need-returns invariant-loop decreases-loop
 returns c =
     let s = c.before.before.before in
-    rw c.refuse.ensures (list-ten _ s.args.out.now (omega (arith, length-map s.args.list.now pos, c.before.if1.true)))
+    rw c.refuse.ensures (list_ten _ s.args.out.now (omega (arith, length-map s.args.list.now pos, c.before.if1.true)))
 
 signed-count-requires : tie.Need-signed-count-requires invariant-loop decreases-loop
 signed-count-requires c κs =
@@ -41,7 +41,7 @@ returns-2 : tie.Need-returns-2 invariant-loop decreases-loop
 returns-2 c =
     let s : tie.Start invariant-loop decreases-loop = search in
     let n = length-map s.args.list.now pos in
-    let w = list-whole (map pos s.args.list.now) s.args.out.now (omega (arith, n, c.before.before.before.if1.false)) in
+    let w = list_whole (map pos s.args.list.now) s.args.out.now (omega (arith, n, c.before.before.before.if1.false)) in
     rw (c.entered.ensures, laid_end _ _ _ c.before.before.loop.i (omega (arith, n)) c.before.before.loop.invariant, n) (rw n at w)
 
 pub write-list-spec : {M : Type 1} → statement M
@@ -52,7 +52,7 @@ write-list-spec =
     decreases-loop
     (λ c κs. search rules)  -- refuse-requires
     returns
-    (λ c. laid-start _ _)  -- loop-holds
+    (λ c. laid_start _ _)  -- loop-holds
     (λ c. omega arith)  -- mul-signed-count
     (λ c. omega arith)  -- shared-slice-read-signed-count
     signed-count-requires

@@ -2,7 +2,7 @@ use native.Mathlib.Omega.{arith}
 use lib.IntN.{pos}
 use lib.ListN.{length-take, replicate}
 use Rattle.laws.proofs.Signed.{back}
-use Rattle.page.proofs.Lines.{run-coded, list-front, line-put}
+use Rattle.page.proofs.Lines.{run_coded, list_front, line_put}
 use borrow.Author.Rules.{rules}
 use Rattle.page.proofs.loop_lines.put_loop.Statement.{statement}
 use Rattle.page.proofs.loop_lines.put_loop.Tie as tie
@@ -22,8 +22,8 @@ returns c =
     let a3 : tie.After-loop-text-arg3 = search in
     let a4 : tie.After-loop-text-arg4 = search in
     let after-loop-text : tie.After-loop-text = search in
-    line-put s.args.t s.args.number s.args.lines.now s.args.run.now after-row-of.row_of.ensures
-    (list-front s.args.run.now (replicate 256 (pos 0)) _ after-list-run.list-run.ensures)
+    line_put s.args.t s.args.number s.args.lines.now s.args.run.now after-row-of.row_of.ensures
+    (list_front s.args.run.now (replicate 256 (pos 0)) _ after-list-run.list-run.ensures)
     (rw (back _ a2.loop-text-arg2.given, back _ a3.loop-text-arg3.given, back _ a4.loop-text-arg4.given) at
     after-loop-text.loop-text.ensures)
 
@@ -34,7 +34,7 @@ put-loop-spec =
     (λ c. search rules)  -- slice-aggregate-row-of
     (λ c κs. search rules)  -- row-of-requires
     (λ c. search rules)  -- slice-aggregate-list-run
-    (λ c κs. let s : tie.Start = search in (run-coded s.pre.0 s.pre.1.0, omega (arith, s.pre.1.0.few)))  -- list-run-requires
+    (λ c κs. let s : tie.Start = search in (run_coded s.pre.0 s.pre.1.0, omega (arith, s.pre.1.0.few)))  -- list-run-requires
     (λ c. search rules)  -- array-copy-out-loop-text
     (λ c. search rules)  -- array-copy-out-loop-text-2
     (λ c. search rules)  -- array-copy-out-loop-text-3

@@ -2,10 +2,10 @@ use Prim.Native.Nat.{◌≤◌, ◌+◌, ◌-◌}
 use native.Mathlib.Omega.{arith}
 use mathlib.Core.Path.{◌≡◌, refl}
 use lib.ListN.{length, get_or}
-use Rattle.loops.proofs.Table.{run-rises, run_fits}
+use Rattle.loops.proofs.Table.{run_rises, run_fits}
 use Rattle.rows.proofs.Passes.{measured}
 use Rattle.rows.proofs.Written.{run_in}
-use Rattle.page.proofs.Lines.{AllPut, all-put-start, all-put-next, all-put-end}
+use Rattle.page.proofs.Lines.{AllPut, all_put_start, all_put_next, all_put_end}
 use Rattle.page.proofs.loop_lines.put_loops.Statement.{statement}
 use Rattle.page.proofs.loop_lines.put_loops.Tie as tie
 
@@ -22,7 +22,7 @@ entry_of c = search
 -- where the run of the next loop begins and ends
 rises : (c : tie.In-loop invariant-loop decreases-loop) → (let starts = (entry_of c.before).args.starts.now in let i = c.before.loop.i in
     get_or starts i 0 ≤ get_or starts (i + 1) 0)
-rises c = let p = (entry_of c.before).pre in run-rises p.1 _ (omega (arith, p.1.counted))
+rises c = let p = (entry_of c.before).pre in run_rises p.1 _ (omega (arith, p.1.counted))
 
 ends : (c : tie.In-loop invariant-loop decreases-loop) → (let a = (entry_of c.before).args in
     get_or a.starts.now (c.before.loop.i + 1) 0 ≤ length a.runs.now)
@@ -33,7 +33,7 @@ put-loop-requires c κs =
     let at-loop : tie.At-loop invariant-loop decreases-loop = search in
     let entry : tie.Start invariant-loop decreases-loop = search in
     let p = entry.pre in
-    (measured _ _ p.0, (run_in _ _ p.0 p.1 at-loop.loop.i (omega arith), p.0.small-tolerance))
+    (measured _ _ p.0, (run_in _ _ p.0 p.1 at-loop.loop.i (omega arith), p.0.small_tolerance))
 
 loop-again : tie.Need-loop-preserved invariant-loop decreases-loop
 loop-again c =
@@ -42,7 +42,7 @@ loop-again c =
     let v = at-loop.loop.inv in (
       omega arith,
       omega (arith, v.1, after-put-loop.put-loop.kept),
-      all-put-next (omega arith) v.2
+      all_put_next (omega arith) v.2
           after-put-loop.put-loop.ensures,
     )
 
@@ -50,7 +50,7 @@ returns : tie.Need-returns invariant-loop decreases-loop
 returns c =
     let entry : tie.Start invariant-loop decreases-loop = search in
     let p = entry.pre in
-    all-put-end c.before.loop.invariant.2 (omega (arith, c.before.loop.invariant.0)) _ p.0 p.1
+    all_put_end c.before.loop.invariant.2 (omega (arith, c.before.loop.invariant.0)) _ p.0 p.1
 
 pub put-loops-spec : {M : Type 1} → statement M
 put-loops-spec =
@@ -58,7 +58,7 @@ put-loops-spec =
     (tie.spec
     invariant-loop
     decreases-loop
-    (λ c. (omega arith, refl, all-put-start))  -- loop-holds
+    (λ c. (omega arith, refl, all_put_start))  -- loop-holds
     (λ c. let s : tie.Start invariant-loop decreases-loop = search in omega (arith, s.pre.1, s.good))  -- mul-begin
     (λ c. let s : tie.Start invariant-loop decreases-loop = search in omega (arith, s.pre.1, s.good))  -- shared-slice-read-begin
     (λ c. let s : tie.Start invariant-loop decreases-loop = search in omega (arith, s.pre.1, s.good))  -- add-end

@@ -1,11 +1,11 @@
 use Rattle.text.proofs.Puts.{◌then◌}
-use Rattle.page.specs.Page.{bookPage}
+use Rattle.page.specs.Page.{book_page}
 use borrow.Author.Rules.{rules}
 use Rattle.page.proofs.sheet.put_book.Statement.{statement}
 use Rattle.page.proofs.sheet.put_book.Tie as tie
 
 returns : tie.Need-returns
-unfolding bookPage
+unfolding book_page
 returns c =
     let after-put-loops-of : tie.After-put-loops-of = search in
     after-put-loops-of.put-loops-of.ensures then c.before.before.put-unchecked.ensures

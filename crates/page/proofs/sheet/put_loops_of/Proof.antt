@@ -1,4 +1,4 @@
-use Rattle.page.proofs.Book.{loops-put}
+use Rattle.page.proofs.Book.{loops_put}
 use borrow.Author.Rules.{rules}
 use Rattle.page.proofs.sheet.put_loops_of.Statement.{statement}
 use Rattle.page.proofs.sheet.put_loops_of.Tie as tie
@@ -9,7 +9,7 @@ returns c =
     let after-head-text : tie.After-head-text = search in
     let after-find-loops : tie.After-find-loops = search in
     let s : tie.Start = search in
-    loops-put _ _ s.pre after-find-loops.find-loops.ensures.0 after-head-text.head-text.ensures
+    loops_put _ _ s.pre after-find-loops.find-loops.ensures.0 after-head-text.head-text.ensures
     after-put-loops.put-loops.ensures
 
 pub put-loops-of-spec : {M : Type 1} → statement M

@@ -8,7 +8,7 @@ use borrow.Author.Tests.{le-ltb}
 use Rattle.laws.proofs.Signed.{back}
 use Rattle.links.specs.Link.{Link}
 use Rattle.page.specs.Entries.{Entered}
-use Rattle.page.proofs.Entries.{FirstEntry, first_entry, countAt, Left, left-start, left-next, left-none}
+use Rattle.page.proofs.Entries.{FirstEntry, first_entry, count_at, Left, left_start, left_next, left_none}
 use Rattle.page.proofs.sketch.put_entries.Statement.{statement}
 use Rattle.page.proofs.sketch.put_entries.Tie as tie
 
@@ -39,7 +39,7 @@ first c = first_entry (left c).entered c.loop-test.true
 -- how many lines it has, as it is read
 size : (c : tie.After-index invariant-loop decreases-loop)
     → (let i : tie.In-loop invariant-loop decreases-loop = search in
-    c.index.result ≡ nat_abs (countAt (start_of i).args.numbers.now i.before.loop.i))
+    c.index.result ≡ nat_abs (count_at (start_of i).args.numbers.now i.before.loop.i))
 size c = rw (back _ c.before.index-arg.given) at c.index.ensures
 
 -- where they end
@@ -48,12 +48,12 @@ ends : (c : tie.After-index invariant-loop decreases-loop)
     i.before.loop.begin + c.index.result ≤ length (start_of i).args.run.now)
 ends c =
     let i : tie.In-loop invariant-loop decreases-loop = search in
-    omega (arith, (first i).ends, size c, ap nat_abs (first i).count-is)
+    omega (arith, (first i).ends, size c, ap nat_abs (first i).count_is)
 
 index-requires : tie.Need-index-requires invariant-loop decreases-loop
 index-requires c κs =
     let f = first c.before in
-    rw (back _ c.index-arg.given, f.count-is) (le-ltb (length f.link.way) 0 zero-le)
+    rw (back _ c.index-arg.given, f.count_is) (le-ltb (length f.link.way) 0 zero-le)
 
 loop-again : tie.Need-loop-preserved invariant-loop decreases-loop
 loop-again c =
@@ -62,14 +62,14 @@ loop-again c =
     let turn : tie.In-loop invariant-loop decreases-loop = search in
     let v = turn.before.loop.inv in (
       omega (arith, v.0, after-put.put-entry.kept),
-      λ xs w. left-next (v.1 xs w) after-index.index.result turn.loop-test.taken (size after-index)
+      λ xs w. left_next (v.1 xs w) after-index.index.result turn.loop-test.taken (size after-index)
           after-put.put-entry.ensures,
     )
 
 returns : tie.Need-returns invariant-loop decreases-loop
 returns c =
     let v = c.before.loop.invariant.1 in
-    record { lines-put = λ xs w. (left-none (v xs w) c.loop-test.false).0; run_is = λ xs w. (left-none (v xs w) c.loop-test.false).1 }
+    record { lines_put = λ xs w. (left_none (v xs w) c.loop-test.false).0; run_is = λ xs w. (left_none (v xs w) c.loop-test.false).1 }
 
 pub put-entries-spec : {M : Type 1} → statement M
 put-entries-spec =
@@ -77,7 +77,7 @@ put-entries-spec =
     (tie.spec
     invariant-loop
     decreases-loop
-    (λ c. (refl, λ xs w. left-start w))  -- loop-holds
+    (λ c. (refl, λ xs w. left_start w))  -- loop-holds
     (λ c. omega (arith, (first c).whole, (start_of c).well-formed))  -- mul-at
     (λ c. omega (arith, (first c).whole, (start_of c).well-formed))  -- add-index
     (λ c. omega (arith, (first c).whole, (start_of c).well-formed))  -- mul-index

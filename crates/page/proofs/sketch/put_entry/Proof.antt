@@ -1,11 +1,11 @@
 use borrow.Author.Rules.{rules}
 use Rattle.laws.proofs.Signed.{back}
-use Rattle.page.specs.Entries.{entryLine}
+use Rattle.page.specs.Entries.{entry_line}
 use Rattle.page.proofs.sketch.put_entry.Statement.{statement}
 use Rattle.page.proofs.sketch.put_entry.Tie as tie
 
 returns : tie.Need-returns
-unfolding entryLine
+unfolding entry_line
 returns c =
     let printed : tie.After-link-text = search in
     let told : tie.After-enum-told = search in
@@ -22,7 +22,7 @@ returns c =
     ) at printed.link-text.ensures)
 
 returns-2 : tie.Need-returns-2
-unfolding entryLine
+unfolding entry_line
 returns-2 c =
     let printed : tie.After-spur-text = search in
     let told : tie.After-enum-told2 = search in
@@ -34,7 +34,7 @@ returns-2 c =
     printed.spur-text.ensures)
 
 returns-3 : tie.Need-returns-3
-unfolding entryLine
+unfolding entry_line
 returns-3 c =
     let printed : tie.After-loop-text = search in
     let told : tie.After-enum-told3 = search in

@@ -1,4 +1,4 @@
-use Rattle.page.proofs.Sketched.{links-entered, spurs-entered, loops-entered, sketch-put}
+use Rattle.page.proofs.Sketched.{links_entered, spurs_entered, loops_entered, sketch_put}
 use borrow.Author.Rules.{rules}
 use Rattle.page.proofs.sketch.put_sketch.Statement.{statement}
 use Rattle.page.proofs.sketch.put_sketch.Tie as tie
@@ -15,43 +15,43 @@ put-entries-requires c κs =
     let s = start_of drawn in
     record {
       links = _;
-      entered = links-entered _ _ s.pre _ (search rules) (search rules) (search rules) (search rules) drawn.sketch-good.ensures;
+      entered = links_entered _ _ s.pre _ (search rules) (search rules) (search rules) (search rules) drawn.sketch-good.ensures;
     }
 
 put-entries-requires-2 : tie.Need-put-entries-requires-2
 put-entries-requires-2 c κs =
-    let after-links : tie.After-put-entries = search in
-    let drawn = drawn-of after-links in
+    let after_links : tie.After-put-entries = search in
+    let drawn = drawn-of after_links in
     let s = start_of drawn in
     record {
       links = _;
-      entered = spurs-entered _ _ s.pre _ (search rules) (search rules) (search rules) (search rules) drawn.sketch-good.ensures
-          after-links.put_entries.ensures;
+      entered = spurs_entered _ _ s.pre _ (search rules) (search rules) (search rules) (search rules) drawn.sketch-good.ensures
+          after_links.put_entries.ensures;
     }
 
 put-entries-requires-3 : tie.Need-put-entries-requires-3
 put-entries-requires-3 c κs =
-    let after-spurs : tie.After-put-entries2 = search in
-    let after-links : tie.After-put-entries = search in
-    let drawn = drawn-of after-links in
+    let after_spurs : tie.After-put-entries2 = search in
+    let after_links : tie.After-put-entries = search in
+    let drawn = drawn-of after_links in
     let s = start_of drawn in
     record {
       links = _;
-      entered = loops-entered _ _ s.pre _ (search rules) (search rules) (search rules) (search rules) drawn.sketch-good.ensures
-          after-links.put_entries.ensures after-spurs.put-entries2.ensures;
+      entered = loops_entered _ _ s.pre _ (search rules) (search rules) (search rules) (search rules) drawn.sketch-good.ensures
+          after_links.put_entries.ensures after_spurs.put-entries2.ensures;
     }
 
 returns : tie.Need-returns
 returns c =
-    let after-loops : tie.After-put-entries3 = search in
-    let after-spurs : tie.After-put-entries2 = search in
-    let after-links : tie.After-put-entries = search in
+    let after_loops : tie.After-put-entries3 = search in
+    let after_spurs : tie.After-put-entries2 = search in
+    let after_links : tie.After-put-entries = search in
     let head : tie.After-head-text = search in
-    let drawn = drawn-of after-links in
+    let drawn = drawn-of after_links in
     let s = start_of drawn in
-    sketch-put _ _ s.pre _ (search rules) (search rules) (search rules) (search rules) drawn.sketch-good.ensures
-    after-links.put_entries.ensures after-spurs.put-entries2.ensures head.head-text.ensures
-    after-loops.put-entries3.ensures
+    sketch_put _ _ s.pre _ (search rules) (search rules) (search rules) (search rules) drawn.sketch-good.ensures
+    after_links.put_entries.ensures after_spurs.put-entries2.ensures head.head-text.ensures
+    after_loops.put-entries3.ensures
 
 pub put-sketch-spec : {M : Type 1} → statement M
 put-sketch-spec =

@@ -1,5 +1,5 @@
 use native.Mathlib.Omega.{arith}
-use Rattle.survey.proofs.Keeping.{answer-is, rows_are, answer-words, refreshed-fewer}
+use Rattle.survey.proofs.Keeping.{answer_is, rows_are, answer_words, refreshed_fewer}
 use borrow.Author.Rules.{rules}
 use Rattle.survey.proofs.correct.refresh.Statement.{statement}
 use Rattle.survey.proofs.correct.refresh.Tie as tie
@@ -10,7 +10,7 @@ mul-vacate c =
     let s : tie.Start = search in
     omega (
       arith,
-      answer-words _ _ s.pre.0 _ _ _ (omega (arith, s.pre.1.fewer, s.pre.1.places))
+      answer_words _ _ s.pre.0 _ _ _ (omega (arith, s.pre.1.fewer, s.pre.1.places))
           after-survey-good.survey-good.ensures,
       s.pre.1.fewer,
       s.pre.1.places,
@@ -22,7 +22,7 @@ vacate-requires c κs =
     let after-survey-good : tie.After-survey-good = search in
     let s : tie.Start = search in
     let w =
-    answer-words _ _ s.pre.0 _ _ _ (omega (arith, s.pre.1.fewer, s.pre.1.places)) after-survey-good.survey-good.ensures
+    answer_words _ _ s.pre.0 _ _ _ (omega (arith, s.pre.1.fewer, s.pre.1.places)) after-survey-good.survey-good.ensures
     in
     omega (arith, w, s.pre.1.fewer, s.pre.1.places, after-survey-good.survey-good.kept)
 
@@ -31,9 +31,9 @@ returns c =
     let after-survey-good : tie.After-survey-good = search in
     let s : tie.Start = search in
     let e = after-survey-good.survey-good.ensures in
-    refreshed-fewer _ _ s.pre.0 _ _ _ _ _ _ s.pre.1
-    (answer-words _ _ s.pre.0 _ _ _ (omega (arith, s.pre.1.fewer, s.pre.1.places)) after-survey-good.survey-good.ensures)
-    (answer-is _ _ s.pre.0 _ _ _ (omega (arith, s.pre.1.fewer, s.pre.1.places)) e)
+    refreshed_fewer _ _ s.pre.0 _ _ _ _ _ _ s.pre.1
+    (answer_words _ _ s.pre.0 _ _ _ (omega (arith, s.pre.1.fewer, s.pre.1.places)) after-survey-good.survey-good.ensures)
+    (answer_is _ _ s.pre.0 _ _ _ (omega (arith, s.pre.1.fewer, s.pre.1.places)) e)
     (rows_are _ _ s.pre.0 _ _ _ (omega (arith, s.pre.1.fewer, s.pre.1.places)) e) c.before.vacate.ensures
 
 pub refresh-spec : {M : Type 1} → statement M

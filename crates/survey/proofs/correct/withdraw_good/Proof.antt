@@ -5,14 +5,14 @@ use native.Mathlib.Omega.{arith}
 use lib.IntN.{pos, nat_abs}
 use lib.ListN.{length, set}
 use mir.Facts.{to_z-of_z}
-use Rattle.table.specs.Filled.{foundIn}
-use Rattle.book.specs.Line.{standingField}
+use Rattle.table.specs.Filled.{found_in}
+use Rattle.book.specs.Line.{standing_field}
 use Rattle.book.specs.Good.{GoodLines}
 use Rattle.survey.specs.Stands.{Stands}
-use Rattle.survey.specs.Correction.{noLine, otherReport, place_of, withdrawLines}
-use Rattle.survey.specs.Kept.{keptOf}
-use Rattle.survey.proofs.Corrected.{stands_of, number_is, place_inside, withdrawn-lines-good, withdrawal-fewer}
-use Rattle.survey.proofs.Keeping.{fresh, is-refused, is-own, corrected-is, refresh-of}
+use Rattle.survey.specs.Correction.{no_line, other_report, place_of, withdraw_lines}
+use Rattle.survey.specs.Kept.{kept_of}
+use Rattle.survey.proofs.Corrected.{stands_of, number_is, place_inside, withdrawn_lines_good, withdrawal_fewer}
+use Rattle.survey.proofs.Keeping.{fresh, is_refused, is_own, corrected_is, refresh_of}
 use borrow.Author.Rules.{rules}
 use Rattle.survey.proofs.correct.withdraw_good.Statement.{statement}
 use Rattle.survey.proofs.correct.withdraw_good.Tie as tie
@@ -23,18 +23,18 @@ start_of c = search
 -- what was looked up is the definition's
 kept : (c : tie.After-kept-report)
     → (let s : tie.Start = search in let a = s.args in
-    c.kept-report.result ≡ keptOf a.book a.lines.now a.report.now a.number)
+    c.kept-report.result ≡ kept_of a.book a.lines.now a.report.now a.number)
 kept c = c.kept-report.ensures.0 ∙ search rules
 
 -- the line stands, and the report that was lent is the book's own
 own : (c : tie.After-known-told2)
     → (let s : tie.Start = search in let a = s.args in
-    (noLine a.lines.now a.number ≡ false) × (otherReport a.report.now (fresh a.book a.lines.now s.pre) ≡ false)
-    × (c.before.found.given.0.0 ≡ foundIn a.book.marks a.lines.now))
+    (no_line a.lines.now a.number ≡ false) × (other_report a.report.now (fresh a.book a.lines.now s.pre) ≡ false)
+    × (c.before.found.given.0.0 ≡ found_in a.book.marks a.lines.now))
 own c =
     let after-kept-report : tie.After-kept-report = search in
     let s : tie.Start = search in
-    is-own _ _ s.pre _ _ (kept after-kept-report) c.before.found.given.1
+    is_own _ _ s.pre _ _ (kept after-kept-report) c.before.found.given.1
 
 stands : (c : tie.After-known-told2)
     → (let s : tie.Start = search in Stands s.args.lines.now s.args.number (nat_abs s.args.number - 1))
@@ -44,7 +44,7 @@ returns : tie.Need-returns
 returns c =
     let after-kept-report : tie.After-kept-report = search in
     let s : tie.Start = search in
-    rw c.refused.ensures (is-refused _ _ s.pre _ _ (kept after-kept-report) _ c.before.before.r.given.1)
+    rw c.refused.ensures (is_refused _ _ s.pre _ _ (kept after-kept-report) _ c.before.before.r.given.1)
 
 place-of-requires : tie.Need-place-of-requires
 place-of-requires c κs =
@@ -52,24 +52,24 @@ place-of-requires c κs =
     (rw (to_z-of_z s.fits.number) (number_is s.pre (stands c)), omega arith)
 
 -- where the number that is set stands
-at : (c : tie.After-place-of) → (let s : tie.Start = search in c.place-of.result ≡ place_of s.args.number standingField)
-at c = c.place-of.ensures ∙ search rules
+at : (c : tie.After-place-of) → (let s : tie.Start = search in c.place_of_lem.result ≡ place_of s.args.number standing_field)
+at c = c.place_of_lem.ensures ∙ search rules
 
-inside : (c : tie.After-place-of) → (let s : tie.Start = search in c.place-of.result < length s.args.lines.now)
+inside : (c : tie.After-place-of) → (let s : tie.Start = search in c.place_of_lem.result < length s.args.lines.now)
 inside c = rw (at c) (place_inside (stands c.before) (omega arith))
 
 -- the lines as they now are
 new-lines : (c : tie.After-place-of) → (let s : tie.Start = search in let a = s.args in
-    set a.lines.now c.place-of.result (pos 0) ≡ withdrawLines a.lines.now a.number)
-unfolding withdrawLines
+    set a.lines.now c.place_of_lem.result (pos 0) ≡ withdraw_lines a.lines.now a.number)
+unfolding withdraw_lines
 new-lines c = rw (at c)
 
 -- the book with its new lines is good
 new-good : (c : tie.After-known-told2)
-    → (let s : tie.Start = search in let a = s.args in GoodLines a.book (withdrawLines a.lines.now a.number))
+    → (let s : tie.Start = search in let a = s.args in GoodLines a.book (withdraw_lines a.lines.now a.number))
 new-good c =
     let s : tie.Start = search in
-    withdrawn-lines-good s.args.book s.args.lines.now s.pre s.args.number _ (stands c)
+    withdrawn_lines_good s.args.book s.args.lines.now s.pre s.args.number _ (stands c)
 
 refresh-requires : tie.Need-refresh-requires
 refresh-requires c κs =
@@ -79,7 +79,7 @@ refresh-requires c κs =
     let o = own k in
     rw (new-lines p) (
       new-good k,
-      refresh-of _ _ _ _ s.pre (new-good k) (withdrawal-fewer _ _ s.pre _ _ (stands k)) o.1 o.2,
+      refresh_of _ _ _ _ s.pre (new-good k) (withdrawal_fewer _ _ s.pre _ _ (stands k)) o.1 o.2,
     )
 
 returns-2 : tie.Need-returns-2
@@ -88,7 +88,7 @@ returns-2 c =
     let k : tie.After-known-told2 = search in
     let s = start_of k in
     let o = own k in
-    rw (new-lines p) (corrected-is _ _ _ _ _ _ _ s.pre o.0 o.1 o.2 (rw (new-lines p) at c.before.refresh.ensures))
+    rw (new-lines p) (corrected_is _ _ _ _ _ _ _ s.pre o.0 o.1 o.2 (rw (new-lines p) at c.before.refresh.ensures))
 
 pub withdraw-good-spec : {M : Type 1} → statement M
 withdraw-good-spec =

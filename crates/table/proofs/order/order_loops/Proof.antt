@@ -1,4 +1,4 @@
-use Rattle.table.proofs.Ordering.{ready_of, few-laid, started}
+use Rattle.table.proofs.Ordering.{ready_of, few_laid, started}
 use borrow.Author.Rules.{rules}
 use Rattle.table.proofs.order.order_loops.Statement.{statement}
 use Rattle.table.proofs.order.order_loops.Tie as tie
@@ -9,7 +9,7 @@ sub-t18 c =
     let after-closing-lines : tie.After-closing-lines = search in
     let entry : tie.Start = search in
     let p = entry.pre in
-    few-laid _ _ _ p.some-line p.lines p.listed _ _ _ _ _ _ p.closes
+    few_laid _ _ _ p.some_line p.lines p.listed _ _ _ _ _ _ p.closes
     (after-closing-lines.Closing-Lines.ensures p.lines p.listed p.holding)
     (after-lay-tree.lay-tree.ensures _ p.lines p.listed p.holding)
 
@@ -19,7 +19,7 @@ returns c =
     let after-closing-lines : tie.After-closing-lines = search in
     let entry : tie.Start = search in
     let p = entry.pre in
-    λ lines li ho. started _ _ _ p.some-line lines li _ _ _ _ _ _ p.closes
+    λ lines li ho. started _ _ _ p.some_line lines li _ _ _ _ _ _ p.closes
     (after-closing-lines.Closing-Lines.ensures lines li ho) (after-lay-tree.lay-tree.ensures _ lines li ho)
 
 pub order-loops-spec : {M : Type 1} → statement M

@@ -1,19 +1,19 @@
 use mathlib.Core.Path.{refl}
 use Rattle.text.specs.Bytes.{bytes}
-use Rattle.text.specs.Sketch.{sketchHeadText}
-use Rattle.text.proofs.Puts.{◌then◌, put-length}
+use Rattle.text.specs.Sketch.{sketch_head_text}
+use Rattle.text.proofs.Puts.{◌then◌, put_length}
 use Rattle.text.proofs.sketch.head_text.Statement.{statement}
 use Rattle.text.proofs.sketch.head_text.Tie as tie
 
 -- the first count, which lies too far back for a search from the end
-abbrev marks-of : tie.After-put2 → tie.After-put-number
-marks-of c = search
+abbrev marks_of : tie.After-put2 → tie.After-put-number
+marks_of c = search
 
 abbrev marks-name-of : tie.After-put-number → tie.After-put
 marks-name-of c = search
 
 returns : tie.Need-returns
-unfolding bytes sketchHeadText
+unfolding bytes sketch_head_text
 returns c =
     let end : tie.After-put-byte = search in
     let loops : tie.After-put-number5 = search in
@@ -24,7 +24,7 @@ returns c =
     let links-name : tie.After-put3 = search in
     let lines : tie.After-put-number2 = search in
     let lines-name : tie.After-put2 = search in
-    let marks = marks-of lines-name in
+    let marks = marks_of lines-name in
     let marks-name = marks-name-of marks in
     marks-name.put.ensures
     then marks.put-number.ensures
@@ -58,5 +58,5 @@ head-text-spec =
     (λ c κs. tt)  -- put-requires-5
     (λ c κs. tt)  -- put-number-requires-5
     (λ c κs. tt)  -- put-byte-requires
-    (λ c. put-length (returns c))  -- same-length
+    (λ c. put_length (returns c))  -- same-length
     returns)

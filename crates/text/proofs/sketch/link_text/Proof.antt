@@ -1,13 +1,13 @@
 use mir.Facts.{to_z-of_z}
 use borrow.Author.Rules.{rules}
 use Rattle.text.specs.Bytes.{bytes}
-use Rattle.text.specs.Sketch.{linkText}
+use Rattle.text.specs.Sketch.{link_text}
 use Rattle.text.proofs.Puts.{◌then◌}
 use Rattle.text.proofs.sketch.link_text.Statement.{statement}
 use Rattle.text.proofs.sketch.link_text.Tie as tie
 
 returns : tie.Need-returns
-unfolding bytes linkText
+unfolding bytes link_text
 returns c =
     let measured : tie.After-put-measured = search in
     let last : tie.After-put-signed2 = search in

@@ -1,13 +1,13 @@
 use mir.Facts.{to_z-of_z}
 use borrow.Author.Rules.{rules}
 use Rattle.text.specs.Bytes.{bytes}
-use Rattle.text.specs.Sketch.{selfClosingText}
+use Rattle.text.specs.Sketch.{self_closing_text}
 use Rattle.text.proofs.Puts.{◌then◌}
 use Rattle.text.proofs.sketch.loop_text.Statement.{statement}
 use Rattle.text.proofs.sketch.loop_text.Tie as tie
 
 returns : tie.Need-returns
-unfolding bytes selfClosingText
+unfolding bytes self_closing_text
 returns c =
     let measured : tie.After-put-measured = search in
     let mark : tie.After-put-signed = search in

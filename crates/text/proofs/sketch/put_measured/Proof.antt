@@ -1,13 +1,13 @@
 use mir.Facts.{to_z-of_z}
 use borrow.Author.Rules.{rules}
 use Rattle.text.specs.Bytes.{bytes}
-use Rattle.text.specs.Sketch.{measuredText}
+use Rattle.text.specs.Sketch.{measured_text}
 use Rattle.text.proofs.Puts.{◌then◌}
 use Rattle.text.proofs.sketch.put_measured.Statement.{statement}
 use Rattle.text.proofs.sketch.put_measured.Tie as tie
 
 returns : tie.Need-returns
-unfolding bytes measuredText
+unfolding bytes measured_text
 returns c =
     let end : tie.After-put-byte2 = search in
     let listing : tie.After-put-listed = search in

@@ -1,13 +1,13 @@
 use mir.Facts.{to_z-of_z}
 use borrow.Author.Rules.{rules}
 use Rattle.text.specs.Bytes.{bytes}
-use Rattle.text.specs.Sketch.{spurText}
+use Rattle.text.specs.Sketch.{spur_text}
 use Rattle.text.proofs.Puts.{◌then◌}
 use Rattle.text.proofs.sketch.spur_text.Statement.{statement}
 use Rattle.text.proofs.sketch.spur_text.Tie as tie
 
 returns : tie.Need-returns
-unfolding bytes spurText
+unfolding bytes spur_text
 returns c =
     let measured : tie.After-put-measured = search in
     let mark : tie.After-put-signed = search in

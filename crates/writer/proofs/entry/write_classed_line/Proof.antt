@@ -1,15 +1,15 @@
 use native.Mathlib.Omega.{arith}
-use Rattle.book.specs.Line.{class_at, standingAt}
+use Rattle.book.specs.Line.{class_at, standing_at}
 use Rattle.file.specs.declared.entry.Kind.TheVariants.{Line}
-use Rattle.writer.specs.Entry.{lineBytes, classedLineBytes}
+use Rattle.writer.specs.Entry.{line_bytes, classed_line_bytes}
 use Rattle.writer.proofs.Entries.{entry_length}
-use Rattle.writer.proofs.Parts.{none-poured, then-part, then-signed, all-poured}
+use Rattle.writer.proofs.Parts.{none_poured, then_part, then_signed, all_poured}
 use borrow.Author.Rules.{rules}
 use Rattle.writer.proofs.entry.write_classed_line.Statement.{statement}
 use Rattle.writer.proofs.entry.write_classed_line.Tie as tie
 
 returns : tie.Need-returns
-unfolding classedLineBytes
+unfolding classed_line_bytes
 returns c =
     let entry : tie.Start = search in
     let e = entry.args.e.now in
@@ -19,13 +19,13 @@ returns c =
     let class : tie.After-put = search in
     let s : tie.After-bits2 = search in
     let standing : tie.After-put2 = search in
-    let p₁ = then-part (none-poured entry.args.out.now) _ (lineBytes e) 12 (omega arith) line.write-line.ensures
+    let p₁ = then_part (none_poured entry.args.out.now) _ (line_bytes e) 12 (omega arith) line.write-line.ensures
     (entry_length Line e) in
-    let p₂ = then-signed p₁ _ 1 (class_at e 0) (omega (arith, whole)) k.before.bits-arg.given k.bits.ensures
+    let p₂ = then_signed p₁ _ 1 (class_at e 0) (omega (arith, whole)) k.before.bits-arg.given k.bits.ensures
     class.put.ensures in
-    let p₃ = then-signed p₂ _ 1 (standingAt e 0) (omega (arith, whole)) s.before.bits-arg2.given s.bits2.ensures
+    let p₃ = then_signed p₂ _ 1 (standing_at e 0) (omega (arith, whole)) s.before.bits-arg2.given s.bits2.ensures
     standing.put2.ensures in
-    all-poured p₃ whole
+    all_poured p₃ whole
 
 pub write-classed-line-spec : {M : Type 1} → statement M
 write-classed-line-spec =

@@ -6,7 +6,7 @@ use native.Mathlib.Omega.{arith}
 use lib.ListN.{length, drop, length-take, length-drop, drop_of_length-le}
 use Rattle.file.proofs.Entries.{room_for}
 use Rattle.writer.specs.Entry.{written}
-use Rattle.writer.proofs.Entries.{written-pour}
+use Rattle.writer.proofs.Entries.{written_pour}
 use Rattle.writer.proofs.entry.write_entries.Statement.{statement}
 use Rattle.writer.proofs.entry.write_entries.Tie as tie
 
@@ -51,7 +51,7 @@ loop-again c =
     let g = b.before.before.args in (
       omega arith,
       c.before.out.given.1 ∙ l.loop.inv.1,
-      written-pour g.kind g.slice.now b.bytes.result w.words.result b.bytes.ensures w.words.ensures
+      written_pour g.kind g.slice.now b.bytes.result w.words.result b.bytes.ensures w.words.ensures
           g.out.now l.loop.out _ l.loop.i l.loop.inv.2 turn.write-entry.ensures,
     )
 

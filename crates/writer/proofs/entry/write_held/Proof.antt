@@ -1,13 +1,13 @@
 use native.Mathlib.Omega.{arith}
-use Rattle.book.specs.Held.{markAt, heightAt}
-use Rattle.writer.specs.Entry.{heldBytes}
-use Rattle.writer.proofs.Parts.{none-poured, then-signed, all-poured}
+use Rattle.book.specs.Held.{mark_at, height_at}
+use Rattle.writer.specs.Entry.{held_bytes}
+use Rattle.writer.proofs.Parts.{none_poured, then_signed, all_poured}
 use borrow.Author.Rules.{rules}
 use Rattle.writer.proofs.entry.write_held.Statement.{statement}
 use Rattle.writer.proofs.entry.write_held.Tie as tie
 
 returns : tie.Need-returns
-unfolding heldBytes
+unfolding held_bytes
 returns c =
     let entry : tie.Start = search in
     let e = entry.args.e.now in
@@ -16,11 +16,11 @@ returns c =
     let mark : tie.After-put = search in
     let h : tie.After-bits2 = search in
     let height : tie.After-put2 = search in
-    let p₁ = then-signed (none-poured entry.args.out.now) _ 2 (markAt e 0) (omega (arith, whole)) m.before.bits-arg.given
+    let p₁ = then_signed (none_poured entry.args.out.now) _ 2 (mark_at e 0) (omega (arith, whole)) m.before.bits-arg.given
     m.bits.ensures mark.put.ensures in
-    let p₂ = then-signed p₁ _ 8 (heightAt e 0) (omega (arith, whole)) h.before.bits-arg2.given h.bits2.ensures
+    let p₂ = then_signed p₁ _ 8 (height_at e 0) (omega (arith, whole)) h.before.bits-arg2.given h.bits2.ensures
     height.put2.ensures in
-    all-poured p₂ whole
+    all_poured p₂ whole
 
 pub write-held-spec : {M : Type 1} → statement M
 write-held-spec =

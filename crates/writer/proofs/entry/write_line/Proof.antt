@@ -1,7 +1,7 @@
 use native.Mathlib.Omega.{arith}
-use Rattle.book.specs.Line.{fromAt, to_at, differenceAt, length_at}
-use Rattle.writer.specs.Entry.{lineBytes}
-use Rattle.writer.proofs.Parts.{none-poured, then-signed, all-poured}
+use Rattle.book.specs.Line.{from_at, to_at, difference_at, length_at}
+use Rattle.writer.specs.Entry.{line_bytes}
+use Rattle.writer.proofs.Parts.{none_poured, then_signed, all_poured}
 use borrow.Author.Rules.{rules}
 use Rattle.writer.proofs.entry.write_line.Statement.{statement}
 use Rattle.writer.proofs.entry.write_line.Tie as tie
@@ -20,7 +20,7 @@ abbrev entry_of : tie.After-put → tie.Start
 entry_of c = search
 
 returns : tie.Need-returns
-unfolding lineBytes
+unfolding line_bytes
 returns c =
     let length : tie.After-put4 = search in
     let difference = third length in
@@ -33,14 +33,14 @@ returns c =
     let entry = entry_of from in
     let e = entry.args.e.now in
     let whole = entry.pre.1 in
-    let p₁ = then-signed (none-poured entry.args.out.now) _ 2 (fromAt e 0) (omega (arith, whole)) f.before.bits-arg.given
+    let p₁ = then_signed (none_poured entry.args.out.now) _ 2 (from_at e 0) (omega (arith, whole)) f.before.bits-arg.given
     f.bits.ensures from.put.ensures in
-    let p₂ = then-signed p₁ _ 2 (to_at e 0) (omega (arith, whole)) t.before.bits-arg2.given t.bits2.ensures to.put2.ensures in
-    let p₃ = then-signed p₂ _ 4 (differenceAt e 0) (omega (arith, whole)) d.before.bits-arg3.given d.bits3.ensures
+    let p₂ = then_signed p₁ _ 2 (to_at e 0) (omega (arith, whole)) t.before.bits-arg2.given t.bits2.ensures to.put2.ensures in
+    let p₃ = then_signed p₂ _ 4 (difference_at e 0) (omega (arith, whole)) d.before.bits-arg3.given d.bits3.ensures
     difference.put3.ensures in
-    let p₄ = then-signed p₃ _ 4 (length_at e 0) (omega (arith, whole)) l.before.bits-arg4.given l.bits4.ensures
+    let p₄ = then_signed p₃ _ 4 (length_at e 0) (omega (arith, whole)) l.before.bits-arg4.given l.bits4.ensures
     length.put4.ensures in
-    all-poured p₄ whole
+    all_poured p₄ whole
 
 pub write-line-spec : {M : Type 1} → statement M
 write-line-spec =

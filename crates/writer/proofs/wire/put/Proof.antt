@@ -2,7 +2,7 @@ use mathlib.Core.Path.{◌≡◌, refl}
 use Prim.Native.Nat.{suc, ◌-◌, ◌≤◌}
 use native.Mathlib.Omega.{arith}
 use lib.ListN.{length, length-set}
-use Rattle.writer.proofs.Numbers.{PutFrom, put-start, put_next, put-end}
+use Rattle.writer.proofs.Numbers.{PutFrom, put_start, put_next, put_end}
 use Rattle.writer.proofs.wire.put.Statement.{statement}
 use Rattle.writer.proofs.wire.put.Tie as tie
 
@@ -13,7 +13,7 @@ abbrev decreases-loop : tie.decreases-loop
 decreases-loop x out₀ rest₀ i₀ out rest i = i
 
 loop-holds : tie.Need-loop-init invariant-loop decreases-loop
-loop-holds c = (omega arith, refl, put-start _ c.args.x c.args.out.now refl)
+loop-holds c = (omega arith, refl, put_start _ c.args.x c.args.out.now refl)
 
 loop-again : tie.Need-loop-preserved invariant-loop decreases-loop
 loop-again c =
@@ -28,7 +28,7 @@ loop-again c =
 returns : tie.Need-returns invariant-loop decreases-loop
 returns c =
     let none : c.before.loop.i ≡ 0 = omega (arith, c.loop-test.false) in
-    put-end _ _ c.before.loop.out c.before.loop.rest (rw none at c.before.loop.invariant.2)
+    put_end _ _ c.before.loop.out c.before.loop.rest (rw none at c.before.loop.invariant.2)
 
 pub put_spec : {M : Type 1} → statement M
 put_spec =

@@ -1,37 +1,37 @@
 use mathlib.Core.Path.{◌≡◌, ◌∙◌}
 use lib.IntN.{pos}
 use borrow.Author.Rules.{rules}
-use Rattle.laws.specs.Tests.{outZ}
-use Rattle.book.specs.Height.{heldHeightOf}
-use Rattle.book.specs.Held.{heldOut, heldEntryOf}
-use Rattle.book.proofs.Made.{held-height-made, no-held-height}
+use Rattle.laws.specs.Tests.{out_z}
+use Rattle.book.specs.Height.{held_height_of}
+use Rattle.book.specs.Held.{held_out, held_entry_of}
+use Rattle.book.proofs.Made.{held_height_made, no_held_height}
 use Rattle.book.proofs.held.Held.new.Statement.{statement}
 use Rattle.book.proofs.held.Held.new.Tie as tie
 
 -- the flag that the code has is the definition's test
-flag : (c : tie.After-outside) → (let a = c.before.args in c.outside.result ≡ outZ (pos 1) a.b a.mark)
+flag : (c : tie.After-outside) → (let a = c.before.args in c.outside.result ≡ out_z (pos 1) a.b a.mark)
 flag c = c.outside.ensures ∙ search rules
 
 returns : tie.Need-returns
-unfolding heldEntryOf heldOut
+unfolding held_entry_of held_out
 returns c = rw (← (flag c.before), c.if1.true)
 
 -- what the height's constructor answered
-made : (c : tie.After-held) → c.held.result ≡ heldHeightOf c.before.before.before.args.height
+made : (c : tie.After-held) → c.held.result ≡ held_height_of c.before.before.before.args.height
 made c = c.held.ensures ∙ search rules
 
 returns-2 : tie.Need-returns-2
-unfolding heldEntryOf heldOut
+unfolding held_entry_of held_out
 returns-2 c =
     let called = c.before.before.before in
-    let w = no-held-height _ _ (made called) _ c.before.number.given.1 in
+    let w = no_held_height _ _ (made called) _ c.before.number.given.1 in
     rw (w.1, ← (flag called.before.before), called.before.if1.false, w.0)
 
 returns-3 : tie.Need-returns-3
-unfolding heldEntryOf heldOut
+unfolding held_entry_of held_out
 returns-3 c =
     let called = c.before.before.before in
-    let w = held-height-made _ _ (made called) _ c.before.height.given.1 in
+    let w = held_height_made _ _ (made called) _ c.before.height.given.1 in
     rw (w.1, ← (flag called.before.before), called.before.if1.false, w.0) (search rules)
 
 pub new_spec : {M : Type 1} → statement M

@@ -1,10 +1,10 @@
-use Rattle.book.specs.Line.{lineFault}
+use Rattle.book.specs.Line.{line_fault}
 use borrow.Author.Rules.{rules}
 use Rattle.book.proofs.line.Line.fault.Statement.{statement}
 use Rattle.book.proofs.line.Line.fault.Tie as tie
 
 returns : tie.Need-returns
-unfolding lineFault
+unfolding line_fault
 returns c =
     let c₁₀ = c.before in
     let c₉ = c₁₀.before in

@@ -1,13 +1,13 @@
 use mathlib.Core.Path.{◌≡◌, ◌∙◌}
 use borrow.Author.Tests.{lt-ltb, le-ltb}
-use Rattle.book.specs.Line.{lineFault, line_of}
+use Rattle.book.specs.Line.{line_fault, line_of}
 use borrow.Author.Rules.{rules}
 use Rattle.book.proofs.line.Line.new.Statement.{statement}
 use Rattle.book.proofs.line.Line.new.Tie as tie
 
 -- the number that the code has is the definition's fault
 flag : (c : tie.After-fault) → (let a = c.before.args in
-    c.fault.result ≡ lineFault a.b a.from a.to a.difference a.length a.standing)
+    c.fault.result ≡ line_fault a.b a.from a.to a.difference a.length a.standing)
 flag c = c.fault.ensures ∙ search rules
 
 returns : tie.Need-returns

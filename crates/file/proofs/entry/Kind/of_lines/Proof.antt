@@ -1,12 +1,12 @@
 use mathlib.Core.Path.{◌≡◌, ◌∙◌, ap}
 use lib.IntN.{pos}
 use Rattle.laws.proofs.Signed.{stored}
-use Rattle.book.specs.Version.{hasClasses}
+use Rattle.book.specs.Version.{has_classes}
 use borrow.Author.Rules.{rules}
 use Rattle.file.proofs.entry.Kind.of_lines.Statement.{statement}
 use Rattle.file.proofs.entry.Kind.of_lines.Tie as tie
 
-flag : (c : tie.After-has-classes) → c.has-classes.result ≡ hasClasses (pos c.before.before.args.version)
+flag : (c : tie.After-has-classes) → c.has-classes.result ≡ has_classes (pos c.before.before.args.version)
 flag c =
     let v = c.before in
     rw (stored v.signed-count.result v.signed-count.type-inv v.signed-count.ensures) at c.has-classes.ensures
