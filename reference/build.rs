@@ -18,6 +18,6 @@ fn main() {
             println!("cargo:rustc-link-search=native={}", folder.display());
             println!("cargo:rustc-link-lib=static=level");
         }
-        _ => panic!("{} is not there: `rt staticlib level` makes it", archive.display()),
+        _ => panic!("{} is not there: tools/archive makes it", archive.display()),
     }
 }

@@ -129,6 +129,13 @@ function startParts({ log, results }, counts) {
   ];
 }
 
+/** What the loops say of a closed walk that is none of them, and that a line which is not checked has no part in it. */
+function showWalks({ loops = [], notChecked = [] }) {
+  byId('any-walk').hidden = loops.length === 0;
+  byId('walk-closes').hidden = loops.some(({ misclosure }) => misclosure !== 0n);
+  byId('walk-open').hidden = notChecked.length === 0;
+}
+
 function showStart({ results }, comparison) {
   byId('restart').hidden = !results.done;
   byId('restart').textContent = comparison ? 'Make this the new start' : 'Make this the start';
@@ -139,6 +146,7 @@ export function showLoops(step) {
   const comparison = sinceStart();
   const counts = comparison && tally(comparison);
   showStart(step, comparison);
+  showWalks(results);
   refill(byId('since'), [results.done, results.notChecked, step.log, counts], () => results.done && startParts(step, counts));
   if (!results.done) fill(byId('loops-box'), none('No loops are shown while something in the book is wrong.'));
   else if (results.loops.length === 0 && !(comparison && comparison.gone.length > 0)) {

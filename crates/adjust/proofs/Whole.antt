@@ -47,7 +47,8 @@ module _ (f : ℕ → List Sight) (p q : ℕ → Bool) where
   onward_held (moved hs) n more less e = e hs
   onward_held (Swept.outside m) n more less e = refl
 
-  from_held : (b : ℕ) → ((m : ℕ) → 0 < m → m ≤ b → p m ≡ q m) → (k n : ℕ) (hs : List ℤ) → settle_from f p b k n hs ≡ settle_from f q b k n hs
+  from_held : (b : ℕ) → ((m : ℕ) → 0 < m → m ≤ b → p m ≡ q m) → (k n : ℕ) (hs : List ℤ)
+      → settle_from f p b k n hs ≡ settle_from f q b k n hs
   unfolding settle_from
   from_held b e zero n hs = refl
   from_held b e (suc k) n hs =
@@ -122,7 +123,8 @@ module _ (lines held : List ℤ) (order best : List ℕ) (b n h : ℕ) (few : b 
             (λ _. ended (settle (sights_of (standing lines)) (is_held held) b (start_heights b held lines)))
         by zero q l = absurd (omega arith)
         by (suc k) q l =
-            ap (λ (m : ℕ). unless_unheld m (λ _. ended (settle (sights_of (standing lines)) (is_held held) b (start_heights b held lines)))) q
+            ap (λ (m : ℕ). unless_unheld m (λ _. ended
+            (settle (sights_of (standing lines)) (is_held held) b (start_heights b held lines)))) q
 
     module _ (none_unheld : r ≡ 0) where
       long : length z ≡ b
@@ -137,7 +139,8 @@ module _ (lines held : List ℤ) (order best : List ℕ) (b n h : ℕ) (few : b 
           (λ i l.
           let k : i < b = omega (arith, long) in
           let e : suc i - 1 ≡ i = omega arith in
-          each i k ∙ sym (start_height b held lines (suc i) (omega arith) k) ∙ ap (λ (x : ℕ). get_or (start_heights b held lines) x (pos 0)) e)
+          each i k ∙ sym (start_height b held lines (suc i) (omega arith) k)
+          ∙ ap (λ (x : ℕ). get_or (start_heights b held lines) x (pos 0)) e)
 
       pub working : Working z b
       working =

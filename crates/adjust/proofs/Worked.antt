@@ -52,20 +52,23 @@ pull_at_2 = refl
 
 first_sweep : sweep (sights_of (standing lines)) (is_held held) begun 5
     ≡ moved (pos 100000000 ∷ pos 102127857 ∷ pos 106331380 ∷ pos 103905963 ∷ pos 99074765 ∷ [])
-unfolding sweep visited move_of work_height_out out_z eq_z nearest nearest_size pull weights sights_of weight_of is_held held_height standing
+unfolding sweep visited move_of work_height_out out_z eq_z nearest nearest_size pull weights sights_of weight_of is_held held_height
+    standing
     standing_from keep
 first_sweep = refl
 
 -- 102.1235, 106.3358, 103.9072 and 99.0726 m to 0.1 mm
 whole : adjustment 5 held lines ≡ done 15 (pos 100000000 ∷ pos 102123536 ∷ pos 106335770 ∷ pos 103907175 ∷ pos 99072642 ∷ [])
-unfolding adjustment unheld_piece first_bad first_from start_heights start start_of heights_from root_height rooted_by held_height is_held tree
+unfolding adjustment unheld_piece first_bad first_from start_heights start start_of heights_from root_height rooted_by held_height is_held
+    tree
     marks up_to grow step first_out lowest far score distance standing standing_from keep settle settle_from sweep visited move_of
     work_height_out out_z eq_z nearest nearest_size pull weights sights_of weight_of
 whole = refl
 
 -- no mark is held: 11 at mark 1
 none_held : adjustment 5 [] lines ≡ refused 11 1
-unfolding adjustment unheld_piece first_bad first_from start_heights start start_of heights_from root_height rooted_by held_height is_held tree
+unfolding adjustment unheld_piece first_bad first_from start_heights start start_of heights_from root_height rooted_by held_height is_held
+    tree
     marks up_to grow step first_out lowest far score distance standing standing_from keep settle settle_from sweep visited move_of
     work_height_out out_z eq_z nearest nearest_size pull weights sights_of weight_of
 none_held = refl

@@ -1,4 +1,7 @@
 // The public calls on a lent book: the adjustment by sweeps, and correction rates. Document 01, "Adjustment".
+
+#![tactic(auto)]
+
 ghost use Rattle.std.specs.Prelude.{◌≡◌};
 ghost use Rattle.book.specs.Lent.{lent};
 ghost use Rattle.book.specs.Test.{refusal};

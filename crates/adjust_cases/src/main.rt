@@ -2,11 +2,15 @@
 // book's, and prints every answer and what the heights then are. A case on standard input (cases::case) has three numbers: how many
 // heights are lent, the place of the height that is spoilt, and its file's length. tests/adjust_cases.py makes the cases and, on its own,
 // what is printed of them.
+#![tactic(auto)]
+
 use book::Book;
 use book::held::Held;
 use book::line::Line;
 use cases::case;
 use rates::Rate;
+use std::io;
+use std::io::{BufWriter, Write};
 
 const NUMBERS: usize = 3;
 
@@ -19,11 +23,12 @@ const RATED: usize = 9;
 // A class that is none in either version.
 const NO_CLASS: i64 = 5;
 
-fn put(text: &[u8]) {
-    io::write_all(cases::STDOUT, text);
+fn put(to: &mut impl Write, text: &[u8]) -> io::Result<()> {
+    to.write_all(text)
 }
 
 fn adjust(
+    to: &mut impl Write,
     name: &[u8],
     version: i64,
     b: i64,
@@ -31,34 +36,36 @@ fn adjust(
     held: &[i64],
     lines: &[i64],
     heights: &mut [i64],
-) {
+) -> io::Result<()> {
     let a = adjust::adjust(version, b, t, held, lines, heights);
-    put(name);
+    put(to, name)?;
     let r = a.refusal;
-    cases::put(r.number);
-    cases::put(r.place);
-    cases::put(a.sweeps);
-    put(b" |");
-    cases::show_numbers(heights);
-    put(b"\n");
+    cases::put(to, r.number)?;
+    cases::put(to, r.place)?;
+    cases::put(to, a.sweeps)?;
+    put(to, b" |")?;
+    cases::show_numbers(to, heights)?;
+    put(to, b"\n")
 }
 
 // A rate by its bits: two rates are one exactly if these are.
-fn put_bits(x: f64) {
+fn put_bits(to: &mut impl Write, x: f64) -> io::Result<()> {
     if x == x {
-        put(b" ");
-        io::print_decimal(cases::STDOUT, f64::to_bits(x));
+        put(to, b" ")?;
+        write!(to, "{}", f64::to_bits(x))?;
     }
+    Ok(())
 }
 
-fn put_rate(rate: Rate) {
+fn put_rate(to: &mut impl Write, rate: Rate) -> io::Result<()> {
     match rate {
-        Rate::PerKm(x) => put_bits(x),
-        Rate::Withdrawn => put(b" withdrawn"),
+        Rate::PerKm(x) => put_bits(to, x),
+        Rate::Withdrawn => put(to, b" withdrawn"),
     }
 }
 
 fn rate_named(
+    to: &mut impl Write,
     name: &[u8],
     version: i64,
     b: i64,
@@ -67,33 +74,53 @@ fn rate_named(
     lines: &[i64],
     heights: &[i64],
     line: usize,
-) {
+) -> io::Result<()> {
     let number = signed::signed_count(line % 65536);
     let a = adjust::rate(version, b, t, held, lines, heights, number);
-    put(name);
+    put(to, name)?;
     let r = a.refusal;
-    cases::put(r.number);
-    cases::put(r.place);
-    cases::put(a.line);
-    cases::put_signed(a.correction);
+    cases::put(to, r.number)?;
+    cases::put(to, r.place)?;
+    cases::put(to, a.line)?;
+    cases::put_signed(to, a.correction)?;
     let x = a.rate;
-    put_rate(x);
-    put(b"\n");
+    put_rate(to, x)?;
+    put(to, b"\n")
 }
 
-fn rate(version: i64, b: i64, t: i64, held: &[i64], lines: &[i64], heights: &[i64], line: usize) {
-    rate_named(b"  rate", version, b, t, held, lines, heights, line);
+fn rate(
+    to: &mut impl Write,
+    version: i64,
+    b: i64,
+    t: i64,
+    held: &[i64],
+    lines: &[i64],
+    heights: &[i64],
+    line: usize,
+) -> io::Result<()> {
+    rate_named(to, b"  rate", version, b, t, held, lines, heights, line)
 }
 
-fn rate_all(version: i64, b: i64, t: i64, held: &[i64], lines: &[i64], heights: &[i64], n: usize) {
+fn rate_all(
+    to: &mut impl Write,
+    version: i64,
+    b: i64,
+    t: i64,
+    held: &[i64],
+    lines: &[i64],
+    heights: &[i64],
+    n: usize,
+) -> io::Result<()> {
     let mut line = 0;
     while line < n {
-        rate(version, b, t, held, lines, heights, line);
+        rate(to, version, b, t, held, lines, heights, line)?;
         line += 1;
     }
+    Ok(())
 }
 
 fn adjust_and_rate(
+    to: &mut impl Write,
     version: i64,
     b: i64,
     t: i64,
@@ -101,10 +128,10 @@ fn adjust_and_rate(
     lines: &[i64],
     heights: &mut [i64],
     n: usize,
-) {
-    adjust(b"adjusted", version, b, t, held, lines, heights);
+) -> io::Result<()> {
+    adjust(to, b"adjusted", version, b, t, held, lines, heights)?;
     let rated = cases::at_most(n, RATED);
-    rate_all(version, b, t, held, lines, heights, rated);
+    rate_all(to, version, b, t, held, lines, heights, rated)
 }
 
 fn raise(heights: &mut [i64], spoilt: usize) {
@@ -115,6 +142,7 @@ fn raise(heights: &mut [i64], spoilt: usize) {
 
 // A height is spoilt, and line 1 rated.
 fn spoil(
+    to: &mut impl Write,
     version: i64,
     b: i64,
     t: i64,
@@ -122,9 +150,9 @@ fn spoil(
     lines: &[i64],
     heights: &mut [i64],
     spoilt: usize,
-) {
+) -> io::Result<()> {
     raise(heights, spoilt);
-    rate(version, b, t, held, lines, heights, 1);
+    rate(to, version, b, t, held, lines, heights, 1)
 }
 
 fn withdraw(lines: &mut [i64]) {
@@ -134,9 +162,18 @@ fn withdraw(lines: &mut [i64]) {
 }
 
 // Line 1 is withdrawn, and all is adjusted and line 1 rated once more.
-fn without_it(version: i64, b: i64, t: i64, held: &[i64], lines: &mut [i64], heights: &mut [i64]) {
+fn without_it(
+    to: &mut impl Write,
+    version: i64,
+    b: i64,
+    t: i64,
+    held: &[i64],
+    lines: &mut [i64],
+    heights: &mut [i64],
+) -> io::Result<()> {
     withdraw(lines);
     adjust(
+        to,
         b"line 1 withdrawn, adjusted",
         version,
         b,
@@ -144,61 +181,142 @@ fn without_it(version: i64, b: i64, t: i64, held: &[i64], lines: &mut [i64], hei
         held,
         lines,
         heights,
-    );
-    rate(version, b, t, held, lines, heights, 1);
+    )?;
+    rate(to, version, b, t, held, lines, heights, 1)
 }
 
 // Told as of either version: t and the classes of one version are not the other's.
-fn tell_either(b: i64, held: &[i64], lines: &[i64], heights: &[i64]) {
-    rate_named(b"version 1, t 0, rate", 1, b, 0, held, lines, heights, 1);
-    rate_named(b"version 1, t 1, rate", 1, b, 1, held, lines, heights, 1);
-    rate_named(b"version 2, t 0, rate", 2, b, 0, held, lines, heights, 1);
-    rate_named(b"version 2, t 1, rate", 2, b, 1, held, lines, heights, 1);
+fn tell_either(
+    to: &mut impl Write,
+    b: i64,
+    held: &[i64],
+    lines: &[i64],
+    heights: &[i64],
+) -> io::Result<()> {
+    rate_named(
+        to,
+        b"version 1, t 0, rate",
+        1,
+        b,
+        0,
+        held,
+        lines,
+        heights,
+        1,
+    )?;
+    rate_named(
+        to,
+        b"version 1, t 1, rate",
+        1,
+        b,
+        1,
+        held,
+        lines,
+        heights,
+        1,
+    )?;
+    rate_named(
+        to,
+        b"version 2, t 0, rate",
+        2,
+        b,
+        0,
+        held,
+        lines,
+        heights,
+        1,
+    )?;
+    rate_named(
+        to,
+        b"version 2, t 1, rate",
+        2,
+        b,
+        1,
+        held,
+        lines,
+        heights,
+        1,
+    )
 }
 
 // The last line gets a class that is none.
 fn without_class(
+    to: &mut impl Write,
     version: i64,
     b: i64,
     t: i64,
     held: &[i64],
     lines: &mut [i64],
     heights: &mut [i64],
-) {
+) -> io::Result<()> {
     cases::spoil_last(lines, Line::WORDS, Line::CLASS, NO_CLASS);
-    adjust(b"class 5, adjusted", version, b, t, held, lines, heights);
-    rate_named(b"class 5, rate", version, b, t, held, lines, heights, 1);
+    adjust(
+        to,
+        b"class 5, adjusted",
+        version,
+        b,
+        t,
+        held,
+        lines,
+        heights,
+    )?;
+    rate_named(to, b"class 5, rate", version, b, t, held, lines, heights, 1)
 }
 
 // Told as of no version.
-fn adjust_none(b: i64, t: i64, held: &[i64], lines: &[i64], heights: &mut [i64]) {
-    adjust(b"version 0, adjusted", 0, b, t, held, lines, heights);
-    adjust(b"version 3, adjusted", 3, b, t, held, lines, heights);
-    adjust(b"version 255, adjusted", 255, b, t, held, lines, heights);
+fn adjust_none(
+    to: &mut impl Write,
+    b: i64,
+    t: i64,
+    held: &[i64],
+    lines: &[i64],
+    heights: &mut [i64],
+) -> io::Result<()> {
+    adjust(to, b"version 0, adjusted", 0, b, t, held, lines, heights)?;
+    adjust(to, b"version 3, adjusted", 3, b, t, held, lines, heights)?;
+    adjust(
+        to,
+        b"version 255, adjusted",
+        255,
+        b,
+        t,
+        held,
+        lines,
+        heights,
+    )
 }
 
 // 3 comes before all else, as heights that are not b in number.
-fn rate_none(b: i64, t: i64, held: &[i64], lines: &[i64], heights: &[i64]) {
-    rate_named(b"version 0, rate", 0, b, t, held, lines, heights, 1);
-    rate_named(b"version 3, rate", 3, b, t, held, lines, heights, 1);
-    rate_named(b"version 255, rate", 255, b, t, held, lines, heights, 1);
+fn rate_none(
+    to: &mut impl Write,
+    b: i64,
+    t: i64,
+    held: &[i64],
+    lines: &[i64],
+    heights: &[i64],
+) -> io::Result<()> {
+    rate_named(to, b"version 0, rate", 0, b, t, held, lines, heights, 1)?;
+    rate_named(to, b"version 3, rate", 3, b, t, held, lines, heights, 1)?;
+    rate_named(to, b"version 255, rate", 255, b, t, held, lines, heights, 1)
 }
 
 fn tell_otherwise(
+    to: &mut impl Write,
     version: i64,
     b: i64,
     t: i64,
     held: &[i64],
     lines: &mut [i64],
     heights: &mut [i64],
-) {
-    tell_either(b, held, lines, heights);
-    without_class(version, b, t, held, lines, heights);
-    adjust_none(b, t, held, lines, heights);
-    rate_none(b, t, held, lines, heights);
+) -> io::Result<()> {
+    tell_either(to, b, held, lines, heights)?;
+    without_class(to, version, b, t, held, lines, heights)?;
+    adjust_none(to, b, t, held, lines, heights)?;
+    rate_none(to, b, t, held, lines, heights)
 }
 
 fn run(
+    to: &mut impl Write,
     version: i64,
     b: i64,
     t: i64,
@@ -207,20 +325,21 @@ fn run(
     heights: &mut [i64],
     n: usize,
     spoilt: usize,
-) {
-    adjust_and_rate(version, b, t, held, lines, heights, n);
-    spoil(version, b, t, held, lines, heights, spoilt);
-    without_it(version, b, t, held, lines, heights);
-    tell_otherwise(version, b, t, held, lines, heights);
+) -> io::Result<()> {
+    adjust_and_rate(to, version, b, t, held, lines, heights, n)?;
+    spoil(to, version, b, t, held, lines, heights, spoilt)?;
+    without_it(to, version, b, t, held, lines, heights)?;
+    tell_otherwise(to, version, b, t, held, lines, heights)
 }
 
 fn read_and_run(
+    to: &mut impl Write,
     file: &[u8],
     held: &mut [i64],
     lines: &mut [i64],
     heights: &mut [i64],
     spoilt: usize,
-) {
+) -> io::Result<()> {
     cases::clear(heights);
     let book = file::read(file, held, lines);
     let version = signed::signed_count(book.version % 65536);
@@ -230,6 +349,7 @@ fn read_and_run(
     let held_words = cases::at_most(book.h % 600 * Held::WORDS, held.len());
     let line_words = cases::at_most(n * Line::WORDS, lines.len());
     run(
+        to,
         version,
         b,
         t,
@@ -238,39 +358,41 @@ fn read_and_run(
         heights,
         n + 2,
         spoilt,
-    );
+    )
 }
 
-fn one_case(case: &[u8]) {
-    put(case::name(case));
-    put(b"\n");
+fn one_case(to: &mut impl Write, case: &[u8]) -> io::Result<()> {
+    put(to, case::name(case))?;
+    put(to, b"\n")?;
     let mut held = [0i64; Book::HELD_WORDS];
     let mut lines = [0i64; Book::LINE_WORDS];
     let mut heights = [0i64; 300];
     let r = cases::at_most(case::number(case, 0), 300);
     read_and_run(
+        to,
         case::file(case, NUMBERS),
         &mut held[..],
         &mut lines[..],
         &mut heights[..r],
         case::number(case, 1),
-    );
+    )
 }
 
-fn all_cases(input: &[u8]) {
+fn all_cases(to: &mut impl Write, input: &[u8]) -> io::Result<()> {
     let mut at = 0;
     loop {
         let next = case::after(input, at, NUMBERS);
         if next <= at {
-            return;
+            return Ok(());
         }
-        one_case(&input[at..next]);
+        one_case(to, &input[at..next])?;
         at = next;
     }
 }
 
-fn main() {
-    let mut space = [0u8; 131072];
-    let got = io::read_full(cases::STDIN, &mut space);
-    all_cases(&space[..got]);
+fn main(rt: HostRuntime) -> io::Result<()> {
+    let input = cases::read_input(rt.alloc(), rt.stdin(), 131_072)?;
+    let mut to = BufWriter::new(rt.alloc(), rt.stdout())?;
+    all_cases(&mut to, input.as_slice())?;
+    to.flush()
 }

@@ -3,6 +3,8 @@
 // On standard input each story: the lengths of the book's file and of its steps (2 bytes each), the file, the steps. A step: the length of
 // its note, its kind and how many numbers of the report are lent (2 bytes each), a line or place and a new number (6 bytes each: 1 if
 // negative, in 2, and the size), the note. tests/afternoon.py makes the steps and, on its own, what is printed of them.
+#![tactic(auto)]
+
 ghost use Rattle.std.specs.Prelude.{◌≤◌, ◌+◌, length};
 
 mod words;
@@ -10,6 +12,8 @@ mod words;
 use book::held::Held;
 use book::line::Line;
 use cases::case;
+use std::io;
+use std::io::{BufWriter, Write};
 use words::Sheet;
 
 // The worked network's numbers: one held entry, seven lines; its report of three rows is kept in space for four.
@@ -37,7 +41,7 @@ const STORY_BYTES: usize = 4;
 
 const STEP_BYTES: usize = 18;
 
-#[derive(Drop)]
+#[derive(Clone, Copy)]
 pub(crate) struct Step {
     kind: usize,
     lent: usize,
@@ -100,6 +104,7 @@ fn answer_lent(
 }
 
 fn call(
+    to: &mut impl Write,
     version: i64,
     b: i64,
     t: i64,
@@ -107,33 +112,35 @@ fn call(
     lines: &mut [i64; LINES_WORDS],
     report: &mut [i64; REPORT_WORDS],
     step: Step,
-) {
+) -> io::Result<()> {
     let lines_were = *lines;
     let report_was = *report;
     let a = answer_lent(version, b, t, held, lines, report, step);
-    words::put_call(step);
-    words::put_answer(a);
-    words::put_book(&lines_were, lines);
     let r = a.refusal;
-    words::put_report(r.number, &report_was, report);
+    words::put_call(to, step)?;
+    words::put_answer(to, a)?;
+    words::put_book(to, &lines_were, lines)?;
+    words::put_report(to, r.number, &report_was, report)
 }
 
 // Somebody writes a number into the book or the report by hand.
-fn pen(sheet: Sheet, s: &mut [i64], step: Step) {
+fn pen(to: &mut impl Write, sheet: Sheet, s: &mut [i64], step: Step) -> io::Result<()> {
     let at = signed::magnitude(step.which);
     if at < s.len() {
         let value = step.value;
-        words::put_change(sheet, at, s[at], value);
+        words::put_change(to, sheet, at, s[at], value)?;
         s[at] = value;
     }
+    Ok(())
 }
 
-fn read(file: &[u8], held: &mut [i64], lines: &mut [i64]) {
+fn read(to: &mut impl Write, file: &[u8], held: &mut [i64], lines: &mut [i64]) -> io::Result<()> {
     let a = file::read(file, held, lines);
-    words::put_read(a);
+    words::put_read(to, a)
 }
 
 fn take_step(
+    to: &mut impl Write,
     version: i64,
     b: i64,
     t: i64,
@@ -142,18 +149,19 @@ fn take_step(
     lines: &mut [i64; LINES_WORDS],
     report: &mut [i64; REPORT_WORDS],
     step: Step,
-) {
+) -> io::Result<()> {
     let kind = step.kind;
     match kind {
-        SURVEY | RERUN | WITHDRAW => call(version, b, t, held, lines, report, step),
-        PEN_IN_HELD => pen(Sheet::Held, held, step),
-        PEN_IN_LINES => pen(Sheet::Lines, lines, step),
-        PEN_IN_REPORT => pen(Sheet::Report, report, step),
-        _ => read(file, held, lines),
+        SURVEY | RERUN | WITHDRAW => call(to, version, b, t, held, lines, report, step),
+        PEN_IN_HELD => pen(to, Sheet::Held, held, step),
+        PEN_IN_LINES => pen(to, Sheet::Lines, lines, step),
+        PEN_IN_REPORT => pen(to, Sheet::Report, report, step),
+        _ => read(to, file, held, lines),
     }
 }
 
 fn play(
+    to: &mut impl Write,
     version: i64,
     b: i64,
     t: i64,
@@ -162,21 +170,32 @@ fn play(
     lines: &mut [i64; LINES_WORDS],
     report: &mut [i64; REPORT_WORDS],
     steps: &[u8],
-) {
+) -> io::Result<()> {
     let mut at = 0;
     while STEP_BYTES <= steps.len() - at {
         let note = at + STEP_BYTES;
         let len = case::two(steps, at);
         if steps.len() - note < len {
-            return;
+            return Ok(());
         }
-        words::put_note(&steps[note..note + len]);
-        take_step(version, b, t, file, held, lines, report, step_at(steps, at));
+        words::put_note(to, &steps[note..note + len])?;
+        take_step(
+            to,
+            version,
+            b,
+            t,
+            file,
+            held,
+            lines,
+            report,
+            step_at(steps, at),
+        )?;
         at = note + len;
     }
+    Ok(())
 }
 
-fn afternoon(file: &[u8], steps: &[u8]) {
+fn afternoon(to: &mut impl Write, file: &[u8], steps: &[u8]) -> io::Result<()> {
     let mut held = [0i64; HELD_WORDS];
     let mut lines = [0i64; LINES_WORDS];
     let mut report = [0i64; REPORT_WORDS];
@@ -186,6 +205,7 @@ fn afternoon(file: &[u8], steps: &[u8]) {
     let b = signed::signed_count(book.b % 65536);
     let t = signed::signed_count(book.t % 65536);
     play(
+        to,
         version,
         b,
         t,
@@ -194,30 +214,32 @@ fn afternoon(file: &[u8], steps: &[u8]) {
         &mut lines,
         &mut report,
         steps,
-    );
+    )
 }
 
 // Plays the first story of the input. The answer is the place after it; 0, where there is no whole one.
-fn story(input: &[u8]) -> usize {
+fn story(to: &mut impl Write, input: &[u8]) -> io::Result<usize> {
     if input.len() < STORY_BYTES {
-        return 0;
+        return Ok(0);
     }
     let steps = STORY_BYTES + case::two(input, 0);
     let end = steps + case::two(input, 2);
     if input.len() < end {
-        return 0;
+        return Ok(0);
     }
-    afternoon(&input[STORY_BYTES..steps], &input[steps..end]);
-    end
+    afternoon(to, &input[STORY_BYTES..steps], &input[steps..end])?;
+    Ok(end)
 }
 
-fn run(input: &[u8]) {
-    let second = cases::at_most(story(input), input.len());
-    story(&input[second..]);
+fn run(to: &mut impl Write, input: &[u8]) -> io::Result<()> {
+    let second = cases::at_most(story(to, input)?, input.len());
+    story(to, &input[second..])?;
+    Ok(())
 }
 
-fn main() {
-    let mut space = [0u8; 16384];
-    let got = io::read_full(cases::STDIN, &mut space);
-    run(&space[..got]);
+fn main(rt: HostRuntime) -> io::Result<()> {
+    let input = cases::read_input(rt.alloc(), rt.stdin(), 16_384)?;
+    let mut to = BufWriter::new(rt.alloc(), rt.stdout())?;
+    run(&mut to, input.as_slice())?;
+    to.flush()
 }

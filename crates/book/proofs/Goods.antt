@@ -45,7 +45,8 @@ no_fault version b lines i e = go (line_fault b _ _ _ _ _) (none_first (fault_at
     go zero e = (refl, (cond_zero (class_out version (class_at lines i)) 5 0 e).0)
     go (suc f) e = absurd (omega (arith, rw (lt-ltb 0 (suc f) (omega arith)) at e))
 
-pub good_class : (version b : ℤ) (lines : List ℤ) (i : ℕ) → line_bad version b lines i ≡ false → class_out version (class_at lines i) ≡ false
+pub good_class : (version b : ℤ) (lines : List ℤ) (i : ℕ) → line_bad version b lines i ≡ false
+    → class_out version (class_at lines i) ≡ false
 good_class version b lines i e = (no_fault version b lines i e).1
 
 -- five numbers without a fault are a line

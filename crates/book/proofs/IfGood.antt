@@ -1,4 +1,4 @@
--- What a call gives by the test of its book: the laws of `ifGood`. Assumes nothing.
+-- What a call gives by the test of its book: the laws of `if_good`. Assumes nothing.
 use mathlib.Core.Path.{◌≡◌, refl}
 use Rattle.book.specs.Test.{if_good}
 use Rattle.book.specs.declared.Book.{Book}

@@ -6,7 +6,8 @@ use Prim.Native.Nat.{ℕ}
 use lib.Dec.{lit<}
 use lib.IntN.{ℤ}
 use Rattle.book.specs.Line.{from_field, to_field, difference_field, length_field, standing_field, class_field}
-use Rattle.book.specs.Line.{from_at, to_at, difference_at, length_at, standing_at, class_at, entry_at, line_of, entry_of, class_fault, fault_at}
+use Rattle.book.specs.Line.{from_at, to_at, difference_at, length_at, standing_at, class_at}
+use Rattle.book.specs.Line.{entry_at, line_of, entry_of, class_fault, fault_at}
 use Rattle.book.specs.declared.line.Line.{Line}
 use Rattle.book.specs.declared.line.MadeLine.{MadeLine}
 use Rattle.book.specs.declared.line.MadeLine.TheVariants.{Good, Refused}
@@ -14,7 +15,8 @@ use Rattle.book.proofs.Made.{line_made, no_line}
 use Rattle.book.proofs.Places.{entry_field}
 
 pub entry_line_lem : (b : ℤ) (lines : List ℤ) (i : ℕ)
-    → entry_of b (entry_at lines i) ≡ line_of b (from_at lines i) (to_at lines i) (difference_at lines i) (length_at lines i) (standing_at lines i)
+    → entry_of b (entry_at lines i) ≡ line_of b (from_at lines i) (to_at lines i) (difference_at lines i) (length_at lines i)
+    (standing_at lines i)
 unfolding entry_of
 entry_line_lem b lines i =
     rw (

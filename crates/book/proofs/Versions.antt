@@ -110,7 +110,8 @@ abbrev pub InsideLimits : ℕ → Type 0
 InsideLimits tolerance = (least_tolerance ≤ tolerance) × (tolerance ≤ most_tolerance)
 
 -- of a line with a class: the table's entry
-pub class_tolerance : (t : ℕ) (class : ℤ) → Between least_class most_class class → tolerance_of t class ≡ get_or tolerances (nat_abs class) 0
+pub class_tolerance : (t : ℕ) (class : ℤ) → Between least_class most_class class
+    → tolerance_of t class ≡ get_or tolerances (nat_abs class) 0
 unfolding tolerance_of
 class_tolerance t class w = ap (tolerance_of t) w.is
 

@@ -1,5 +1,8 @@
 // The book as every call is lent it: its kinds and their limits, and the one test that every call begins with.
 // Document 01, "The book" and "Refusal numbers" 3, 4, 6 and 7.
+
+#![tactic(auto)]
+
 ghost use Rattle.std.specs.Prelude.{◌≡◌, ◌/◌};
 ghost use Rattle.book.specs.Lent.{lent};
 ghost use Rattle.book.specs.Test.{book_of, no_refusal, refusal, refused, test_of, test_beside};
@@ -14,7 +17,7 @@ use held::Held;
 use line::Line;
 
 // The version and the counts of a book inside the limits.
-#[derive(Drop)]
+#[derive(Clone, Copy)]
 pub struct Book {
     pub version: usize,
     pub marks: usize,
@@ -24,7 +27,7 @@ pub struct Book {
 }
 
 // A refusal number of document 01's table, and its place.
-#[derive(Drop)]
+#[derive(Clone, Copy)]
 pub struct Refusal {
     pub number: usize,
     pub place: usize,

@@ -5,7 +5,7 @@ ghost use Rattle.book.specs.Line.{line_words, difference_out, line_fault, line_o
 use crate::class;
 
 // A line, withdrawn (standing 0) or not (1). Its class stands beside it in the slice: what uses it needs that alone.
-#[derive(Drop)]
+#[derive(Clone, Copy)]
 pub struct Line {
     pub from: i64,
     pub to: i64,
@@ -73,7 +73,7 @@ impl Line {
 
     pub const CLASS_FAULT: usize = 6;
 
-    // Whether d is no difference: of a line, or of a re_run.
+    // Whether d is no difference: of a line, or of a re-run.
     pub fn outside_difference(d: i64) -> bool
         ensures { result ≡ difference_out d }
     {

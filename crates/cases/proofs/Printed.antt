@@ -5,17 +5,22 @@ use mathlib.Core.List.{List, [], ◌∷◌}
 use Prim.Native.Nat.{ℕ, ◌^◌, ◌≤◌, ◌<◌}
 use native.Mathlib.Omega.{arith}
 use lib.IntN.{ℤ}
-use lib.ListN.{length, length-append}
+use lib.ListN.{length, take, length-append}
 use lib.Signed.{mag, nat_abs-le}
 use Rattle.text.specs.Bytes.{bytes}
 use Rattle.text.specs.Put.{Put}
 use Rattle.text.specs.Report.{listed_text}
+use Rattle.text.proofs.Puts.{put_whole}
 use Rattle.text.proofs.Room.{machine_room, signed_room}
 use Rattle.cases.specs.Cases.{spaced}
 
 -- the place after a text that has room is how long the text is
 pub put_all : {l l' : List ℕ} {next : ℕ} {text : List ℕ} → Put l l' 0 next text → length text ≤ length l → next ≡ length text
 put_all p h = omega (arith, p.next_is)
+
+-- and the bytes before that place are the text
+pub put_text : {l l' : List ℕ} {next : ℕ} {text : List ℕ} → Put l l' 0 next text → length text ≤ length l → take next l' ≡ text
+put_text p h = put_whole p (omega arith)
 
 pub spaced_room : (n : ℕ) → n < 2 ^ 64 → length (spaced n) ≤ 21
 unfolding spaced bytes

@@ -1,16 +1,19 @@
 // What the programs that run cases share: where a case lies in the input (case.rt), buffers filled before a call, and numbers printed
-// after it. A contract cannot say what is printed: the text is put into bytes by a function that states it, and what prints it says how
-// many bytes those are.
-ghost use Rattle.std.specs.Prelude.{◌≡◌, ◌≤◌, ◌<◌, ◌+◌, min, length, replicate, [], ◌∷◌};
+// after it. The text is put into bytes by a function that states it; what prints it says that a writer of known bytes then holds these
+// too, and how many they are. A failed read or write is given back: what the writer holds then is not said.
+#![tactic(auto)]
+
+ghost use Rattle.std.specs.Prelude.{◌≡◌, ◌≤◌, ◌<◌, ◌+◌, min, length, take, replicate, [], ◌∷◌, OnOk, IfOk, IfSome};
+ghost use Rattle.std.specs.Io.KnownBytes.{Appends};
 ghost use Rattle.text.specs.Put.{Put};
 ghost use Rattle.text.specs.Report.{listed_text};
 ghost use Rattle.cases.specs.Cases.{untouched, spoilt_last, side_of, mixed_with, digest_of, spaced, numbers_text, shown_bytes};
 
 pub mod case;
 
-pub const STDIN: i32 = 0;
-
-pub const STDOUT: i32 = 1;
+use std::alloc::Global;
+use std::io;
+use std::io::{Read, Write};
 
 // The bytes of a number after its space: of a u64, and of an i64 with its sign.
 const NUMBER_BYTES: usize = 21;
@@ -95,31 +98,43 @@ fn put_numbers(out: &mut [u8], s: &[i64]) -> usize
 }
 
 // Prints a number after a space. The answer is how many bytes that are.
-pub fn put(n: usize) -> usize
-    ensures { result ≡ length (spaced n) }
+pub fn put<W: Write>(to: &mut W, n: usize) -> io::Result<usize>
+    ensures count { IfOk result (λ count. count ≡ length (spaced n)) }
+    ensures bytes { OnOk result (Appends (W.contents to.old) (W.contents to.new) (spaced n)) }
 {
     let mut out = [0u8; NUMBER_BYTES];
     let end = put_spaced(&mut out[..], n);
-    io::write_all(STDOUT, &out[..end]);
-    end
+    to.write_all(&out[..end])?;
+    Ok(end)
 }
 
 // Prints a number with its sign after a space. The answer is how many bytes that are.
-pub fn put_signed(x: i64) -> usize
-    ensures { result ≡ length (listed_text (x ∷ [])) }
+pub fn put_signed<W: Write>(to: &mut W, x: i64) -> io::Result<usize>
+    ensures count { IfOk result (λ count. count ≡ length (listed_text (x ∷ []))) }
+    ensures bytes { OnOk result (Appends (W.contents to.old) (W.contents to.new) (listed_text (x ∷ []))) }
 {
     let mut out = [0u8; NUMBER_BYTES];
     let end = text::put_line(&mut out[..], 0, x);
-    io::write_all(STDOUT, &out[..end]);
-    end
+    to.write_all(&out[..end])?;
+    Ok(end)
 }
 
 // Prints the first numbers of a buffer, and its digest, as much of it as there is room for. The answer is how many bytes that are.
-pub fn show_numbers(s: &[i64]) -> usize
-    ensures { result ≡ min (length (numbers_text s.now)) shown_bytes }
+pub fn show_numbers<W: Write>(to: &mut W, s: &[i64]) -> io::Result<usize>
+    ensures count { IfOk result (λ count. count ≡ min (length (numbers_text s.now)) shown_bytes) }
+    ensures bytes { OnOk result (Appends (W.contents to.old) (W.contents to.new) (take shown_bytes (numbers_text s.now))) }
 {
     let mut out = [0u8; SHOWN_BYTES];
     let end = put_numbers(&mut out[..], s);
-    io::write_all(STDOUT, &out[..end]);
-    end
+    to.write_all(&out[..end])?;
+    Ok(end)
+}
+
+// What a program is given: at most so many bytes are read; of longer input these count.
+pub fn read_input<R: Read + Drop>(alloc: Global, input: R, most: u64) -> io::Result<Vec<u8>>
+    ensures { IfOk result (λ bytes. IfSome (R.remaining input) (λ given. bytes.items ≡ take most given)) }
+{
+    let mut bytes = Vec::new(alloc);
+    input.take(most).read_to_end(&mut bytes)?;
+    Ok(bytes)
 }

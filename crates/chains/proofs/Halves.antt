@@ -132,6 +132,7 @@ chain_one (first p lt c) (first q lt' d) = ap suc (chain_one c d)
 -- from each half on it is a chain, and no longer
 chain_from : {next : List ℕ} {i h : ℕ} {hs : List ℕ} → Chain next i hs → Memᴰ h hs
     → (ks : List ℕ) × Chain next h ks × (length ks ≤ length hs)
+chain_from {next = next} {h = h} (no_half {i = i} _) m = elim m [ ]
 chain_from {next = next} (first {i = i} {hs = hs} p lt c) (Memᴰ.head e) =
     (i ∷ hs, subst (λ (x : ℕ). Chain next x (i ∷ hs)) (sym e) (first p lt c), omega arith)
 chain_from (first p lt c) (Memᴰ.tail m) = let w = chain_from c m in (w.0, w.1, omega (arith, w.2))
@@ -146,6 +147,7 @@ chain_differ {next = next} (first {i = i} {hs = hs} p lt c) = differs again (cha
         omega (arith, w.2, chain_one (first p lt c) (subst (λ (x : ℕ). Chain next x w.0) (sym e) w.1))
 
 chain_below : {next : List ℕ} {i : ℕ} {hs : List ℕ} → Chain next i hs → (h : ℕ) → Memᴰ h hs → h < halves
+chain_below {next = next} (no_half {i = i} _) h m = elim m [ ]
 chain_below (first p lt c) h (Memᴰ.head e) = omega arith
 chain_below (first p lt c) h (Memᴰ.tail m) = chain_below c h m
 

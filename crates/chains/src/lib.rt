@@ -1,6 +1,9 @@
 // Chains of halves: every line of a subgraph stands twice, in the chain of each of its ends. A half is a line in one sense, by its number:
 // twice the line's number, one more against its sense. head has the first half of each mark's chain, next the half that follows each half;
 // 0 is no half. ends has of each half the length of its line and the mark that it leads to, length * HALVES + mark.
+
+#![tactic(auto)]
+
 ghost use Rattle.std.specs.Prelude.{◌≡◌, ℕ, ◌+◌, ◌*◌, ◌<◌, ◌≤◌, length, get_or};
 ghost use Rattle.chains.specs.Link.{RoomChains, Linked, Fits, Joined};
 

@@ -117,4 +117,5 @@ module _ (book : Lent) where
   passes_only_if k e h =
       let w = past_rules (book_rules book []) (counts_of book) k (sym test_by_rules ∙ e) in
       let four = rest_of w in
-      none_and (first_of_lem w) (none_and (first_of_lem four) (none_and (first_of_lem (rest_of four)) (none_and (first_of_lem (rest_of (rest_of four))) h)))
+      none_and (first_of_lem w) (none_and (first_of_lem four)
+      (none_and (first_of_lem (rest_of four)) (none_and (first_of_lem (rest_of (rest_of four))) h)))

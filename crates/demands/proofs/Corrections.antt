@@ -187,7 +187,8 @@ module _ (first : Lent) (out : List ℤ) where
       → Holds (book_after book report steps) (report_after book report steps)
   unfolding book_after report_after
   tries_true w [] = w
-  tries_true w (s ∷ steps) = tries_true (any_step_true w s) steps
+  tries_true {book = book} {report = report} w (s ∷ steps) =
+      tries_true {book = corrected_book book report s} {report = (correct book report s).report} (any_step_true w s) steps
 
   module _ (done : (survey_of first out).answer.refusal.number ≡ 0) where
     did : (k : Book) × (test_of first ≡ Good k) × (m ≤ length out)

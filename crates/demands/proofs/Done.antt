@@ -26,7 +26,8 @@ use Rattle.book.specs.declared.Book.{Book}
 use Rattle.book.specs.declared.Tested.TheVariants.{Good}
 use Rattle.book.proofs.Goods.{tested_good}
 use Rattle.book.proofs.Passing.{good_passes}
-use Rattle.file.specs.Read.{stated_length, stated_version, stated_t, stated_b, stated_h, stated_n, stated_counts, file_length, held_of, lines_of}
+use Rattle.file.specs.Read.{stated_length, stated_version, stated_t, stated_b, stated_h, stated_n}
+use Rattle.file.specs.Read.{stated_counts, file_length, held_of, lines_of}
 use Rattle.file.specs.Read.{book_in, read_of}
 use Rattle.file.proofs.Reading.{held_entries, line_entries}
 use Rattle.loops.specs.Row.{listings}

@@ -9,6 +9,7 @@ pub mod TheLoops
 pub mod Reported
 pub mod CorrectedBook
 pub mod Corrections
+pub mod AnyWalk
 pub mod Classes
 pub mod ShortLines
 pub mod StillStands

@@ -47,7 +47,8 @@ use Rattle.demands.proofs.BookRules.{test_by_rules}
 
 -- a book that the test refuses gets the same refusal from every call
 pub faulty_book_same_at_every_call : (book : Lent) (r : Refusal) → test_of book ≡ Refused r → SameAtEveryCall book r
-unfolding survey_of listing_of listings_of not_checked_of sketch_call withdraw_of rerun_of correct_of difference_out rate_answer heights_out write_of
+unfolding survey_of listing_of listings_of not_checked_of sketch_call withdraw_of rerun_of correct_of difference_out rate_answer
+    heights_out write_of
 faulty_book_same_at_every_call book r e = record {
   survey_of_lem = λ out. rw e;
   listing_of_lem = λ loop out. rw e;

@@ -150,7 +150,8 @@ pub text_has_one_answer : (out a b : List ℕ) (at r s : ℕ) (text : List ℕ) 
 text_has_one_answer out a b at r s text p q = put_unique p q
 
 -- the whole report of a file
-pub report_has_one_text : (file out a b : List ℕ) (r s : ℕ) → Put out a 0 r (page_of file) → Put out b 0 s (page_of file) → (a ≡ b) × (r ≡ s)
+pub report_has_one_text : (file out a b : List ℕ) (r s : ℕ) → Put out a 0 r (page_of file) → Put out b 0 s (page_of file)
+    → (a ≡ b) × (r ≡ s)
 report_has_one_text file out a b r s p q = put_unique p q
 
 pub sketch_has_one_text : (file out a b : List ℕ) (r s : ℕ) → Put out a 0 r (sketch_page_of file) → Put out b 0 s (sketch_page_of file)
@@ -178,7 +179,8 @@ pub line_has_one_answer : (b from to difference length standing : ℤ) (x y : Ma
     → x ≡ line_of b from to difference length standing → y ≡ line_of b from to difference length standing → x ≡ y
 line_has_one_answer b from to difference length standing = one_answer (line_of b from to difference length standing)
 
-pub held_entry_has_one_answer : (b mark height : ℤ) (x y : MadeHeld) → x ≡ held_entry_of b mark height → y ≡ held_entry_of b mark height → x ≡ y
+pub held_entry_has_one_answer : (b mark height : ℤ) (x y : MadeHeld) → x ≡ held_entry_of b mark height → y ≡ held_entry_of b mark height
+    → x ≡ y
 held_entry_has_one_answer b mark height = one_answer (held_entry_of b mark height)
 
 pub held_height_has_one_answer : (z : ℤ) (x y : MadeHeight) → x ≡ held_height_of z → y ≡ held_height_of z → x ≡ y

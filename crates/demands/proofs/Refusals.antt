@@ -18,7 +18,8 @@ use Rattle.book.specs.Test.{torn, book_out, refusal}
 use Rattle.book.specs.declared.Book.{Book}
 use Rattle.book.specs.declared.Refusal.{Refusal}
 use Rattle.file.specs.Read as read
-use Rattle.file.specs.Read.{Outcome, answered, stated_length, stated_version, stated_t, stated_b, stated_h, stated_n, stated_counts, file_length}
+use Rattle.file.specs.Read.{Outcome, answered, stated_length, stated_version, stated_t, stated_b}
+use Rattle.file.specs.Read.{stated_h, stated_n, stated_counts, file_length}
 use Rattle.file.specs.Read.{head_of, held_of, lines_of, book_in, room_of, body_of, after_head, read_of}
 use Rattle.file.specs.declared.entry.Kind.TheVariants as kind
 use Rattle.file.specs.declared.Head.TheVariants as head
@@ -79,7 +80,8 @@ module _ (book : Lent) where
       (list_done (unchecked_of (nat_abs book.b) book.lines) out) refl)
 
   -- withdrawal keeps to its table: 3, 4, 6, 7, 8, 9
-  pub withdrawal_keeps_to_table : (report : List ℤ) (number : ℤ) → WithdrawalKeepsToTable book report number (withdraw_of book report number)
+  pub withdrawal_keeps_to_table : (report : List ℤ) (number : ℤ)
+      → WithdrawalKeepsToTable book report number (withdraw_of book report number)
   unfolding withdraw_of correct_of withdraw_rules by_rules counted
   withdrawal_keeps_to_table report number =
       keeps_to_table (λ r. refl) refl refl
@@ -228,7 +230,8 @@ module _ (file : List ℕ) (held lines : List ℤ) where
   unfolding read_of after_head head_of file_rules by_rules refuse
   reader_keeps_to_table =
       keeps_to_table (λ r. refl) refl refl
-      (go (ltb (length file) 13) (not (eqb (stated_length file) (length file))) (version_out (pos (stated_version file))) refl counts_out refl
+      (go (ltb (length file) 13) (not (eqb (stated_length file) (length file)))
+      (version_out (pos (stated_version file))) refl counts_out refl
       (not (eqb (length file) (file_length (stated_version file) (stated_h file) (stated_n file)))))
     where
       k : Book
@@ -236,7 +239,8 @@ module _ (file : List ℕ) (held lines : List ℤ) where
 
       rest : Outcome
       rest =
-          by_rules (held_rule (book_in file (stated_counts file)) ∷ line_rule (book_in file (stated_counts file)) ∷ rooms_rule file held lines
+          by_rules (held_rule (book_in file (stated_counts file)) ∷ line_rule (book_in file (stated_counts file))
+          ∷ rooms_rule file held lines
           ∷ []) refuse (read_done file held lines)
 
       go : (x y z : Bool) → version_out (pos (stated_version file)) ≡ z → (f : Bool) → counts_out ≡ f → (w : Bool)

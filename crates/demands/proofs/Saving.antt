@@ -25,7 +25,8 @@ use Rattle.book.proofs.Goods.{tested_good, tested_counts}
 use Rattle.book.proofs.Passing.{good_passes, counts_pass}
 use Rattle.book.proofs.Versions.{version_passes}
 use Rattle.file.specs.Wire.{Bytes}
-use Rattle.file.specs.Read.{Outcome, stated_length, stated_version, stated_h, stated_n, stated_counts, file_length, length_of, head_of, held_of}
+use Rattle.file.specs.Read.{Outcome, stated_length, stated_version, stated_h, stated_n, stated_counts}
+use Rattle.file.specs.Read.{file_length, length_of, head_of, held_of}
 use Rattle.file.specs.Read.{lines_of, book_in, read_of}
 use Rattle.file.specs.declared.Head.TheVariants.{States}
 use Rattle.file.proofs.Heads.{head_says}
@@ -147,7 +148,8 @@ module _ (book : Lent) (k : Book) (w : Writable book k) where
       if_good_lem (test_of book) _ _ k w.passes ∙ all_written k book.held book.lines file its_said room
 
   -- 10 where there is no room for all of it, and then no byte is written
-  pub short_file_is_ten : (file : List ℕ) → length file < length_of k → write_of book file ≡ writing (writer.refused_with (refusal 10 0)) file
+  pub short_file_is_ten : (file : List ℕ) → length file < length_of k
+      → write_of book file ≡ writing (writer.refused_with (refusal 10 0)) file
   unfolding write_of
   short_file_is_ten file short = if_good_lem (test_of book) _ _ k w.passes ∙ no_room k book.held book.lines file its_said short
 

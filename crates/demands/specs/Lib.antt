@@ -2,6 +2,7 @@ pub mod Rules
 pub mod Tables
 pub mod Calls
 pub mod TheLoops
+pub mod AnyWalk
 pub mod Corrections
 pub mod StillStands
 pub mod Heights

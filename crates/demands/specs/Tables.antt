@@ -8,7 +8,8 @@ use Rattle.book.specs.Version.{version_out}
 use Rattle.book.specs.Held.{held_words, held_count, first_bad_held}
 use Rattle.book.specs.Line.{line_words, line_count, difference_out, first_bad_line}
 use Rattle.book.specs.Test.{torn, book_out, counts_of}
-use Rattle.file.specs.Read.{stated_length, stated_version, stated_t, stated_b, stated_h, stated_n, stated_counts, file_length, held_of, lines_of}
+use Rattle.file.specs.Read.{stated_length, stated_version, stated_t, stated_b, stated_h, stated_n}
+use Rattle.file.specs.Read.{stated_counts, file_length, held_of, lines_of}
 use Rattle.file.specs.Read.{book_in, length_of}
 use Rattle.writer.specs.Write.{cannot_say}
 use Rattle.loops.specs.Loops.{loop_at}

@@ -24,7 +24,7 @@ counts_before report zero = zero
 counts_before report (suc i) = counts_before report i + nat_abs (in_row row_count report i)
 
 -- "With misclosure m and length L a loop is within exactly if m*m <= 10*t*t*L": over what its lines allow, which is so much by the theorem
--- `within-by-judged-length`
+-- `within_by_judged_length`
 abbrev pub Within : ℕ → Loop → Type 0
 Within t lp = nat_abs (misclosure lp) * nat_abs (misclosure lp) ≤ 10 * total (allowances t lp)
 
@@ -51,7 +51,7 @@ abbrev pub closing_lines_of : ℕ → List ℤ → List Line
 closing_lines_of b lines = closing (standing lines) (tree_of b lines)
 
 -- "the tree with the closing lines added so far": all lines of the tree, and all closing lines before that of loop i. Those that document
--- 01 does not add are among them: that they change no loop is the theorem `not-added-changes-no-loop`
+-- 01 does not add are among them: that they change no loop is the theorem `not_added_changes_no_loop`
 unfoldable pub subgraph : ℕ → List ℤ → ℕ → List Line
 unfolding standing tree tree_lines closing only
 subgraph b lines i = only (numbers (tree_lines_of b lines ++ take i (closing_lines_of b lines))) (standing lines)

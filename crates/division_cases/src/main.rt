@@ -1,9 +1,13 @@
 // The two divisions at their edges. A case on standard input is 16 bytes, a size and a divisor of eight each, the high byte first. Of each
 // is printed how far a mark moves that is pulled up and down by the size, where those are in a move's limits, and then the weight of a
 // line as long as the divisor.
+#![tactic(auto)]
+
 ghost use Rattle.std.specs.Prelude.{◌+◌, ◌≤◌, length};
 
 use cases::case;
+use std::io;
+use std::io::{BufWriter, Write};
 
 const CASE_BYTES: usize = 16;
 
@@ -19,40 +23,43 @@ fn eight(s: &[u8], at: usize) -> usize
     (high * 65536 + case::two(s, at + 4)) * 65536 + case::two(s, at + 6)
 }
 
-fn put_moves(size: usize, d: usize) {
+fn put_moves(to: &mut impl Write, size: usize, d: usize) -> io::Result<()> {
     if d == 0 {
-        return;
+        return Ok(());
     }
     if DIVISORS <= d {
-        return;
+        return Ok(());
     }
     if SIZES <= size {
-        return;
+        return Ok(());
     }
     let up = signed::signed_count(size);
     let down = signed::sub(0, up);
-    cases::put_signed(divisions::move_by(up, d));
-    cases::put_signed(divisions::move_by(down, d));
+    cases::put_signed(to, divisions::move_by(up, d))?;
+    cases::put_signed(to, divisions::move_by(down, d))?;
+    Ok(())
 }
 
-fn one_case(size: usize, d: usize) {
-    put_moves(size, d);
+fn one_case(to: &mut impl Write, size: usize, d: usize) -> io::Result<()> {
+    put_moves(to, size, d)?;
     if 0 < d {
-        cases::put(divisions::weight(d));
+        cases::put(to, divisions::weight(d))?;
     }
-    io::write_all(cases::STDOUT, b"\n");
+    to.write_all(b"\n")
 }
 
-fn all_cases(input: &[u8]) {
+fn all_cases(to: &mut impl Write, input: &[u8]) -> io::Result<()> {
     let mut at = 0;
     while CASE_BYTES <= input.len() - at {
-        one_case(eight(input, at), eight(input, at + 8));
+        one_case(to, eight(input, at), eight(input, at + 8))?;
         at += CASE_BYTES;
     }
+    Ok(())
 }
 
-fn main() {
-    let mut space = [0u8; 65536];
-    let got = io::read_full(cases::STDIN, &mut space);
-    all_cases(&space[..got]);
+fn main(rt: HostRuntime) -> io::Result<()> {
+    let input = cases::read_input(rt.alloc(), rt.stdin(), 65_536)?;
+    let mut to = BufWriter::new(rt.alloc(), rt.stdout())?;
+    all_cases(&mut to, input.as_slice())?;
+    to.flush()
 }

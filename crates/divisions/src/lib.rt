@@ -1,4 +1,7 @@
 // The two divisions of the adjustment: a line's weight, and how far a mark moves. Document 01, "Adjustment".
+
+#![tactic(auto)]
+
 ghost use Rattle.std.specs.Prelude.{◌≡◌, ◌<◌, ◌^◌, nat_abs};
 ghost use Rattle.divisions.specs.Weight.{weight_of};
 ghost use Rattle.divisions.specs.Nearest.{nearest_size, nearest};

@@ -58,7 +58,8 @@ module _ (lines : List ℤ) (b n : ℕ) (good : Lines lines b n) where
       let r = from_place k (i + 1) (omega arith) in
       by g w r (eq_z (standing_at lines i) (pos 0)) refl
     where
-      by : GoodLine b lines i → HasLine lines i → Fairs b k (stands_from lines (i + 1)) → (t : Bool) → eq_z (standing_at lines i) (pos 0) ≡ t
+      by : GoodLine b lines i → HasLine lines i → Fairs b k (stands_from lines (i + 1)) → (t : Bool)
+          → eq_z (standing_at lines i) (pos 0) ≡ t
           → Fairs b (suc k) (stands_from lines i)
       by g w r true t = subst (Fairs b (suc k)) (stands_not lines i w t) (fairs_more r)
       by g w r false t = subst (Fairs b (suc k)) (sym (stands_here lines i w g.standing t)) (and_line (fair_here lines b i g) r)

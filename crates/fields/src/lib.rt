@@ -1,4 +1,7 @@
 // What is read of a tested book: the marks and the difference of the line at a place.
+
+#![tactic(auto)]
+
 ghost use Rattle.std.specs.Prelude.{◌≡◌, ◌≤◌, ◌<◌, nat_abs};
 ghost use Rattle.book.specs.Limits.{most_difference};
 ghost use Rattle.book.specs.Line.{from_at, to_at, difference_at};

@@ -21,7 +21,8 @@ use Rattle.book.specs.declared.Refusal.{Refusal}
 use Rattle.book.specs.declared.Tested.{Tested}
 use Rattle.book.specs.declared.Tested.TheVariants as tested
 use Rattle.book.proofs.Versions.{tolerance_inside}
-use Rattle.file.specs.Read.{stated_length, stated_version, stated_t, stated_b, stated_h, stated_n, stated_counts, file_length, head_of, Stated}
+use Rattle.file.specs.Read.{stated_length, stated_version, stated_t, stated_b, stated_h, stated_n}
+use Rattle.file.specs.Read.{stated_counts, file_length, head_of, Stated}
 use Rattle.file.specs.Entry.{entry_bytes, line_kind}
 use Rattle.file.specs.declared.entry.Kind.TheVariants.{Line, ClassedLine}
 use Rattle.file.specs.declared.Head.{Head}
@@ -138,5 +139,6 @@ head_numbered file number e =
     (numbered (ltb (length file) 13) 1 _ (omega arith)
     (numbered (not (eqb (stated_length file) (length file))) 2 _ (omega arith)
     (numbered (version_out (pos (stated_version file))) 3 _ (omega arith)
-    (numbered (book_out (pos (stated_version file)) (pos (stated_b file)) (pos (stated_t file)) (stated_h file) (stated_n file)) 4 _ (omega arith)
+    (numbered (book_out (pos (stated_version file)) (pos (stated_b file)) (pos (stated_t file)) (stated_h file) (stated_n file)) 4 _
+    (omega arith)
     (numbered (not (eqb (length file) (file_length (stated_version file) (stated_h file) (stated_n file)))) 5 _ (omega arith) tt)))))

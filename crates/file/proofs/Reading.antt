@@ -19,7 +19,8 @@ use Rattle.book.proofs.Goods.{tested_good, tested_counts, tested_numbered}
 use Rattle.book.specs.declared.Book.{Book}
 use Rattle.book.specs.declared.Refusal.{Refusal}
 use Rattle.book.specs.declared.Tested.TheVariants.{Good, Refused}
-use Rattle.file.specs.Read.{Outcome, answered, refused_with, done, held_of, lines_of, book_in, head_of, room_of, body_of, after_head, read_of}
+use Rattle.file.specs.Read.{Outcome, answered, refused_with, done, held_of, lines_of, book_in}
+use Rattle.file.specs.Read.{head_of, room_of, body_of, after_head, read_of}
 use Rattle.file.specs.Owed.{BookRead, FileRefused}
 use Rattle.file.specs.declared.Head as head
 use Rattle.file.specs.declared.Head.{Head}

@@ -11,7 +11,7 @@ use book::held::Held;
 use book::line::Line;
 
 // What an entry is of: a held mark, or a line without or with a class.
-#[derive(Drop)]
+#[derive(Clone, Copy)]
 pub enum Kind {
     Held,
     Line,

@@ -1,5 +1,8 @@
 // The reader of book files: bytes into held entries and lines, or the first refusal of document 01's table.
 // It takes any part of a longer input as its file.
+
+#![tactic(auto)]
+
 ghost use Rattle.std.specs.Prelude.{◌≡◌, ◌≤◌, length};
 ghost use Rattle.book.specs.Limits.{most_version, most_held, most_lines};
 ghost use Rattle.book.specs.Test.{refusal, test_of};
@@ -14,7 +17,7 @@ use book::{Book, Refusal, Tested};
 use entry::Kind;
 
 // What the reader answers: a refusal, or none and the book's version and counts.
-#[derive(Drop)]
+#[derive(Clone, Copy)]
 pub struct ReadAnswer {
     pub refusal: Refusal,
     pub version: usize,

@@ -39,6 +39,7 @@ cut (p ∷ w) (suc k) h = let c = cut w k (omega arith) in record {
 -- every pass of a way has a place in its run
 pub placed : (w : List Pass) (p : Pass) → Memᴰ p w → (j : ℕ) × (j < length w) × (get_or (codes w) j 0 ≡ code_of_pass p)
 unfolding codes
+placed [] p m = elim m [ ]
 placed (q ∷ w) p (Memᴰ.head e) = (0, omega arith, ap code_of_pass (sym e))
 placed (q ∷ w) p (Memᴰ.tail i) = let k = placed w p i in (suc k.0, omega (arith, k.1), k.2)
 

@@ -40,7 +40,14 @@ pub parts_turned : (run : List ℕ) (k : ℕ) → k ≤ length run → (a : List
     → all ≡ rotated k run
 parts_turned run k h a is_a b is_b all is_all =
     is_all
-    ∙ rw (is_b, drop_at a (drop k run) k a_length, take_at a (drop k run) k a_length, whole, nothing, append-nil (turned_codes (drop k run)))
+    ∙ rw (
+      is_b,
+      drop_at a (drop k run) k a_length,
+      take_at a (drop k run) k a_length,
+      whole,
+      nothing,
+      append-nil (turned_codes (drop k run)),
+    )
     (ap (λ (l : List ℕ). turned_codes (l ++ turned_codes (drop k run))) is_a ∙ turned_parts (take k run) (drop k run))
   where
     a_length : length a ≡ k

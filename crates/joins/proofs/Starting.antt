@@ -91,7 +91,8 @@ module _ (k : Book) (lines : List ℤ) (g : GoodLines k lines) (i links : ℕ) (
 
   -- a standing line gets its link
   module _ (e : eq_z (standing_at lines i) (pos 0) ≡ false) (from to row code : ℕ) (is_from : from ≡ nat_abs (from_at lines i))
-      (is_to : to ≡ nat_abs (to_at lines i)) (is_row : row ≡ row_of from to 1) (is_code : code ≡ (i + 1) * 2) (rows_fit : links < length rows)
+      (is_to : to ≡ nat_abs (to_at lines i)) (is_row : row ≡ row_of from to 1)
+      (is_code : code ≡ (i + 1) * 2) (rows_fit : links < length rows)
       (Runs-Fit : links < length runs) where
     abbrev own : List Link
     own = map own_link t.own

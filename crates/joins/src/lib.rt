@@ -1,6 +1,9 @@
 // The junction sketch of a book, worked out in two tables: a row and a run of each link, the links that are left first, then the spurs and
 // then the self-closing loops that came off. A run has the codes of the link's lines, one after the other; no run moves but to stand behind
 // others, so that the runs always have each standing line once.
+
+#![tactic(auto)]
+
 ghost use Rattle.std.specs.Prelude.{◌≡◌, ◌-◌, ◌<◌, ◌≤◌, length};
 ghost use Rattle.book.specs.Limits.{most_marks, most_lines};
 ghost use Rattle.book.specs.Good.{GoodLines};
@@ -20,7 +23,7 @@ mod step;
 use book::Book;
 
 // How many links are left, and how many spurs and self-closing loops came off.
-#[derive(Drop)]
+#[derive(Clone, Copy)]
 pub struct Counts {
     pub links: usize,
     pub spurs: usize,

@@ -288,6 +288,7 @@ module _ (k : Book) (ls : List ℤ) (g : GoodLines k ls) {rows runs : List ℕ} 
   -- no link has more lines than all together
   one_few : (xs : List Link) (x : Link) → Memᴰ x xs → length x.way ≤ length (codes_in xs)
   unfolding codes_in
+  one_few [] x m = elim m [ ]
   one_few (y ∷ ys) x (Memᴰ.head e) =
       omega (arith, ap (λ (z : Link). length z.way) e, length-append (codes y.way) (codes_in ys), codes_length y.way)
   one_few (y ∷ ys) x (Memᴰ.tail i) = omega (arith, one_few ys x i, length-append (codes y.way) (codes_in ys))

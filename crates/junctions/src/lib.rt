@@ -1,4 +1,7 @@
 // The junction sketch of a lent book: its links, its spurs and its self-closing loops.
+
+#![tactic(auto)]
+
 ghost use Rattle.std.specs.Prelude.{◌≡◌, ◌≤◌};
 ghost use Rattle.book.specs.Lent.{lent};
 ghost use Rattle.book.specs.Good.{GoodLines};
@@ -30,7 +33,7 @@ pub const ENTRY_DIFFERENCE: usize = 4;
 pub const ENTRIES_WORDS: usize = Book::MAX_LINES * ENTRY_WORDS;
 
 // What the sketch answers: how many links, spurs and loops there are, and how many lines their runs have in all.
-#[derive(Drop)]
+#[derive(Clone, Copy)]
 pub struct Sketched {
     pub refusal: Refusal,
     pub links: usize,

@@ -1,4 +1,7 @@
 // The kept report: compared with the rows of its book, and brought up to date.
+
+#![tactic(auto)]
+
 ghost use Rattle.std.specs.Prelude.{◌≡◌, ◌++◌, ◌≤◌, ◌-◌, length, take, drop, replicate, pos};
 ghost use Rattle.kept.specs.Other.{other_report};
 

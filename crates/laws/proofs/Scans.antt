@@ -1,4 +1,4 @@
--- The laws by which a loop meets `firstBad`: the invariant is `firstBad bad n ≡ first_from bad i (n - i)`.
+-- The laws by which a loop meets `first_bad`: the invariant is `first_bad bad n ≡ first_from bad i (n - i)`.
 -- Assumes nothing.
 use mathlib.Core.Path.{◌≡◌, refl, sym, ◌∙◌, ap}
 use mathlib.Core.Bool.{Bool, true, false, cond, ◌||◌, true≢false}
@@ -38,7 +38,7 @@ module _ (bad : ℕ → Bool) (n : ℕ) where
       let e : n - i ≡ 0 = omega arith in
       sym (h ∙ rw e)
 
--- The laws of `anyBelow`: a loop has `anyBelow p j ≡ false` of the places that it has passed.
+-- The laws of `any_below`: a loop has `any_below p j ≡ false` of the places that it has passed.
 module _ (p : ℕ → Bool) where
   pub any_none : any_below p 0 ≡ false
   unfolding any_below

@@ -34,7 +34,7 @@ nonneg (negsuc n) h = subst (λ (t : Bool). T (not t)) (sym h) tt
 
 -- what is read back from the bits of an element of a slice: the element's own rule gives the bound (`.given`)
 pub back : (z : ℤ) → mag z < 2 ^ 63 → to_z w64 (of_z w64 z) ≡ z
-back z h = to_z-of_z (record { sfits = h })
+back z h = to_z-of_z {w = w64} (record { sfits = h })
 
 -- what a store puts into a slice, where the number stored is known to be z
 pub stored : (x : ℤ) {z : ℤ} → mag x < 2 ^ 63 → x ≡ z → to_z w64 (of_z w64 x) ≡ z

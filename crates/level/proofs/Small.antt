@@ -33,7 +33,8 @@ use Rattle.loops.specs.Report.{loops_of, report_of, pieces_of}
 use Rattle.survey.specs.Report as survey
 use Rattle.survey.specs.Report.{counted}
 use Rattle.survey.specs.Survey.{Surveyed, survey_good, survey_of}
-use Rattle.survey.specs.Correction.{Corrected, no_line, other_report, correct_good, correct_of, rerun_lines, withdraw_lines, rerun_of, withdraw_of}
+use Rattle.survey.specs.Correction.{Corrected, no_line, other_report, correct_good, correct_of}
+use Rattle.survey.specs.Correction.{rerun_lines, withdraw_lines, rerun_of, withdraw_of}
 use Rattle.lists.specs.Listing as lists
 use Rattle.lists.specs.Listing.{Listing, list_of, listing_good, listing_of, listings_good, listings_of}
 use Rattle.lists.specs.NotChecked.{unchecked_of, not_checked_of}

@@ -1,5 +1,8 @@
-// The C interface: thin functions over the public calls, each with the whole contract of the call below it, its numbers as int64.
-// include/level.h declares them.
+// The calls of the C interface, which level_c exports and include/level.h declares: thin functions over the public calls, each with the
+// whole contract of the call below it, its numbers as int64.
+
+#![tactic(auto)]
+
 ghost use Rattle.std.specs.Prelude.{◌≡◌};
 ghost use Rattle.book.specs.Lent.{lent};
 ghost use Rattle.file.specs.Read.{read_of};
@@ -114,7 +117,7 @@ pub extern "C" fn level_write(
     write_answer(writer::write(version, b, t, held, lines, file))
 }
 
-// What survey, re_run and withdrawal answer.
+// What survey, re-run and withdrawal answer.
 #[repr(C)]
 #[derive(Drop)]
 pub struct Answer {

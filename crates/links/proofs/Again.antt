@@ -99,7 +99,8 @@ module _ (g : Line → Measure) where
       ∙ begun_with_same n (before ++ (p ∷ [])) ps)
     where
       go : (t : Bool)
-          → begun_with n (measured_way before ++ (measured_pass g p ∷ [])) (measured_way ps) ≡ measured_way (begun_with n (before ++ (p ∷ [])) ps)
+          → begun_with n (measured_way before ++ (measured_pass g p ∷ [])) (measured_way ps)
+          ≡ measured_way (begun_with n (before ++ (p ∷ [])) ps)
           → cond t (positive (measured_pass g p) (measured_way ps ++ measured_way before))
           (begun_with n (measured_way before ++ (measured_pass g p ∷ [])) (measured_way ps))
           ≡ measured_way (cond t (positive p (ps ++ before)) (begun_with n (before ++ (p ∷ [])) ps))

@@ -54,6 +54,7 @@ module _ {A : Type 0} {R : A → A → Type 0} where
 
   -- and each of the first stands so to each of the second
   pairwise_across : (xs ys : List A) → Pairwise R (xs ++ ys) → (x y : A) → Memᴰ x xs → Memᴰ y ys → R x y
+  pairwise_across [] ys _ x y m j = elim m [ ]
   pairwise_across (z ∷ zs) ys (pairs f p) x y (Memᴰ.head e) j = subst (λ (a : A). R a y) (sym e) (f y (Memᴰ.append_right zs j))
   pairwise_across (z ∷ zs) ys (pairs f p) x y (Memᴰ.tail i) j = pairwise_across zs ys p x y i j
 

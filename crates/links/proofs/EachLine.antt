@@ -34,6 +34,7 @@ own_none n (l ∷ ls) f =
 -- each line by its own, once
 own_once : {lines : List Line} → Rising lines → (l : Line) → Memᴰ l lines → times_in l.number (map own_link lines) ≡ 1
 unfolding times_in
+own_once none_left l m = elim m [ ]
 own_once (then {l = k} {ls = ls} above r) l (Memᴰ.head e) =
     let same : k.number ≡ l.number = ap (λ (x : Line). x.number) (sym e) in
     rw (eq-eqb k.number l.number same)
@@ -71,12 +72,14 @@ finished_lines s =
 -- a link's times are no more than those in all
 times_within : (n : ℕ) (xs : List Link) (x : Link) → Memᴰ x xs → times_run n x.way ≤ times_in n xs
 unfolding times_in
+times_within n [] x m = elim m [ ]
 times_within n (y ∷ ys) x (Memᴰ.head e) = omega (arith, ap (λ (z : Link). times_run n z.way) e)
 times_within n (y ∷ ys) x (Memᴰ.tail i) = omega (arith, times_within n ys x i)
 
 -- a way with a pass over line n runs it
 runs_it : (n : ℕ) (w : List Pass) (p : Pass) → Memᴰ p w → p.line.number ≡ n → 0 < times_run n w
 unfolding times_run
+runs_it n [] p m h = elim m [ ]
 runs_it n (q ∷ qs) p (Memᴰ.head e) h =
     rw (eq-eqb q.line.number n (ap (λ (o : Pass). o.line.number) (sym e) ∙ h)) (omega arith)
 runs_it n (q ∷ qs) p (Memᴰ.tail i) h = omega (arith, runs_it n qs p i h)

@@ -81,6 +81,7 @@ ends_around m before x after = ends_both m before (x ∷ after)
 -- a mark without link ends is an end of no link
 pub no_ends : (m : ℕ) (xs : List Link) → ends_at m xs ≡ 0 → (x : Link) → Memᴰ x xs → has_end m x ≡ false
 unfolding ends_at
+no_ends m [] e x i = elim i [ ]
 no_ends m (y ∷ ys) e x (mathlib.Core.List.Memᴰ.head z) = go (has_end m x) refl
   where
     go : (t : Bool) → has_end m x ≡ t → t ≡ false
@@ -214,7 +215,7 @@ one_lowest_mark {m = m} {n = n} x y =
     let not_above : n < m → ⊥ = λ l. x.no_lower n y.low l y.has_them in
     omega arith
 
--- `lowestWith` is it
+-- `lowest_with` is it
 pub lowest_mark : (b k : ℕ) (xs : List Link) (i : ℕ) → lowest_with b k xs ≡ suc i → Lowest b k xs (suc i)
 unfolding lowest_with
 lowest_mark b k xs i e = let w = first_is_first (λ j. eqb (ends_at (suc j) xs) k) b i e in record {

@@ -26,7 +26,7 @@ pub one_lowest : {m n : ℕ} {w : List Pass} → IsLowest m w → IsLowest n w �
 one_lowest x y =
     omega (arith, x.least y.its y.is_in, y.least x.its x.is_in, x.number_is, y.number_is)
 
--- ---- `lowestLine` is it
+-- ---- `lowest_line` is it
 
 -- of the pass q and the passes w
 from_is : (q : Pass) (w : List Pass) → IsLowest (lowest_from q.line.number w) (q ∷ w)

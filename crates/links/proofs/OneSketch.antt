@@ -1,4 +1,4 @@
--- There is one junction sketch of sound lines: the rule leads to `sketchOf` and to no other. Assumes nothing.
+-- There is one junction sketch of sound lines: the rule leads to `sketch_of` and to no other. Assumes nothing.
 use Prim.Native.Nat.{ℕ, zero, suc, ◌≤◌}
 use native.Mathlib.Omega.{arith}
 use mathlib.Core.Path.{◌≡◌, refl, sym, ◌∙◌, ap, subst}
@@ -121,7 +121,7 @@ module _ (b : ℕ) (lines : List Line) (sound : Sound b lines) where
   pub rule_leads_there : Steps b (start_of lines) (steps b (length lines) (start_of lines))
   rule_leads_there = steps_are (length lines) (stage_start sound) few_links
 
-  -- `sketchOf` is a junction sketch of the lines
+  -- `sketch_of` is a junction sketch of the lines
   pub is_sketch : IsSketch b lines (sketch_of b lines)
   unfolding sketch_of
   is_sketch = record { left = steps b (length lines) (start_of lines); way = rule_leads_there; its = refl }

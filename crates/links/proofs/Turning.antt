@@ -87,6 +87,7 @@ of_turned (q ∷ qs) p i = go (Memᴰ.append_cases (turned_way qs) i) (of_turned
 -- and each pass of the way is one of the way run back
 pub in_turned : (w : List Pass) (p : Pass) → Memᴰ p w → Memᴰ (flip p) (turned_way w)
 unfolding turned_way
+in_turned [] p m = elim m [ ]
 in_turned (q ∷ qs) p (Memᴰ.head e) = Memᴰ.append_right (turned_way qs) (Memᴰ.head (ap flip e))
 in_turned (q ∷ qs) p (Memᴰ.tail i) = Memᴰ.append_left (flip q ∷ []) (in_turned qs p i)
 

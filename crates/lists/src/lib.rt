@@ -1,4 +1,7 @@
 // The lists of a lent book: the lines of a loop, the lines of all loops, and the lines that are not checked.
+
+#![tactic(auto)]
+
 ghost use Rattle.std.specs.Prelude.{◌≡◌};
 ghost use Rattle.book.specs.Lent.{lent};
 ghost use Rattle.book.specs.Test.{refusal};
@@ -12,7 +15,7 @@ pub mod watch;
 use book::{Refusal, Tested};
 
 // What a listing answers.
-#[derive(Drop)]
+#[derive(Clone, Copy)]
 pub struct Listed {
     pub refusal: Refusal,
     pub entries: usize,

@@ -1,4 +1,4 @@
-// "Say what you are not watching": the not_checked list of a tested book, in tables of its own on the stack.
+// "Say what you are not watching": the not-checked list of a tested book, in tables of its own on the stack.
 ghost use Rattle.std.specs.Prelude.{◌≡◌, map, pos};
 ghost use Rattle.book.specs.Good.{GoodLines};
 ghost use Rattle.lists.specs.Listing.{listing, list_of};
@@ -25,7 +25,7 @@ fn write_list(list: &[u64], out: &mut [i64]) -> Listed
     crate::entered(count)
 }
 
-// The not_checked list of a tested book.
+// The not-checked list of a tested book.
 pub fn not_checked_good(book: Book, lines: &[i64], out: &mut [i64]) -> Listed
     requires { GoodLines book lines.now }
     ensures { listing result out.new ≡ list_of (unchecked_of book.marks lines.now) out.old }

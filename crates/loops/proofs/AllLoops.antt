@@ -29,7 +29,8 @@ use Rattle.network.proofs.Pairwise.{pairwise_first, pairwise_rest}
 use Rattle.network.proofs.Parallel.{Parallel, Lower, closed_first_is_lower, entered_is_lower}
 use Rattle.network.proofs.Replaced.{shortest_of_more}
 use Rattle.network.proofs.ShortestPath.{shortest_is_shortest}
-use Rattle.network.proofs.Subgraph.{in_only, of_only, rising_only, or_true, or_right, nos_is_in, is_in_numbers, in_tree_lines, of_tree_lines}
+use Rattle.network.proofs.Subgraph.{in_only, of_only, rising_only, or_true, or_right}
+use Rattle.network.proofs.Subgraph.{nos_is_in, is_in_numbers, in_tree_lines, of_tree_lines}
 use Rattle.network.proofs.Walks.{Way, walk_wider}
 use Rattle.loops.specs.Loops.{Loop, added, loops_from, loops}
 use Rattle.loops.specs.AllLoops.{all_loops_from, all_loops, LoopsOf, no_loop, loop_then}

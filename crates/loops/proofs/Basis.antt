@@ -22,7 +22,8 @@ use Rattle.network.proofs.Flow.{at, tree_zero, NotTree}
 use Rattle.network.proofs.Subgraph.{of_tree_lines}
 use Rattle.loops.specs.Loops.{Loop, loops}
 use Rattle.loops.specs.AllLoops.{LoopsOf, no_loop, loop_then}
-use Rattle.loops.specs.Passes.{once, passes, SumOf}
+use Rattle.loops.specs.Row.{closing_number}
+use Rattle.loops.specs.Passes.{once, passes, SumOf, taken, multiples_of}
 unfoldable pub use Rattle.loops.specs.Passes.{combine}
 use Rattle.loops.proofs.AllLoops.{loops_are}
 use Rattle.loops.proofs.EachLoop.{ToCome, come_next, avoids, closing_lines_to_come, loop_has_closing_line}
@@ -148,6 +149,42 @@ multiples_unique (own_then {c = c} {cs = cs} {lp = lp} {ls = ls} own later t) (k
 
 -- ---- the theorem
 
+-- ---- the multiples of a walk, worked out from the last loop to the first
+
+-- each loop's closing line is its own
+data Closes : List Line → List Loop → Type 0 where
+  none_closes : Closes [] []
+  closes_then : {c : Line} {cs : List Line} {lp : Loop} {ls : List Loop} → closing_number lp ≡ c.number → Closes cs ls
+      → Closes (c ∷ cs) (lp ∷ ls)
+
+closes_each : {lines : List Line} {sub : List ℕ} {cs : List Line} {ls : List Loop} → LoopsOf lines sub cs ls → Closes cs ls
+closes_each no_loop = none_closes
+closes_each (loop_then x p) = closes_then refl (closes_each p)
+
+multiples_are : (w : List Pass) (lp : Loop) (ls : List Loop)
+    → multiples_of w (lp ∷ ls) ≡ taken w lp (multiples_of w ls) ls ∷ multiples_of w ls
+unfolding multiples_of
+multiples_are w lp ls = refl
+
+-- there is one multiple to each loop
+pub one_multiple_each : (w : List Pass) (ls : List Loop) → length (multiples_of w ls) ≡ length ls
+unfolding multiples_of
+one_multiple_each w [] = refl
+one_multiple_each w (lp ∷ ls) = ap suc (one_multiple_each w ls)
+
+-- so the sum of the multiples, the last loop's chosen first, agrees with the walk over every closing line
+multiples_agree : (w : List Pass) {cs : List Line} {ls : List Loop} → Triangular cs ls → Closes cs ls → (c : Line) → Memᴰ c cs
+    → passes w c.number ≡ combine (multiples_of w ls) ls c.number
+multiples_agree w no_more_loops z d m = absurd (Memᴰ.not-nil m)
+multiples_agree w (own_then {c = c} {lp = lp} {ls = ls} own later t) (closes_then closes z) d (Memᴰ.head e) =
+    let ks = multiples_of w ls in
+    let all = passes w c.number in
+    let rest = combine ks ls c.number in
+    rw (multiples_are w lp ls, e, closes) (sym (first_adds_itself (all +ℤ neg_ℤ rest) ks lp ls c.number own ∙ -ℤ-+ℤ_cancel all rest))
+multiples_agree w (own_then {lp = lp} {ls = ls} own later t) (closes_then closes z) d (Memᴰ.tail i) =
+    rw (multiples_are w lp ls) (multiples_agree w t z d i
+    ∙ sym (first_adds_nothing (taken w lp (multiples_of w ls) ls) (multiples_of w ls) lp ls d.number (later d i)))
+
 module _ (b : ℕ) (lines : List Line) (sound : Sound b lines) where
   loops_triangular : Triangular (closing lines (tree b lines)) (loops b lines)
   loops_triangular = triangular (closing_lines_to_come b lines sound) (loops_are b lines sound)
@@ -197,3 +234,15 @@ module _ (b : ℕ) (lines : List Line) (sound : Sound b lines) where
         λ js s. multiples_unique loops_triangular js ks s.one_each n
             (λ c i. sym (s.passes_are c (closing_line_stands b lines sound c i)) ∙ h c i),
       )
+
+  -- those multiples are worked out: a closed walk along standing lines is the sum of its multiples of the loops
+  pub sum_of_its_multiples : (r : ℕ) {w : List Pass} → Walk lines r r w → SumOf lines (loops b lines) w (multiples_of w (loops b lines))
+  sum_of_its_multiples r {w = w} x = record {
+    one_each = one_multiple_each w (loops b lines);
+    passes_are = agrees r x (multiples_of w (loops b lines)) (multiples_agree w loops_triangular (closes_each (loops_are b lines sound)));
+  }
+
+  -- and of no others, whatever the walk
+  pub only_multiples : {w : List Pass} (ks js : List ℤ) → SumOf lines (loops b lines) w ks → SumOf lines (loops b lines) w js → ks ≡ js
+  only_multiples ks js s z = multiples_unique loops_triangular ks js s.one_each z.one_each (λ c i.
+      let stands = closing_line_stands b lines sound c i in sym (s.passes_are c stands) ∙ z.passes_are c stands)

@@ -48,11 +48,12 @@ passes_one (pairs {a = p} {rest = ps} f o) n h =
 -- a walk with a pass over line n runs line n
 pub runs_mem : (n : ℕ) (w : List Pass) (p : Pass) → Memᴰ p w → p.line.number ≡ n → runs n w ≡ true
 unfolding runs
+runs_mem n [] p m h = elim m [ ]
 runs_mem n (q ∷ qs) p (Memᴰ.head e) h = rw (eq-eqb q.line.number n (sym (ap (λ (x : Pass). x.line.number) e) ∙ h))
 runs_mem n (q ∷ qs) p (Memᴰ.tail i) h = or_right (eqb q.line.number n) (runs n qs) (runs_mem n qs p i h)
 
 -- a line that no loop runs has no pass in any sum of them
-unchecked_zero : (ks : List ℤ) (ls : List (List Pass)) (n : ℕ) → checked n ls ≡ false → combine ks ls n ≡ pos 0
+pub unchecked_zero : (ks : List ℤ) (ls : List (List Pass)) (n : ℕ) → checked n ls ≡ false → combine ks ls n ≡ pos 0
 unfolding combine checked
 unchecked_zero [] ls n h = refl
 unchecked_zero (k ∷ ks) [] n h = refl
@@ -80,6 +81,7 @@ checked_by n (l ∷ ls) h = go (or_true (runs n l) (checked n ls) h) (checked_by
 pub in_not_checked : (ls : List Loop) (lines : List Line) (l : Line) → Memᴰ l lines → checked l.number ls ≡ false
     → Memᴰ l.number (not_checked ls lines)
 unfolding not_checked
+in_not_checked ls [] l m h = elim m [ ]
 in_not_checked ls (k ∷ rest) l (Memᴰ.head e) h =
     rw (ap (λ (x : Line). checked x.number ls) (sym e) ∙ h) (Memᴰ.head (ap (λ (x : Line). x.number) e))
 in_not_checked ls (k ∷ rest) l (Memᴰ.tail m) h = go (checked k.number ls) (in_not_checked ls rest l m h)

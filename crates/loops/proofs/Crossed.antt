@@ -104,6 +104,7 @@ crossed_by es n (c ∷ cs) h = go (or_true (eqb c.number n || crosses es n c) (c
 pub in_crossed : (es : Tree) (n : ℕ) (cs : List Line) (c : Line) → Memᴰ c cs → (c.number ≡ n) ⊎ (crosses es n c ≡ true)
     → crossed es n cs ≡ true
 unfolding crossed
+in_crossed es n [] c m h = elim m [ ]
 in_crossed es n (k ∷ cs) c (Memᴰ.head e) h =
     rw (one_checks es n k (subst (λ (x : Line). (x.number ≡ n) ⊎ (crosses es n x ≡ true)) e h))
 in_crossed es n (k ∷ cs) c (Memᴰ.tail i) h =

@@ -7,6 +7,7 @@ pub mod Passes
 pub mod Basis
 pub mod Misclosure
 pub mod Checked
+pub mod EachLine
 pub mod Ways
 pub mod Crossed
 pub mod Row

@@ -17,7 +17,8 @@ listings_length (lp ∷ ls) =
     length-append (map listed lp) (listings ls) ∙ ap₂ (λ (a b : ℕ). a + b) (length-map lp listed) (listings_length ls)
 
 -- one loop more
-pub lines_more : (ls : List Loop) (i : ℕ) → i < length ls → lines_in_all (take (suc i) ls) ≡ lines_in_all (take i ls) + length (loop_at ls i)
+pub lines_more : (ls : List Loop) (i : ℕ) → i < length ls
+    → lines_in_all (take (suc i) ls) ≡ lines_in_all (take i ls) + length (loop_at ls i)
 unfolding lines_in_all loop_at
 lines_more [] i h = absurd (omega arith)
 lines_more (l ∷ ls) zero h = omega arith

@@ -87,6 +87,7 @@ once_other p n d = rw (ne_eqb p.line.number n d)
 spread_once : (p : Pass) (lines : List Line) → Rising lines → Memᴰ p.line lines
     → spread (once p) lines ≡ signed p.forward p.line.difference
 unfolding spread once
+spread_once p [] _ m = elim m [ ]
 spread_once p (l ∷ ls) (then above r) (Memᴰ.head e) =
     rw (
       eq-eqb p.line.number l.number (ap (λ (x : Line). x.number) e),

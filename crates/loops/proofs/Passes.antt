@@ -2,14 +2,17 @@
 use Prim.Native.Nat.{ℕ}
 use mathlib.Core.Path.{◌≡◌, refl, sym, ◌∙◌, ap, ap₂, subst}
 use mathlib.Core.Bool.{Bool, true, false}
-use mathlib.Core.List.{List, [], ◌∷◌, Memᴰ}
-use lib.IntN.{ℤ, pos, negsuc, neg_ℤ, ◌+ℤ◌, ◌*ℤ◌, suc_ℤ, pred_ℤ, +ℤ_idl, +ℤ_idr, +ℤ_assoc, +ℤ_comm, +ℤ_invr, +ℤ_invl, +ℤ_one, -ℤ_one, neg_ℤ-+ℤ}
+use mathlib.Core.List.{List, [], ◌∷◌, map, Memᴰ}
+use lib.IntN.{ℤ, pos, negsuc, neg_ℤ, ◌+ℤ◌, ◌*ℤ◌, suc_ℤ, pred_ℤ, +ℤ_idl}
+use lib.IntN.{+ℤ_idr, +ℤ_assoc, +ℤ_comm, +ℤ_invr, +ℤ_invl, +ℤ_one, -ℤ_one, neg_ℤ-+ℤ}
 use lib.IntN.{zero-*ℤ, *ℤ-zero, suc_ℤ-*ℤ, pred_ℤ-*ℤ, ℤ_ind}
 use lib.Dec.{eqb}
 use borrow.Author.Tests.{eq-eqb, ne_eqb}
 use Rattle.network.specs.Standing.{Line}
 use Rattle.network.specs.Path.{Pass, start, stop, end}
-use Rattle.loops.specs.Passes.{sense, pass_if}
+use Rattle.loops.specs.Loops.{Loop}
+use Rattle.loops.specs.Row.{misclosure}
+use Rattle.loops.specs.Passes.{sense, pass_if, sum_of, combine, combine_misclosures}
 unfoldable pub use Rattle.loops.specs.Passes.{once, passes}
 use Rattle.network.proofs.Flow.{sides, share, at, at_none, at_one, zero_share}
 use Rattle.network.specs.Walk.{Walk, here, step}
@@ -133,3 +136,27 @@ at_walk lines rs r m (step {u = u} {p = p} {ps = ps} s i w) =
 -- so a closed walk is balanced at every mark
 pub at_closed : (lines : List Line) → Rising lines → (r m : ℕ) {w : List Pass} → Walk lines r r w → at (passes w) m lines ≡ pos 0
 at_closed lines rs r m w = at_walk lines rs r m w ∙ +ℤ_invr (unit m r)
+
+-- ---- sums of multiples
+
+-- the sum of multiples of zeros is 0
+pub sum_of_zeros : (ks zs : List ℤ) → ((z : ℤ) → Memᴰ z zs → z ≡ pos 0) → sum_of ks zs ≡ pos 0
+unfolding sum_of
+sum_of_zeros [] zs h = refl
+sum_of_zeros (k ∷ ks) [] h = refl
+sum_of_zeros (k ∷ ks) (z ∷ zs) h =
+    rw (h z (Memᴰ.head refl), *ℤ-zero k, sum_of_zeros ks zs (λ x i. h x (Memᴰ.tail i)))
+
+-- the loops' passes over a line, each times its own of the multiples, are such a sum
+pub combine_is_sum : (ks : List ℤ) (ls : List Loop) (n : ℕ) → combine ks ls n ≡ sum_of ks (map (λ l. passes l n) ls)
+unfolding combine sum_of
+combine_is_sum [] ls n = refl
+combine_is_sum (k ∷ ks) [] n = refl
+combine_is_sum (k ∷ ks) (l ∷ ls) n = ap (λ (z : ℤ). k *ℤ passes l n +ℤ z) (combine_is_sum ks ls n)
+
+-- and their misclosures
+pub misclosures_are_sum : (ks : List ℤ) (ls : List Loop) → combine_misclosures ks ls ≡ sum_of ks (map misclosure ls)
+unfolding combine_misclosures sum_of
+misclosures_are_sum [] ls = refl
+misclosures_are_sum (k ∷ ks) [] = refl
+misclosures_are_sum (k ∷ ks) (l ∷ ls) = ap (λ (z : ℤ). k *ℤ misclosure l +ℤ z) (misclosures_are_sum ks ls)

@@ -79,7 +79,8 @@ loop_at_lem {lines = lines} (loop_then {sub = sub} {c = c} {path = path} x p) ba
   shortest = rw (append-nil, ← same_only sub (numbers base) h lines) x;
 }
 loop_at_lem {lines = lines} (loop_then {sub = sub} {c = c} {cs = cs} {path = path} x p) base h (suc i) l =
-    let w = loop_at_lem p (base ++ (c ∷ [])) (λ n. ap (λ (x : Bool). eqb c.number n || x) (h n) ∙ sym (in_after n c base)) i (omega arith) in
+    let w = loop_at_lem p (base ++ (c ∷ [])) (λ n. ap (λ (x : Bool). eqb c.number n || x) (h n)
+    ∙ sym (in_after n c base)) i (omega arith) in
     record {
       line = w.line;
       path = w.path;

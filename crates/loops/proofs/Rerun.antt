@@ -84,7 +84,8 @@ module _ (n : ℕ) (d : ℤ) where
   rerun_keeps_loops b lines = loops_same (new_difference n d) b lines
 
   -- the tree lines enter in the same order
-  pub rerun_keeps_tree : (b : ℕ) (lines : List Line) → numbers (tree_lines (tree b (redone n d lines))) ≡ numbers (tree_lines (tree b lines))
+  pub rerun_keeps_tree : (b : ℕ) (lines : List Line)
+      → numbers (tree_lines (tree b (redone n d lines))) ≡ numbers (tree_lines (tree b lines))
   rerun_keeps_tree b lines = tree_numbers_same (new_difference n d) b lines
 
   -- the closing lines close in the same order

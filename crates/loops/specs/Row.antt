@@ -1,6 +1,7 @@
 -- Document 01, "Loops": listing, misclosure, verdict and report row of a loop; the verdict as requests 03 and 04 have it.
 -- Assumes nothing.
-use Rattle.std.specs.Prelude.{ℕ, zero, max, ◌+◌, ◌*◌, Bool, true, false, cond, List, [], ◌∷◌, ◌++◌, map, ℤ, pos, neg_ℤ, nat_abs, ◌+ℤ◌, leb, length}
+use Rattle.std.specs.Prelude.{ℕ, zero, max, ◌+◌, ◌*◌, Bool, true, false, cond, List, []}
+use Rattle.std.specs.Prelude.{◌∷◌, ◌++◌, map, ℤ, pos, neg_ℤ, nat_abs, ◌+ℤ◌, leb, length}
 use Rattle.book.specs.Limits.{least_judged}
 use Rattle.book.specs.Version.{tolerance_of}
 use Rattle.network.specs.Standing.{Line}

@@ -1,1 +1,3 @@
 // The definitions of the loops.
+
+#![tactic(auto)]

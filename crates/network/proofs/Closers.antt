@@ -29,6 +29,7 @@ use Rattle.network.proofs.Flow.{ends_in, ends_two, entered}
 
 pub in_just_lines : (cs : List Candidate) (c : Candidate) → Memᴰ c cs → Memᴰ c.line (just_lines cs)
 unfolding just_lines
+in_just_lines [] c m = elim m [ ]
 in_just_lines (d ∷ cs) c (Memᴰ.head e) = Memᴰ.head (ap (λ (x : Candidate). x.line) e)
 in_just_lines (d ∷ cs) c (Memᴰ.tail m) = Memᴰ.tail (in_just_lines cs c m)
 

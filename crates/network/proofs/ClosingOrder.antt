@@ -98,7 +98,7 @@ pub of_not_same : (o : Option Line) (l : Line) → same_line o l ≡ false → (
 of_not_same none l h k e z = none-ne-some k e
 of_not_same (some j) l h k e z = eqb-false j.number l.number h (ap (λ (x : Line). x.number) (some-injective j k e) ∙ z)
 
--- what closes at an entry is among `closersAt`
+-- what closes at an entry is among `closers_at`
 pub in_closers_at : (es : Tree) (e : Entry) (lines : List Line) (c : Candidate) → ClosesAt lines es e c → Memᴰ c (closers_at es e lines)
 unfolding closers_at
 in_closers_at es e [] c w = absurd (Memᴰ.not-nil w.is_line)

@@ -118,6 +118,7 @@ length_closers_at es e (l ∷ ls) = go (eqb (far es l) e.mark) (same_line e.by l
 
 -- just one line has a line's number
 pub count_same : (l : Line) (lines : List Line) → Rising lines → Memᴰ l lines → count (λ k. eqb l.number k.number) lines ≡ 1
+count_same l [] _ m = elim m [ ]
 count_same l (k ∷ ls) (then above r) (Memᴰ.head e) =
     rw (eq-eqb l.number k.number (ap (λ (x : Line). x.number) e))
     (omega (
@@ -135,6 +136,7 @@ count_eq f g (l ∷ ls) e = rw (e l (Memᴰ.head refl), count_eq f g ls (λ k m.
 
 -- two lines of one number are one line
 pub unique : (lines : List Line) → Rising lines → (k l : Line) → Memᴰ k lines → Memᴰ l lines → k.number ≡ l.number → k ≡ l
+unique [] _ k l m _ n = elim m [ ]
 unique (j ∷ ls) (then above r) k l (Memᴰ.head e) (Memᴰ.head e') n = e ∙ sym e'
 unique (j ∷ ls) (then above r) k l (Memᴰ.head e) (Memᴰ.tail m) n =
     absurd (omega (arith, above l m, n, ap (λ (x : Line). x.number) e))

@@ -98,9 +98,11 @@ tried es u l q x y z = go q.forward q.line x y z
 pub none_found : (es : Tree) (u : ℕ) (lines : List Line) → descent es u lines ≡ none → (q : Pass) → Memᴰ q.line lines
     → start q ≡ u → down es q ≡ true → ⊥
 unfolding descent
+none_found es u [] h q m y z = elim m [ ]
 none_found es u (l ∷ ls) h q m y z = go (ahead es u l) (behind es u l) refl refl h m (λ e k. none_found es u ls e q k y z)
   where
-    go : (a b : Bool) → ahead es u l ≡ a → behind es u l ≡ b → pick_pass a (pass l true) (pick_pass b (pass l false) (descent es u ls)) ≡ none
+    go : (a b : Bool) → ahead es u l ≡ a → behind es u l ≡ b
+        → pick_pass a (pass l true) (pick_pass b (pass l false) (descent es u ls)) ≡ none
         → Memᴰ q.line (l ∷ ls) → (descent es u ls ≡ none → Memᴰ q.line ls → ⊥) → ⊥
     go true b s t e k ih = some-ne-none _ e
     go false true s t e k ih = some-ne-none _ e
@@ -117,6 +119,7 @@ none_found es u (l ∷ ls) h q m y z = go (ahead es u l) (behind es u l) refl re
 pub first_found : (es : Tree) (u : ℕ) (lines : List Line) (p : Pass) → Rising lines → Long lines → descent es u lines ≡ some p
     → (q : Pass) → Memᴰ q.line lines → start q ≡ u → down es q ≡ true → (p.line.number < q.line.number) ⊎ (p ≡ q)
 unfolding descent
+first_found es u [] p _ long h q m y z = elim m [ ]
 first_found es u (l ∷ ls) p (then above r) long h q m y z =
     go (ahead es u l) (behind es u l) refl refl h m (λ e k. first_found es u ls p r (λ k i. long k (Memᴰ.tail i)) e q k y z)
   where

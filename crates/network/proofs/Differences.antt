@@ -68,7 +68,8 @@ module _ (g : Line → Measure) where
       go (some s) (some c) = pick (leb s c.score)
         where
           pick : (t : Bool)
-              → lower_of t (candidate s (measured g l)) (measured_candidate c) ≡ Option.map measured_candidate (lower_of t (candidate s l) c)
+              → lower_of t (candidate s (measured g l)) (measured_candidate c)
+              ≡ Option.map measured_candidate (lower_of t (candidate s l) c)
           pick true = refl
           pick false = refl
 

@@ -62,7 +62,8 @@ module _ (b : ℕ) (lines : List Line) (placed : (l : Line) → Memᴰ l lines �
 module _ (b : ℕ) (lines : List Line) (sound : Sound b lines) where
   -- a walk comes through one root at most: of two the higher would be joined with a lower mark
   one_root : {r u : ℕ} {w : List Pass} → Walk lines r u w → (m n : ℕ) → 0 < m → m < n → n ≤ b
-      → is_in m (marks_on u w) ≡ true → root_at (tree b lines) m ≡ true → is_in n (marks_on u w) ≡ true → root_at (tree b lines) n ≡ true → ⊥
+      → is_in m (marks_on u w) ≡ true → root_at (tree b lines) m ≡ true → is_in n (marks_on u w) ≡ true → root_at (tree b lines) n ≡ true
+      → ⊥
   one_root {u = u} {w = w} x m n low lt high im rm jn rn =
       root_is_lowest b lines sound (tree_grows b lines sound) n m rn low lt
       (walk_append (from_mark x n (is_in_mem (marks_on u w) n jn)).1 (way_back (from_mark x m (is_in_mem (marks_on u w) m im)).1).1)

@@ -42,6 +42,7 @@ at_none f m (l ∷ ls) h = rw (h l (Memᴰ.head refl), at_none f m ls (λ k i. h
 pub at_one : (f : ℕ → ℤ) (m : ℕ) (lines : List Line) → Rising lines → (l : Line) → Memᴰ l lines
     → ((k : Line) → Memᴰ k lines → (k.number ≡ l.number → ⊥) → share f m k ≡ pos 0) → at f m lines ≡ share f m l
 unfolding at
+at_one f m [] _ l i h = elim i [ ]
 at_one f m (j ∷ ls) (then above r) l (Memᴰ.head e) h =
     rw (at_none f m ls (λ k i. h k (Memᴰ.tail i) (λ z. omega (arith, above k i, z, ap (λ (x : Line). x.number) e))), +ℤ_idr, e)
 at_one f m (j ∷ ls) (then above r) l (Memᴰ.tail i) h =
@@ -86,6 +87,7 @@ entered e es = go (after e es e.mark)
 
 pub ends_in : (lines : List Line) {es : Tree} → Grown lines es → (e : Entry) → Memᴰ e es → (l : Line) → e.by ≡ some l
     → (u m : ℕ) → Ends l u m → distance es m ≡ none → ⊥
+ends_in lines empty e i l q u m j out = elim i [ ]
 ends_in lines (by_line {e = e₀} {es = es} g b) e (Memᴰ.head p) l q u m j out =
     go (ends_two b.sc.ends (subst (λ (x : Line). Ends x u m) (some-injective _ _ (sym q ∙ by_of p ∙ b.its)) j))
   where

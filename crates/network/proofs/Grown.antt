@@ -82,7 +82,7 @@ pub record IsLowest (es : Tree) (lines : List Line) (c : Candidate) : Type 0 whe
   pub its_score : score es c.line ≡ some c.score
   pub least : (l : Line) (s : ℕ) → Memᴰ l lines → score es l ≡ some s → c.score ≤ s
 
--- what `lowestOf` makes of one line's score and the best of the rest
+-- what `lowest_of` makes of one line's score and the best of the rest
 pub lowest_of_none : (a : Option ℕ) (k : Line) (b : Option Candidate) → lowest_of a k b ≡ none → (a ≡ none) × (b ≡ none)
 lowest_of_none none k b h = (refl, h)
 lowest_of_none (some s) k none h = absurd (some-ne-none _ h)
@@ -130,6 +130,7 @@ lowest_of_some (some s) k (some b) c h = go (leb s b.score) refl h
 
 pub lowest_none : (es : Tree) (lines : List Line) → lowest es lines ≡ none → (l : Line) → Memᴰ l lines → score es l ≡ none
 unfolding lowest
+lowest_none es [] h l m = elim m [ ]
 lowest_none es (k ∷ ls) h l (Memᴰ.head e) = ap (score es) e ∙ (lowest_of_none (score es k) k (lowest es ls) h).0
 lowest_none es (k ∷ ls) h l (Memᴰ.tail m) = lowest_none es ls (lowest_of_none (score es k) k (lowest es ls) h).1 l m
 
@@ -173,6 +174,7 @@ first_out_some es (r ∷ rs) m h = go (distance es r) refl h (first_out_some es 
 
 pub first_out_none : (es : Tree) (roots : List ℕ) → first_out es roots ≡ none → (m : ℕ) → Memᴰ m roots → distance es m ≡ none → ⊥
 unfolding first_out
+first_out_none es [] h m i out = elim i [ ]
 first_out_none es (r ∷ rs) h m i out = go (distance es r) refl h i (first_out_none es rs)
   where
     go : (a : Option ℕ) → distance es r ≡ a → first_of a r (first_out es rs) ≡ none → Memᴰ m (r ∷ rs)
@@ -245,6 +247,7 @@ by_of p = ap (λ (x : Entry). x.by) p
 
 pub tree_line : (lines : List Line) {es : Tree} → Grown lines es → (e : Entry) → Memᴰ e es → (l : Line) → e.by ≡ some l
     → Memᴰ l lines
+tree_line lines empty e m l q = elim m [ ]
 tree_line lines (by_line g b) e (Memᴰ.head p) l q = Memᴰ.cast (some-injective _ _ (sym q ∙ by_of p ∙ b.its)) b.is_line
 tree_line lines (by_line g b) e (Memᴰ.tail m) l q = tree_line lines g e m l q
 tree_line lines (by_root g b) e (Memᴰ.head p) l q = absurd (none-ne-some l (sym b.its ∙ sym (by_of p) ∙ q))

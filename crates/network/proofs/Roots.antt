@@ -75,7 +75,8 @@ unfolding count_to
 count_one_more f g zero h = omega arith
 count_one_more f g (suc b) h = go (f (suc b)) (g (suc b)) refl refl (count_one_more f g b (λ m n low lt le. h m n low lt (omega arith)))
   where
-    go : (s t : Bool) → f (suc b) ≡ s → g (suc b) ≡ t → count_to f b ≤ suc (count_to g b) → bit s + count_to f b ≤ suc (bit t + count_to g b)
+    go : (s t : Bool) → f (suc b) ≡ s → g (suc b) ≡ t → count_to f b ≤ suc (count_to g b)
+        → bit s + count_to f b ≤ suc (bit t + count_to g b)
     go true true p q ih = omega arith
     go true false p q ih = omega (arith, count_not_more f g b (λ m low le x y. h m (suc b) low (omega arith) (omega arith) x y p q))
     go false true p q ih = omega arith

@@ -13,7 +13,8 @@ use lib.Seq.{drop-drop}
 use Rattle.laws.specs.Tests.{eq_z}
 use Rattle.laws.specs.Range.{Between}
 use Rattle.laws.proofs.Inside.{eq_z_true}
-use Rattle.book.specs.Line.{line_words, from_field, to_field, difference_field, length_field, standing_field, class_field, standing_at, line_count}
+use Rattle.book.specs.Line.{line_words, from_field, to_field, difference_field, length_field}
+use Rattle.book.specs.Line.{standing_field, class_field, standing_at, line_count}
 use Rattle.book.proofs.Places.{field_from, field_on}
 use Rattle.network.specs.Standing.{Line, keep, standing_from, standing}
 use Rattle.network.specs.Field.{HasLine, line_at, StandsAt, stands_from}

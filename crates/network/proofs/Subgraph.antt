@@ -22,6 +22,7 @@ use Rattle.network.proofs.Closers.{InTree}
 -- a line whose number is among ns is a line of the subgraph
 pub in_only : (ns : List ℕ) (lines : List Line) (l : Line) → Memᴰ l lines → is_in l.number ns ≡ true → Memᴰ l (only ns lines)
 unfolding only
+in_only ns [] l m h = elim m [ ]
 in_only ns (k ∷ ls) l (Memᴰ.head e) h = rw (ap (λ (x : Line). is_in x.number ns) (sym e) ∙ h) (Memᴰ.head e)
 in_only ns (k ∷ ls) l (Memᴰ.tail m) h = go (is_in k.number ns) (in_only ns ls l m h)
   where
@@ -79,6 +80,7 @@ or_right false b h = h
 -- a line's number is among the lines' numbers
 pub nos_is_in : (ls : List Line) (l : Line) → Memᴰ l ls → is_in l.number (numbers ls) ≡ true
 unfolding is_in
+nos_is_in [] l m = elim m [ ]
 nos_is_in (k ∷ ls) l (Memᴰ.head e) = rw (eq-eqb k.number l.number (sym (ap (λ (x : Line). x.number) e)))
 nos_is_in (k ∷ ls) l (Memᴰ.tail m) = or_right (eqb k.number l.number) (is_in l.number (numbers ls)) (nos_is_in ls l m)
 

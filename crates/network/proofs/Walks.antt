@@ -7,7 +7,7 @@ use Rattle.network.specs.Standing.{Line}
 use Rattle.network.specs.Walk.{Pass, pass, flip, end, start, stop, Walk, here, step, Ends, along, against}
 
 -- one walk after the other
-pub walk_append : {ls : List Line} {r u v : ℕ} {w w' : List Pass} → Walk ls v u w → Walk ls r v w' → Walk ls r u (w ++ w')
+pub walk_append : {ls : List Line} {r v u : ℕ} {w w' : List Pass} → Walk ls v u w → Walk ls r v w' → Walk ls r u (w ++ w')
 walk_append {ls = ls} {r = r} {w' = w'} (here e) y = subst (λ (x : ℕ). Walk ls r x w') (sym e) y
 walk_append (step s m x) y = step s m (walk_append x y)
 

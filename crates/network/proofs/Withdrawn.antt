@@ -58,6 +58,7 @@ without_none x (l ∷ ls) h =
 pub one_fewer : (lines : List Line) → Rising lines → (l : Line) → Memᴰ l lines
     → suc (length (without l.number lines)) ≡ length lines
 unfolding without
+one_fewer [] _ l m = elim m [ ]
 one_fewer (k ∷ ls) (then above r) l (Memᴰ.head e) =
     rw (eq-eqb k.number l.number (sym (ap (λ (y : Line). y.number) e)))
     (ap (λ (ks : List Line). suc (length ks)) (without_none l.number ls
@@ -86,6 +87,7 @@ others x (c ∷ cs) = keep_candidate (not (eqb c.line.number x)) c (others x cs)
 
 in_others : (x : ℕ) (cs : List Candidate) (c : Candidate) → Memᴰ c cs → (c.line.number ≡ x → ⊥) → Memᴰ c (others x cs)
 unfolding others
+in_others x [] c m h = elim m [ ]
 in_others x (d ∷ cs) c (Memᴰ.head e) h =
     rw (ne_eqb d.line.number x (λ z. h (ap (λ (y : Candidate). y.line.number) e ∙ z))) (Memᴰ.head e)
 in_others x (d ∷ cs) c (Memᴰ.tail i) h = go (not (eqb d.line.number x)) (in_others x cs c i h)

@@ -22,6 +22,7 @@ use Rattle.network.specs.Sound.{Rising, then}
 pub lowest_first : (es : Tree) (lines : List Line) → Rising lines → (c : Candidate) → lowest es lines ≡ some c
     → (l : Line) → Memᴰ l lines → score es l ≡ some c.score → (c.line ≡ l) ⊎ (c.line.number < l.number)
 unfolding lowest
+lowest_first es [] _ c h l m s = elim m [ ]
 lowest_first es (k ∷ ls) (then above r) c h l m s = go (score es k) (lowest es ls) refl refl h m (lowest_first es ls r c)
   where
     go : (a : Option ℕ) (d : Option Candidate) → score es k ≡ a → lowest es ls ≡ d → lowest_of a k d ≡ some c → Memᴰ l (k ∷ ls)
@@ -46,6 +47,7 @@ lowest_first es (k ∷ ls) (then above r) c h l m s = go (score es k) (lowest es
 
 pub in_without : (x : ℕ) (lines : List Line) (l : Line) → Memᴰ l lines → (l.number ≡ x → ⊥) → Memᴰ l (without x lines)
 unfolding without
+in_without x [] l m d = elim m [ ]
 in_without x (k ∷ ls) l (Memᴰ.head e) d = rw (ne_eqb k.number x (λ z. d (ap (λ (n : Line). n.number) e ∙ z))) (Memᴰ.head e)
 in_without x (k ∷ ls) l (Memᴰ.tail i) d = go (not (eqb k.number x)) (in_without x ls l i d)
   where

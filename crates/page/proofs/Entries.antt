@@ -80,7 +80,8 @@ first_entry {xs = x ∷ xs} {numbers = numbers} {run = run} {i = i} {a = a} w lt
       whole = first_ends (entry x) (entries xs) w.numbers_lie;
       numbers_are = e;
       count_is = sym (get_or-drop (i * entry_words) numbers 2 (pos 0))
-          ∙ sym (get_or-take entry_words (drop (i * entry_words) numbers) 2 (pos 0) (omega arith)) ∙ ap (λ (l : List ℤ). get_or l 2 (pos 0)) e;
+          ∙ sym (get_or-take entry_words (drop (i * entry_words) numbers) 2 (pos 0) (omega arith))
+          ∙ ap (λ (l : List ℤ). get_or l 2 (pos 0)) e;
       ends = rw n at (first_ends (map listed x.way) (run_by xs) w.lines_lie);
       lines_are = rw n at (first_is (map listed x.way) (run_by xs) w.lines_lie);
       others = record {
@@ -109,7 +110,8 @@ module _ {kind : Kind} {xs : List Link} {numbers run : List ℤ} {count : ℕ} {
 
   module _ {out : List ℕ} {after begin i : ℕ} (w : Left kind xs numbers run count out₀ at a out after begin i) where
     pub left_next : {out' : List ℕ} {after' : ℕ} (n : ℕ) → i < count → n ≡ nat_abs (count_at numbers i)
-        → Put out out' after after' (entry_line kind (take (i * entry_words + entry_words - i * entry_words) (drop (i * entry_words) numbers))
+        → Put out out' after after' (entry_line kind
+        (take (i * entry_words + entry_words - i * entry_words) (drop (i * entry_words) numbers))
         (take (begin + n - begin) (drop begin run)))
         → Left kind xs numbers run count out₀ at a out' after' (begin + n) (i + 1)
     unfolding lines_by listings

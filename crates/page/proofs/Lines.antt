@@ -76,7 +76,8 @@ module _ {lines : List ℤ} {starts runs : List ℕ} {count t : ℕ} {out₀ : L
   all_put_start = record { of = λ k good tb. nothing_put out₀ at }
 
   pub all_put_next : {out out' : List ℕ} {after after' i : ℕ} → i < count → AllPut lines starts runs count t out₀ at out after i
-      → Put out out' after after' (run_line t (i + 1) lines (take (get_or starts (i + 1) 0 - get_or starts i 0) (drop (get_or starts i 0) runs)))
+      → Put out out' after after' (run_line t (i + 1) lines
+      (take (get_or starts (i + 1) 0 - get_or starts i 0) (drop (get_or starts i 0) runs)))
       → AllPut lines starts runs count t out₀ at out' after' (i + 1)
   all_put_next {out = out} {out' = out'} {after = after} {after' = after'} {i = i} lt w p = record {
     of = λ k good tb.

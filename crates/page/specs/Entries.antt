@@ -27,7 +27,8 @@ unfolding link_text spur_text self_closing_text
 entry_line kind.TheVariants.Link e list =
     link_text (number_of e entry_first) (number_of e entry_last) (number_of e entry_length) (number_of e entry_difference) list
 entry_line kind.TheVariants.Spur e list = spur_text (number_of e entry_first) (number_of e entry_length) (number_of e entry_difference) list
-entry_line kind.TheVariants.Loop e list = self_closing_text (number_of e entry_first) (number_of e entry_length) (number_of e entry_difference) list
+entry_line kind.TheVariants.Loop e list =
+    self_closing_text (number_of e entry_first) (number_of e entry_length) (number_of e entry_difference) list
 
 -- part lies in the list from place a on
 pub record LiesAt (part list : List ℤ) (a : ℕ) : Type 0 where

@@ -1,5 +1,8 @@
 // The whole report of a book file, and its junction sketch, as bytes in a lent buffer. What has no room there is left out, so that
 // nothing is asked of the caller.
+
+#![tactic(auto)]
+
 ghost use Rattle.std.specs.Prelude.{◌*◌, ◌≤◌, length};
 ghost use Rattle.book.specs.Limits.{most_lines};
 ghost use Rattle.book.specs.Line.{line_words};

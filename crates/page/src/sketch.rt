@@ -9,7 +9,7 @@ ghost use Rattle.page.specs.Entries.{entry_line, SomeEntered, EntriesPut};
 use book::Book;
 
 // What an entry is of. A loop is a self-closing one.
-#[derive(Drop)]
+#[derive(Clone, Copy)]
 pub enum Kind {
     Link,
     Spur,

@@ -1,4 +1,7 @@
 // The lent book as the network works on it: drawn, and its tree planted.
+
+#![tactic(auto)]
+
 ghost use Rattle.std.specs.Prelude.{◌+◌};
 ghost use Rattle.book.specs.Good.{GoodLines};
 ghost use Rattle.prepare.specs.Drawn.{Entry, drawing, Drew, RoomDraw, BookDrawn};

@@ -1,4 +1,7 @@
 // Correction rates: document 01, "Adjustment".
+
+#![tactic(auto)]
+
 ghost use Rattle.std.specs.Prelude.{◌≡◌, nat_abs, ◌-◌, ◌*◌, ◌≤◌, ◌<◌, ◌^◌, length};
 ghost use Rattle.book.specs.Line.{line_words};
 ghost use Rattle.book.specs.Test.{refusal};

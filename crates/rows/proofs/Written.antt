@@ -34,7 +34,8 @@ pub written_next : (t : ℕ) (ls : List Loop) (out₀ out vs : List ℤ) (i : �
     → vs ≡ row t (loop_at ls i)
     → Written t ls out₀ (put_mid (i * row_words) (i * row_words + row_words - i * row_words) out vs) (i + 1)
 written_next t ls out₀ out vs i lt w e =
-    let before : length (rows t (take i ls)) ≡ i * row_words = omega (arith, rows_length t (take i ls), length-take-le i ls (omega arith)) in
+    let before : length (rows t (take i ls)) ≡ i * row_words =
+    omega (arith, rows_length t (take i ls), length-take-le i ls (omega arith)) in
     let more : take (i + 1) ls ≡ take i ls ++ (loop_at ls i ∷ []) = rw (add-one i, loop_is ls i lt) (take-suc ls i [] lt) in
     pour (rows t (take i ls)) vs out₀ out i row_words before w
     ∙ ap (λ (p : List ℤ). p ++ drop ((i + 1) * row_words) out₀)

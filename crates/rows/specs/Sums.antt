@@ -1,5 +1,6 @@
 -- The sums of a loop over its run, and its row. Assumes nothing.
-use Rattle.std.specs.Prelude.{ℕ, ◌+◌, ◌*◌, ◌-◌, ◌/◌, ◌%◌, ◌≤◌, ◌<◌, cond, List, [], ◌∷◌, ℤ, pos, nat_abs, neg_ℤ, ◌+ℤ◌, length, get_or, eqb, leb}
+use Rattle.std.specs.Prelude.{ℕ, ◌+◌, ◌*◌, ◌-◌, ◌/◌, ◌%◌, ◌≤◌, ◌<◌, cond, List, []}
+use Rattle.std.specs.Prelude.{◌∷◌, ℤ, pos, nat_abs, neg_ℤ, ◌+ℤ◌, length, get_or, eqb, leb}
 use Rattle.laws.specs.Range.{Between}
 use Rattle.book.specs.Limits.{most_marks, most_lines, most_tolerance, most_difference, least_length, most_length}
 use Rattle.book.specs.Line.{line_count, difference_at, length_at, class_at}
@@ -65,7 +66,8 @@ verdict_of allowed m = cond (leb (nat_abs m * nat_abs m) (10 * allowed)) (pos 0)
 unfoldable pub row_of : ℕ → List ℤ → List ℕ → List ℤ
 unfolding length_of allows_of rise_of verdict_of
 row_of t ls run =
-    pos (get_or run 0 0 / 2) ∷ pos (length run) ∷ pos (length_of ls run) ∷ rise_of ls run ∷ verdict_of (allows_of t ls run) (rise_of ls run) ∷ []
+    pos (get_or run 0 0 / 2) ∷ pos (length run) ∷ pos (length_of ls run) ∷ rise_of ls run
+    ∷ verdict_of (allows_of t ls run) (rise_of ls run) ∷ []
 
 -- the count of lines, and every line's difference, length and class, are within their limits
 pub record Measured (ls : List ℤ) : Type 0 where

@@ -1,4 +1,7 @@
 // The row of a loop, from its run in the table of loops; and the rows of a book.
+
+#![tactic(auto)]
+
 ghost use Rattle.std.specs.Prelude.{◌≡◌, [], ◌∷◌, ◌++◌, ◌*◌, ◌<◌, ◌≤◌, ◌^◌, pos, nat_abs, length, drop};
 ghost use Rattle.book.specs.Limits.{most_lines, most_difference, most_length, most_tolerance};
 ghost use Rattle.book.specs.Good.{GoodLines};

@@ -274,12 +274,14 @@ module _ (sub : List Line) (n : ℕ) (head next ends : List ℕ) (gv : Given sub
           let k = fr.keyed x d h in
           absurd (omega (arith, newest nd.l x j d nd.is_line hf h, val, lt, nd.sum, k.key, k.low))
 
-      opened : (x : ℕ) → x < n → distance es x ≡ none → Moved n next ends (keys best seg) (keys best' seg') (get_or head m 0) (dm * halves) x
+      opened : (x : ℕ) → x < n → distance es x ≡ none
+          → Moved n next ends (keys best seg) (keys best' seg') (get_or head m 0) (dm * halves) x
           → get_or seg' (n + x) 0 ≡ get_or best' x 0
       opened x a h (still p q) = q ∙ fr.opened x a h ∙ sym p
       opened x a h (moved j on leads val lt s) = s
 
-      offered : (x : ℕ) → x < n → distance es x ≡ none → Moved n next ends (keys best seg) (keys best' seg') (get_or head m 0) (dm * halves) x
+      offered : (x : ℕ) → x < n → distance es x ≡ none
+          → Moved n next ends (keys best seg) (keys best' seg') (get_or head m 0) (dm * halves) x
           → (get_or best x 0 ≡ hp.far) ⊎ Offer sub es best x → (get_or best' x 0 ≡ hp.far) ⊎ Offer sub es best' x
       offered x a h (still p q) (inl z) = inl (p ∙ z)
       offered x a h (still p q) (inr o) = inr (record {
@@ -305,7 +307,8 @@ module _ (sub : List Line) (n : ℕ) (head next ends : List ℕ) (gv : Given sub
             key = omega (arith, val, nd.sum);
           })
 
-      less : (v : ℕ) → Moved n next ends (keys best seg) (keys best' seg') (get_or head m 0) (dm * halves) v → get_or best' v 0 ≤ get_or best v 0
+      less : (v : ℕ) → Moved n next ends (keys best seg) (keys best' seg') (get_or head m 0) (dm * halves) v
+          → get_or best' v 0 ≤ get_or best v 0
       less v (still p q) = omega (arith, p)
       less v (moved j on leads val lt s) = omega arith
 

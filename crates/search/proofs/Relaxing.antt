@@ -114,7 +114,8 @@ module _ (n : ℕ) (next ends best seg b₁ s₁ b₂ s₂ : List ℕ) (first ba
     part = λ j o. x.part j (later pos o);
   }
     where
-      hit : (j : ℕ) → (j ≡ i) ⊎ On next (get_or next i 0) j → (On next (get_or next i 0) j) ⊎ (get_or b₂ (mark_of ends j) 0 ≤ base + sum_of ends j)
+      hit : (j : ℕ) → (j ≡ i) ⊎ On next (get_or next i 0) j
+          → (On next (get_or next i 0) j) ⊎ (get_or b₂ (mark_of ends j) 0 ≤ base + sum_of ends j)
       hit j (inl e) = inr (rw e (offered_at n b₁ s₁ b₂ s₂ (mark_of ends i) (base + sum_of ends i) x.stage lt y))
       hit j (inr o) = inl o
 

@@ -187,7 +187,8 @@ Searched n head next ends best r to a = (sub : List Line) → Given sub n head n
 -- the halves hs; each leads against the half by which its mark came in, to a mark that is nearer by the least length of a line
 pub data Way (best ends : List ℕ) : ℕ → List ℕ → Type 0 where
   rooted : {m : ℕ} → m < length best → get_or best m 0 ≡ 0 → Way best ends m []
-  onward : {m : ℕ} (g u : ℕ) {hs : List ℕ} → m < length best → 0 < get_or best m 0 → g ≡ flip (get_or best m 0 % halves) → u ≡ mark_of ends g
+  onward : {m : ℕ} (g u : ℕ) {hs : List ℕ} → m < length best → 0 < get_or best m 0 → g ≡ flip (get_or best m 0 % halves)
+      → u ≡ mark_of ends g
       → get_or best u 0 / halves + least_length ≤ get_or best m 0 / halves → Way best ends u hs → Way best ends m (g ∷ hs)
 
 -- there is a way from m, and room for it from place c on

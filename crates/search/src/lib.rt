@@ -1,5 +1,8 @@
 // A search by distance from one mark over chains of halves. A key is a distance and the half that leads there in one number,
 // distance * HALVES + half, so that one test compares distance and then line number.
+
+#![tactic(auto)]
+
 ghost use Rattle.std.specs.Prelude.{◌+◌, ◌*◌, ◌<◌, ◌≤◌};
 ghost use Rattle.chains.specs.Chains.{Bounded, Chained, Heads};
 ghost use Rattle.search.specs.Direct.{LeastSum, Direct};

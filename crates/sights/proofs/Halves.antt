@@ -21,7 +21,8 @@ module _ (lines : List ℤ) (h : ℕ) where
   abbrev weight_here : ℕ
   weight_here = weight_of (nat_abs (length_at lines (place_of h)))
 
-  pub along_half : h % 2 ≡ 0 → sight_at lines h ≡ sight (nat_abs (to_at lines (place_of h))) (neg_ℤ (difference_at lines (place_of h))) weight_here
+  pub along_half : h % 2 ≡ 0 → sight_at lines h
+      ≡ sight (nat_abs (to_at lines (place_of h))) (neg_ℤ (difference_at lines (place_of h))) weight_here
   unfolding sight_at
   along_half e = rw e
 

@@ -24,7 +24,8 @@ use Rattle.sights.proofs.Halves.{along_half, against_half}
 
 data Seen (lines : List ℤ) (n : ℕ) : List ℕ → List Sight → Type 0 where
   none : Seen lines n [] []
-  one : {h : ℕ} {hs : List ℕ} {ss : List Sight} → 2 ≤ h → place_of h < n → Seen lines n hs ss → Seen lines n (h ∷ hs) (sight_at lines h ∷ ss)
+  one : {h : ℕ} {hs : List ℕ} {ss : List Sight} → 2 ≤ h → place_of h < n → Seen lines n hs ss
+      → Seen lines n (h ∷ hs) (sight_at lines h ∷ ss)
 
 leads_by : {lines : List ℤ} {n : ℕ} {next : List ℕ} {i : ℕ} {hs : List ℕ} {ss : List Sight} → Chain next i hs → Seen lines n hs ss
     → Leads lines n next i ss
@@ -40,7 +41,8 @@ module _ (lines : List ℤ) (b n : ℕ) (good : Lines lines b n) (m : ℕ) where
 
   -- the two halves of the line at place i
   along : (i : ℕ)
-      → sight_at lines (2 * suc i) ≡ sight (nat_abs (to_at lines i)) (neg_ℤ (difference_at lines i)) (weight_of (nat_abs (length_at lines i)))
+      → sight_at lines (2 * suc i) ≡ sight (nat_abs (to_at lines i)) (neg_ℤ (difference_at lines i))
+      (weight_of (nat_abs (length_at lines i)))
   along i = let p : place_of (2 * suc i) ≡ i = omega arith in along_half lines (2 * suc i) (omega arith) ∙ rw p
 
   against : (i : ℕ)

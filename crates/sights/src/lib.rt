@@ -1,4 +1,7 @@
 // The lines at each mark, as they are seen from it, in a table of arrays: the chains of the drawn book are written out mark by mark.
+
+#![tactic(auto)]
+
 ghost use Rattle.std.specs.Prelude.{◌≡◌, ◌+◌, ◌-◌, ◌≤◌, ◌<◌, length, nat_abs};
 ghost use Rattle.book.specs.Limits.{most_difference};
 ghost use Rattle.book.specs.Line.{length_at};

@@ -1,5 +1,8 @@
 // Signed numbers met once: every other part of the book works on a range test, an equality test and a cast
 // whose contracts speak of whole numbers and not of bits.
+
+#![tactic(auto)]
+
 ghost use Rattle.std.specs.Prelude.{◌≡◌, false, ℤ, pos, nat_abs, ◌+ℤ◌, ◌-ℤ◌, ◌*ℤ◌, ◌+◌, ◌*◌, ◌<◌, ◌^◌};
 ghost use Rattle.std.specs.Int.Signed.{lt_z};
 ghost use Rattle.laws.specs.Tests.{out_z, eq_z, out_n};

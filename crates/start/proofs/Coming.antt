@@ -100,7 +100,8 @@ module _ (lines : List ℤ) (order best : List ℕ) (b n k : ℕ) (growth : Grow
 
     place_new : (v : ℕ) → v < b → (t : Bool) → eqb m (suc v) ≡ t
         → rooted (get_or (set root (m - 1) r) v 0) (get_or (set over (m - 1) o) v (pos 0))
-        ≡ side_of t (came_in (rooting lines order best k) lines (suc v) (line_in best (get_or order k 0))) (rooting lines order best k (suc v))
+        ≡ side_of t (came_in (rooting lines order best k) lines (suc v) (line_in best (get_or order k 0)))
+        (rooting lines order best k (suc v))
     place_new v h true e =
         let em : get_or order k 0 ≡ suc v = eqb-true (get_or order k 0) (suc v) e in
         let ev : get_or order k 0 - 1 ≡ v = omega arith in
@@ -116,7 +117,8 @@ module _ (lines : List ℤ) (order best : List ℕ) (b n k : ℕ) (growth : Grow
         let nm = eqb-false (get_or order k 0) (suc v) e in
         let low = (growth.marks k l).0 in
         let nv : v ≡ get_or order k 0 - 1 → ⊥ = λ q. nm (omega arith) in
-        rw (get_or-set_other root (get_or order k 0 - 1) v r 0 nv, get_or-set_other over (get_or order k 0 - 1) v o (pos 0) nv) (p.place v h)
+        rw (get_or-set_other root (get_or order k 0 - 1) v r 0 nv, get_or-set_other over (get_or order k 0 - 1) v o (pos 0) nv)
+        (p.place v h)
 
     pub entered : Placing (rooting lines order best (k + 1)) (set root (m - 1) r) (set over (m - 1) o) b (k + 1)
     unfolding rooting

@@ -40,7 +40,13 @@ module _ (held : List ℤ) where
         ≡ cond t (some (height_at held i)) (held_from held (i + 1) (suc u))
     at_mark u l true e =
         let q : u ≡ v = omega (arith, eqb-true (nat_abs (mark_at held i)) (suc u) e) in
-        rw (q, get_or-set_same flags v true false (omega (arith, g.flagged)), get_or-set_same own v z (pos 0) (omega (arith, g.heighted)), ez)
+        rw (
+          q,
+          get_or-set_same flags v true false (omega (arith, g.flagged)),
+          get_or-set_same own v z (pos 0)
+              (omega (arith, g.heighted)),
+          ez,
+        )
     at_mark u l false e =
         let n : u ≡ v → ⊥ = λ q. eqb-false (nat_abs (mark_at held i)) (suc u) e (ev ∙ ap suc (sym q)) in
         rw (get_or-set_other flags v u true false n, get_or-set_other own v u z (pos 0) n) (g.is u l)

@@ -142,7 +142,8 @@ module _ (at at' : ℕ → Rooted) (held held' : ℕ → Option ℤ) where
           held_elsewhere at held r m k z e t ∙ ih ∙ sym (held_elsewhere at' held' r m k z (sym q ∙ e)
           (ap (λ (x : Rooted). eqb x.root r) (sym p) ∙ t))
 
-      by : at m ≡ at' m → held m ≡ held' m → root_height at held r (suc m) k ≡ root_height at' held' r (suc m) k → (o : Option ℤ) → held m ≡ o
+      by : at m ≡ at' m → held m ≡ held' m → root_height at held r (suc m) k ≡ root_height at' held' r (suc m) k → (o : Option ℤ)
+          → held m ≡ o
           → root_height at held r m (suc k) ≡ root_height at' held' r m (suc k)
       by p q ih none e = free_mark at held r m k e ∙ ih ∙ sym (free_mark at' held' r m k (sym q ∙ e))
       by p q ih (some z) e = some_case p q ih z e (eqb (at m).root r) refl

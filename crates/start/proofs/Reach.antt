@@ -70,7 +70,8 @@ tree_reach (e ∷ es) d m = by (tree_reach es (λ x i. d x (Memᴰ.tail i))) (eq
     by h true = new_size (λ k. rooted_by es k) (length es) h m e.by (d e (Memᴰ.head refl))
     by h false = omega (arith, h m)
 
-pub tree_apart : (es : Tree) → SmallTree es → (m p : ℕ) → nat_abs ((rooted_by es m).over -ℤ (rooted_by es p).over) ≤ length es * most_difference
+pub tree_apart : (es : Tree) → SmallTree es → (m p : ℕ)
+    → nat_abs ((rooted_by es m).over -ℤ (rooted_by es p).over) ≤ length es * most_difference
 unfolding rooted_by
 tree_apart [] d m p = zero-le
 tree_apart (e ∷ es) d m p =

@@ -54,7 +54,8 @@ module _ (b : ℕ) (at : ℕ → Rooted) (held : ℕ → Option ℤ) (flags : Li
   unfolding unheld_piece
   unheld_is =
       first_same (unheld root has) (λ i. not (is_some (root_of at held b (suc i)))) b
-      (λ v l. ap not (sym (is_some_lem (get_or has (get_or root v 0 - 1) false) (get_or base (get_or root v 0 - 1) (pos 0))) ∙ ap is_some (of_mark v l)))
+      (λ v l. ap not (sym (is_some_lem (get_or has (get_or root v 0 - 1) false) (get_or base (get_or root v 0 - 1) (pos 0)))
+      ∙ ap is_some (of_mark v l)))
 
   -- where every piece has one
   module _ (all_held : first_bad (unheld root has) b ≡ 0) where

@@ -1,7 +1,8 @@
 -- The start in arrays. The tree comes as it was planted: order[k] is the k-th mark that enters, and best has of each mark the line by which
 -- it came in.
 -- Assumes nothing.
-use Rattle.std.specs.Prelude.{ℕ, zero, suc, ◌+◌, ◌*◌, ◌-◌, ◌≤◌, ◌<◌, ◌≡◌, Bool, true, false, not, cond, List, [], ◌∷◌, eqb, length, get_or, drop, ℤ, pos, nat_abs, ◌+ℤ◌}
+use Rattle.std.specs.Prelude.{ℕ, zero, suc, ◌+◌, ◌*◌, ◌-◌, ◌≤◌, ◌<◌, ◌≡◌, Bool, true, false, not, cond, List, [], ◌∷◌, eqb, length, get_or}
+use Rattle.std.specs.Prelude.{drop, ℤ, pos, nat_abs, ◌+ℤ◌}
 use Rattle.std.proofs.Math.Option.{Option, none, some}
 use Rattle.book.specs.Limits.{most_difference, most_marks, most_held_height}
 use Rattle.book.specs.Good.{GoodHeld}

@@ -1,5 +1,8 @@
 // The heights before the first sweep: document 01, "Adjustment", "Start". The tree comes as it was planted: `order` has the marks as they
 // enter, `best` of each mark a key that ends with the half by which it came in.
+
+#![tactic(auto)]
+
 ghost use Rattle.std.specs.Prelude.{◌≡◌, cond, ◌+◌, ◌≤◌, ◌<◌, length};
 ghost use Rattle.book.specs.Limits.{most_marks, most_held_height};
 ghost use Rattle.book.specs.Good.{Lines, HeldEntries};

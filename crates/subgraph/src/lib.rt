@@ -1,4 +1,7 @@
 // The subgraph of the loops: the tree with the closing lines added so far.
+
+#![tactic(auto)]
+
 ghost use Rattle.chains.specs.Chains.{Bounded};
 ghost use Rattle.chains.specs.Link.{RoomChains};
 ghost use Rattle.subgraph.specs.Drawn.{Laid, RoomLay, TreeLaid};

@@ -50,7 +50,8 @@ number_is g w =
     record { is = w.its_number ∙ ap pos (sym n); low = omega (arith, n); high = omega (arith, n, w.there, g.good.few, g.good.whole) }
 
 -- and its numbers are in the slice
-pub place_inside : {lines : List ℤ} {number : ℤ} {i : ℕ} → Stands lines number i → {j : ℕ} → j < line_words → place_of number j < length lines
+pub place_inside : {lines : List ℤ} {number : ℤ} {i : ℕ} → Stands lines number i → {j : ℕ} → j < line_words
+    → place_of number j < length lines
 place_inside w l = let n = ap nat_abs w.its_number in omega (arith, n, w.there)
 
 -- where the number of a standing line's field is

@@ -122,7 +122,8 @@ module _ (k : Book) (ls : List ℤ) (g : GoodLines k ls) where
     unfolding kept_of
     is_own {f = f} h = told_own (no_line ls number) (other_report report fresh) _ _ (found_in k.marks ls) f (sym e ∙ h)
 
-    pub is_refused : {r : Refusal} (new : List ℤ) → m ≡ Refused r → corrected (refused_with r) ls report ≡ correct_good k ls report number new
+    pub is_refused : {r : Refusal} (new : List ℤ) → m ≡ Refused r
+        → corrected (refused_with r) ls report ≡ correct_good k ls report number new
     unfolding kept_of correct_good
     is_refused {r = r} new h =
         told_refused (no_line ls number) (other_report report fresh) _ _ (found_in k.marks ls) r

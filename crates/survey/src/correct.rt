@@ -70,7 +70,7 @@ fn place_of(number: i64, k: usize) -> usize
     (signed::magnitude(number) - 1) * Line::WORDS + k
 }
 
-// Refusals 8 and 9, or the line's difference is set and the report brought up to date. A re_run keeps every loop's lines, so that the
+// Refusals 8 and 9, or the line's difference is set and the report brought up to date. A re-run keeps every loop's lines, so that the
 // loops are found once.
 pub(crate) fn rerun_good(
     book: Book,

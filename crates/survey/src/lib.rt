@@ -1,4 +1,7 @@
-// The public calls on a lent book and its report: survey, re_run and withdrawal.
+// The public calls on a lent book and its report: survey, re-run and withdrawal.
+
+#![tactic(auto)]
+
 ghost use Rattle.std.specs.Prelude.{◌≡◌};
 ghost use Rattle.book.specs.Lent.{lent};
 ghost use Rattle.book.specs.Test.{refusal};
@@ -13,7 +16,7 @@ use book::line::Line;
 use book::{Refusal, Tested};
 use table::Found;
 
-// What survey, re_run and withdrawal answer.
+// What survey, re-run and withdrawal answer.
 #[derive(Drop)]
 pub struct Answer {
     pub refusal: Refusal,

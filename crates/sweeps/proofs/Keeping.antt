@@ -29,7 +29,8 @@ module _ (P : List ℤ → Type 0) where
       → (work_height_out (height hs m +ℤ move_of ss hs m) ≡ false → P (move_mark hs m (move_of ss hs m))) → Kept P (visited ss hs m)
   unfolding visited
   visited_kept ss hs m h =
-      placed_kept (work_height_out (height hs m +ℤ move_of ss hs m)) (eq_z (move_of ss hs m) (pos 0)) m (height hs m +ℤ move_of ss hs m) hs h
+      placed_kept (work_height_out (height hs m +ℤ move_of ss hs m)) (eq_z (move_of ss hs m) (pos 0)) m
+      (height hs m +ℤ move_of ss hs m) hs h
 
   moved_kept : (s : Swept) → Kept P s → Kept P (has_moved s)
   moved_kept (still hs) h = h

@@ -82,9 +82,11 @@ module _ {first : List ℕ} {cols : Columns} {total : List ℕ} {hs : List ℤ} 
       let n = nearest_size_lem pull_here (get_or total v 0) in
       ⊎_elim (λ (e : get_or total v 0 ≡ 0).
       let z : pull_here ≡ pos 0 = no_weight hs (get_or hs v (pos 0)) lines_here (sym total_is ∙ e) in
-      let q : nearest pull_here (get_or total v 0) ≡ pos 0 = ap (λ (x : ℤ). nearest x (get_or total v 0)) z ∙ nearest_none (get_or total v 0) in
+      let q : nearest pull_here (get_or total v 0) ≡ pos 0 =
+      ap (λ (x : ℤ). nearest x (get_or total v 0)) z ∙ nearest_none (get_or total v 0) in
       rw q (omega arith))
-      (λ (p : 0 < get_or total v 0). let h = nearest_le (nat_abs pull_here) (get_or total v 0) p in omega arith) (eq-zero-or-pos (get_or total v 0))
+      (λ (p : 0 < get_or total v 0). let h = nearest_le (nat_abs pull_here) (get_or total v 0) p in
+      omega arith) (eq-zero-or-pos (get_or total v 0))
 
 -- a height that is set keeps the heights inside their limit
 pub working_set : (hs : List ℤ) (b v : ℕ) (z : ℤ) → Working hs b → work_height_out z ≡ false → Working (set hs v z) b

@@ -1,4 +1,7 @@
 // A visit, a sweep, and the sweeps until nothing moves: document 01, "Adjustment". The lines at each mark stand in a table of arrays.
+
+#![tactic(auto)]
+
 ghost use Rattle.std.specs.Prelude.{◌≡◌, suc, ◌+◌, ◌-◌, ◌<◌, ◌≤◌, ◌^◌, length, nat_abs};
 ghost use Rattle.book.specs.Good.{Lines};
 ghost use Rattle.network.specs.Standing.{standing};
@@ -22,7 +25,7 @@ const ENDS: usize = Book::MAX_LINES * 2;
 const MAX_SWEEPS: usize = 10_000;
 
 // How a sweep stands after a mark's turn: nothing has moved, a mark has moved, or the height of this mark is outside its limit.
-#[derive(Drop)]
+#[derive(Clone, Copy)]
 pub enum Turn {
     Still,
     Moved,

@@ -1,4 +1,7 @@
 // The table of a book's loops: they are found once, here, and read by whatever is asked of them.
+
+#![tactic(auto)]
+
 ghost use Rattle.std.specs.Prelude.{◌≡◌};
 ghost use Rattle.book.specs.Good.{GoodLines};
 ghost use Rattle.loops.specs.Report.{loops_of};

@@ -61,7 +61,8 @@ module _ {l l₁ : List ℕ} {at r n : ℕ} where
   pub put_one : n < 10 → Put l l₁ at r (last_digit n) → Put l l₁ at r (decimal n)
   put_one h p = rw (decimal_one n h) p
 
-  pub put_more : {l₂ : List ℕ} {s : ℕ} → 10 ≤ n → Put l l₁ at r (decimal (n / 10)) → Put l₁ l₂ r s (last_digit n) → Put l l₂ at s (decimal n)
+  pub put_more : {l₂ : List ℕ} {s : ℕ} → 10 ≤ n → Put l l₁ at r (decimal (n / 10)) → Put l₁ l₂ r s (last_digit n)
+      → Put l l₂ at s (decimal n)
   put_more h p q = rw (decimal_more n h) (p then q)
 
 pub signed_below : (z : ℤ) → lt_z z (pos 0) ≡ true → signed_text z ≡ bytes "-" ++ decimal (nat_abs z)

@@ -1,14 +1,18 @@
 -- Laws on texts that are put: one after another, element by element, with no room, and with room for all.
 -- Assumes nothing.
 use mathlib.Core.Path.{◌≡◌, refl, sym, ◌∙◌, ap}
+use mathlib.Core.Bool.{Bool, true, false}
 use mathlib.Core.List.{List, [], ◌∷◌, ◌++◌}
 use Prim.Native.Nat.{ℕ, suc, ◌+◌, ◌≤◌, ◌<◌}
 use native.Mathlib.Decide.{ℕ_discrete}
 use native.Mathlib.Nat.{add-zero}
 use native.Mathlib.Numerals.{add-one}
 use native.Mathlib.Omega.{arith}
-use lib.ListN.{length, get_or, take, drop, set, length-append, length-take}
+use borrow.Author.Tests.{ltb-true, ltb-false}
+use lib.Dec.{ltb}
+use lib.ListN.{length, get_or, take, drop, set, length-append, length-take, take-append-drop}
 use lib.Seq.{sets, sets-eq, set_out, length-sets, length-take-le, take-suc, take_all, take_at}
+use Rattle.laws.proofs.Lists.{filled}
 use Rattle.text.specs.Put.{Put}
 
 -- stores past the end are not there
@@ -84,3 +88,23 @@ put_whole {l} {l'} {at} {next} {text} p h =
     let e : next ≡ at + length text = omega (arith, p.next_is) in
     let n : length (take at l ++ text) ≡ next = length-append (take at l) text ∙ omega (arith, length-take at l) in
     rw (p.written, sets-eq text l at h) (take_at (take at l ++ text) (drop (at + length text) l) next n)
+
+-- what stands before the place after a text that was put from the start on: the text, or as much of it as there was room for
+pub put_first : {l l' : List ℕ} {next : ℕ} {text : List ℕ} → Put l l' 0 next text → take next l' ≡ take (length l) text
+put_first {l} {l'} {next} {text} p = by (ltb (length l) (length text)) refl
+  where
+    by : (t : Bool) → ltb (length l) (length text) ≡ t → take next l' ≡ take (length l) text
+    by true t =
+        let less = ltb-true (length l) (length text) t in
+        let first = take (length l) text in
+        let rest = drop (length l) text in
+        let n : length first ≡ length l = length-take-le (length l) text (omega arith) in
+        let all : next ≡ length l = omega (arith, p.next_is) in
+        let past : length (sets l 0 first) ≤ 0 + length first = omega (arith, length-sets l 0 first) in
+        let e : l' ≡ first =
+        p.written ∙ ap (sets l 0) (sym (take-append-drop (length l) text)) ∙ sets_append first rest l 0
+        ∙ sets_past rest (sets l 0 first) (0 + length first) past ∙ filled first l (sym n) in
+        rw (all, e) (take_all (length l) first (omega arith))
+    by false t =
+        let room = ltb-false (length l) (length text) t in
+        put_whole p (omega arith) ∙ sym (take_all (length l) text (omega arith))

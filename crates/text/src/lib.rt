@@ -1,5 +1,8 @@
 // What the report program prints, as bytes that are put into a lent buffer, from the place `at` on. The answer is the
 // place after them. What has no room is left out, so that nothing is asked of the caller.
+
+#![tactic(auto)]
+
 ghost use Rattle.std.specs.Prelude.{[], ◌∷◌};
 ghost use Rattle.text.specs.Number.{last_digit, decimal, signed_text};
 ghost use Rattle.text.specs.Put.{Put};

@@ -109,7 +109,8 @@ module _ (lines : List Line) (n : ℕ) (head next ends : List ℕ) (gv : Given l
     pub passed : (m : ℕ) → 0 < m → m < root → distance (grow lines (marks (n - 1)) k) m ≡ none → ⊥
     pub entered : Entered order (grow lines (marks (n - 1)) k)
 
-  pub plant_start : (best seg order : List ℕ) → ((i : ℕ) → i < n → get_or best i 0 ≡ hp.far) → ((i : ℕ) → i < 2 * n → get_or seg i 0 ≡ hp.far)
+  pub plant_start : (best seg order : List ℕ) → ((i : ℕ) → i < n → get_or best i 0 ≡ hp.far)
+      → ((i : ℕ) → i < 2 * n → get_or seg i 0 ≡ hp.far)
       → Planting 0 best seg order 1
   unfolding grow distance
   plant_start best seg order fb fs = record {

@@ -1,4 +1,7 @@
 // The tree of a book: all its pieces, by the same search as a path.
+
+#![tactic(auto)]
+
 ghost use Rattle.std.specs.Prelude.{◌+◌, ◌*◌, ◌<◌, ◌≤◌, length};
 ghost use Rattle.chains.specs.Chains.{Bounded, Heads};
 ghost use Rattle.search.specs.Front.{Stage};

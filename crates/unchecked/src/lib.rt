@@ -1,5 +1,8 @@
 // The lines that no loop checks, from the tree and its closing lines alone: no loop is worked out, and the closing lines are put
 // in no order.
+
+#![tactic(auto)]
+
 ghost use Rattle.std.specs.Prelude.{◌≡◌, ◌+◌, ◌*◌, ◌-◌, ◌<◌, length};
 ghost use Rattle.chains.specs.Chains.{mark_of};
 ghost use Rattle.closing.specs.Order.{Put};

@@ -105,7 +105,8 @@ edge m =
 
 pub cases : List Case
 unfolding lines held report line_six line_three withdrawn edge survey_of listing_of not_checked_of rerun_of withdraw_of withdraw_lines tree
-    tree_lines network.standing out_z out_n eq_z first_from first_bad any_below rate_answer work_height_out quotient div of_int round units odd size
+    tree_lines network.standing out_z out_n eq_z first_from first_bad any_below rate_answer work_height_out quotient div of_int round units
+    odd size
     climb span
 cases =
     -- (a) the three loops

@@ -1,6 +1,6 @@
 -- Reading what was written: an entry, a run of entries.
 -- Assumes nothing.
-use mathlib.Core.Path.{◌≡◌, refl, sym, ◌∙◌, ap}
+use mathlib.Core.Path.{◌≡◌, refl, sym, ◌∙◌, ap, subst}
 use mathlib.Core.List.{List, [], ◌∷◌, ◌++◌, append_assoc}
 use Prim.Native.Nat.{ℕ, zero, suc, ◌+◌, ◌*◌, ◌^◌, ◌<◌}
 use native.Mathlib.Nat.{zero-mul}
@@ -148,13 +148,13 @@ module _ (kind : Kind) (slice : List ℤ) where
       let before = front ++ written kind slice n in
       let last = bytes kind (entry n) in
       let long : length before ≡ a + n * eb = length-append front (written kind slice n) ∙ omega (arith, written_length kind slice n) in
-      let all : front ++ (written kind slice n ++ last) ++ rest ≡ before ++ (last ++ rest) =
+      let all : front ++ written kind slice (suc n) ++ rest ≡ before ++ (last ++ rest) =
       ap (λ (s : List ℕ). s ++ rest) (sym (append_assoc front (written kind slice n) last)) ∙ append_assoc before last rest in
       let more : n * entry_words kind + entry_words kind ≡ suc n * entry_words kind = omega arith in
-      rw (
-        all,
+      let family : List ℕ → Type 0 = λ s. entries kind s a (suc n) ≡ take (suc n * entry_words kind) slice in
+      subst family (sym all) (rw (
         entries_read front (last ++ rest) a n h (λ i l. r i (omega arith)),
         drop_at before (last ++ rest) (a + n * eb) long,
         take_at last rest eb (entry_length kind (entry n)),
         r n (omega arith),
-      ) (sym (take-add (n * entry_words kind) (entry_words kind) slice) ∙ ap (λ (m : ℕ). take m slice) more)
+      ) (sym (take-add (n * entry_words kind) (entry_words kind) slice) ∙ ap (λ (m : ℕ). take m slice) more))

@@ -1,4 +1,7 @@
 // The writer of book files: a lent book into the bytes that room `file` reads, or the first refusal: 3, 4, 6, 7, then 16, then 10.
+
+#![tactic(auto)]
+
 ghost use Rattle.std.specs.Prelude.{◌≡◌, ◌++◌, ◌*◌, ◌≤◌, length, drop};
 ghost use Rattle.book.specs.Lent.{lent};
 ghost use Rattle.book.specs.Line.{line_words};
@@ -16,7 +19,7 @@ use book::{Book, Refusal, Tested};
 use file::entry::Kind;
 
 // What the writer answers: a refusal, or none and how many bytes the file has.
-#[derive(Drop)]
+#[derive(Clone, Copy)]
 pub struct Written {
     pub refusal: Refusal,
     pub bytes: usize,

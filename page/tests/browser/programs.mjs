@@ -20,23 +20,20 @@ export async function allTexts(bytes) {
   return Object.fromEntries(PROGRAMS.map((program, place) => [program, texts[place]]));
 }
 
-const file = program => path.join(TOP, 'target', 'bin', program);
+const file = program => path.join(TOP, 'crates', program, 'out', program);
 
 const isThere = program => isProgram(file(program)) && command(program) !== null;
 
 export const programsAreThere = () => PROGRAMS.every(isThere);
 
-/** The programs are for x86-64; elsewhere they run in the toolchain's emulator, as the script `report` does it. */
+/** The programs are for x86-64; elsewhere they run in an emulator with the kit's C library, as the script `report` does it. */
 function command(program) {
-  const machine = os.machine();
-  if (machine === 'x86_64') return [file(program)];
+  if (os.machine() === 'x86_64') return [file(program)];
+  const emulator = findProgram(['qemu-x86_64']);
   const tool = findProgram(['rt']);
-  const kit = process.env.RATTLE_HOME ?? (tool && path.dirname(path.dirname(fs.realpathSync(tool))));
-  if (!kit) return null;
-  const tools = path.join(kit, 'on', machine, 'toolchain');
-  const libraries = path.join(tools, 'lib');
-  const loader = path.join(libraries, 'ld-linux-x86-64.so.2');
-  return [path.join(tools, 'bin', 'qemu-x86_64'), loader, '--library-path', libraries, file(program)];
+  if (!emulator || !tool) return null;
+  const libraries = path.join(path.dirname(path.dirname(fs.realpathSync(tool))), 'toolchain', 'lib');
+  return [emulator, path.join(libraries, 'ld-linux-x86-64.so.2'), '--library-path', libraries, file(program)];
 }
 
 const known = new Map();

@@ -21,7 +21,7 @@ const BROWSERS = {
 
 // What a case may need beside a browser.
 const NEEDS = {
-  programs: { isThere: programsAreThere(), words: 'report, sketch and heights are not built in target/bin' },
+  programs: { isThere: programsAreThere(), words: 'report, sketch and heights are not built in crates/*/out' },
   pdftotext: { isThere: paperToolsAreThere(), words: 'pdftotext, pdfinfo and pdftoppm are not there' },
 };
 

@@ -5,7 +5,7 @@ use Rattle.adjust.proofs.refuse.Statement.{statement}
 use Rattle.adjust.proofs.refuse.Tie as tie
 
 returns : tie.Need-returns
-returns c = c.refused.ensures ∙ ap refused_with c.before.new.ensures
+returns c = c.refused.ensures ∙ ap refused_with c.new.ensures
 
-pub refuse-spec : {M : Type 1} → statement M
-refuse-spec = tie.close (tie.spec (λ c κs. search rules) (λ c κs. search rules) returns)
+pub refuse_spec : {M : Type 1} → statement M
+refuse_spec = tie.close (tie.spec (λ c κs. search rules) (λ c κs. search rules) returns)

@@ -7,35 +7,35 @@ use borrow.Author.Rules.{rules}
 use Rattle.book.proofs.test_beside.Statement.{statement}
 use Rattle.book.proofs.test_beside.Tie as tie
 
-flag : (c : tie.After-outside-version) → c.outside-version.result ≡ version_out c.before.args.version
-flag c = c.outside-version.ensures ∙ search rules
+flag : (c : tie.After-outside_version) → c.outside_version.result ≡ version_out c.args.version
+flag c = c.outside_version.ensures ∙ search rules
 
 -- what the test answered, at the numbers that were lent
 tested : (c : tie.After-test) → (let entry : tie.Start = search in let a = entry.args in
     c.test.result ≡ test_of (lent a.version a.b a.t a.held.now a.lines.now))
 tested c = c.test.ensures ∙ search rules
 
-returns : tie.Need-returns
+returns : tie.Need-returns-then-outside_version
 unfolding test_beside
-returns c = rw (← (flag c.before.before), c.before.if1.true) c.refuse.ensures
+returns c = rw (← (flag c.before.before), c.if-outside_version.true) c.refuse.ensures
 
-returns-2 : tie.Need-returns-2
+returns-2 : tie.Need-returns-then-outside
 unfolding test_beside
 returns-2 c =
     let c₁ = c.before.before in
-    rw (← (flag c₁.before), c₁.if1.false, c.before.if2.true) c.refuse2.ensures
+    rw (← (flag c₁.before), c₁.if-outside_version.false, c.if-outside.true) c.refuse-then-outside.ensures
 
-returns-3 : tie.Need-returns-3
-returns-3 c = tested c ∙ sym (beside_inside _ _ c.before.if2.false)
+returns-3 : tie.Need-returns
+returns-3 c = tested c ∙ sym (beside_inside _ _ c.if-outside.false)
 
-pub test-beside-spec : {M : Type 1} → statement M
-test-beside-spec =
+pub test_beside_spec : {M : Type 1} → statement M
+test_beside_spec =
     tie.close
     (tie.spec
-    (λ c κs. search rules)  -- outside-version-requires
+    (λ c κs. search rules)  -- outside_version-requires
     (λ c κs. search rules)  -- refuse-requires
     returns
-    (λ c κs. search rules)  -- refuse-requires-2
+    (λ c κs. search rules)  -- refuse-requires-then-outside
     returns-2
     (λ c κs. search rules)  -- test-requires
     returns-3)

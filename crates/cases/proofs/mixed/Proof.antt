@@ -6,9 +6,9 @@ use Rattle.cases.proofs.mixed.Tie as tie
 
 returns : tie.Need-returns
 unfolding mixed_with
-returns c = let f = c.before.before.ranges in rw (c.before.magnitude.ensures, c.side.ensures.0, to_z-of_z f.x)
+returns c = let f = c.ranges in rw (c.magnitude.ensures, c.side.ensures.0, to_z-of_z f.x)
 
-pub mixed-spec : {M : Type 1} → statement M
-mixed-spec =
+pub mixed_spec : {M : Type 1} → statement M
+mixed_spec =
     tie.close
     (tie.spec (λ c. search rules) (λ c κs. search rules) (λ c. search rules) (λ c κs. search rules) (λ c. search rules) returns)

@@ -5,22 +5,22 @@ use borrow.Author.Rules.{rules}
 use Rattle.cases.proofs.spoil_last.Statement.{statement}
 use Rattle.cases.proofs.spoil_last.Tie as tie
 
-returns : tie.Need-returns
+returns : tie.Need-returns-then-words-entries
 unfolding spoilt_last
-returns c = rw (to_z-of_z c.before.ranges.x, le-ltb _ _ c.if1.true)
+returns c = rw (to_z-of_z c.ranges.x, le-ltb _ _ c.if-words-entries.true)
 
-returns-2 : tie.Need-returns-2
+returns-2 : tie.Need-returns-else-words-entries
 unfolding spoilt_last
-returns-2 c = rw (lt-ltb _ _ c.if1.false)
+returns-2 c = rw (lt-ltb _ _ c.if-words-entries.false)
 
-pub spoil-last-spec : {M : Type 1} → statement M
-spoil-last-spec =
+pub spoil_last_spec : {M : Type 1} → statement M
+spoil_last_spec =
     tie.close
     (tie.spec
-    (λ c. search rules)  -- sub-at
-    (λ c. search rules)  -- add-x
-    (λ c. search rules)  -- mul-x
-    (λ c. search rules)  -- slice-set-from-x
-    (λ c. search rules)  -- same-length
+    (λ c. search rules)  -- overflow_sub-at
+    (λ c. search rules)  -- overflow_add-x
+    (λ c. search rules)  -- offset_bounds-entries-at
+    (λ c. search rules)  -- bounds-entries-at
+    (λ c. search rules)  -- shape_of-entries
     returns
     returns-2)

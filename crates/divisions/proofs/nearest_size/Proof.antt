@@ -8,31 +8,31 @@ use borrow.Author.Rules.{rules}
 use Rattle.divisions.proofs.nearest_size.Statement.{statement}
 use Rattle.divisions.proofs.nearest_size.Tie as tie
 
-add-result : tie.Need-overflow-add-result
+add-result : tie.Need-overflow_add-result
 add-result c =
     let s : tie.Start = search in
-    let divided = c.before.before.before.divide.ensures in
-    let up = rw (remainder_is _ _ _ _ divided) at c.before.if1.true in
-    omega (arith, up_fits s.args.a s.args.d s.pre.0 up, quotient_is _ _ _ _ divided, s.fits.a)
+    let divided = c.divide-divided.ensures in
+    let up = rw (remainder_is _ _ _ _ divided) at c.if-d-divided.true in
+    omega (arith, up_fits s.args.a s.args.d s.requires.0 up, quotient_is _ _ _ _ divided, s.ranges.a)
 
-returns : tie.Need-returns
+returns : tie.Need-returns-then-d-divided
 unfolding nearest_size
 returns c =
-    let divided = c.before.before.before.divide.ensures in
-    rw (quotient_is _ _ _ _ divided, add-one, lt-ltb _ _ (rw (remainder_is _ _ _ _ divided) at c.before.if1.true))
+    let divided = c.divide-divided.ensures in
+    rw (quotient_is _ _ _ _ divided, add-one, lt-ltb _ _ (rw (remainder_is _ _ _ _ divided) at c.if-d-divided.true))
 
-returns-2 : tie.Need-returns-2
+returns-2 : tie.Need-returns-else-d-divided
 unfolding nearest_size
 returns-2 c =
-    let divided = c.before.before.divide.ensures in
-    rw (quotient_is _ _ _ _ divided, le-ltb _ _ (rw (remainder_is _ _ _ _ divided) at c.if1.false))
+    let divided = c.divide-divided.ensures in
+    rw (quotient_is _ _ _ _ divided, le-ltb _ _ (rw (remainder_is _ _ _ _ divided) at c.if-d-divided.false))
 
-pub nearest-size-spec : {M : Type 1} → statement M
-nearest-size-spec =
+pub nearest_size_spec : {M : Type 1} → statement M
+nearest_size_spec =
     tie.close
     (tie.spec
-    (λ c κs. search rules)  -- divide-requires
-    (λ c. search rules)  -- mul-if1
+    (λ c κs. search rules)  -- divide-divided-requires
+    (λ c. search rules)  -- overflow_mul-divided
     add-result
     returns
     returns-2)

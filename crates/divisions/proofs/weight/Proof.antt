@@ -6,13 +6,13 @@ use borrow.Author.Rules.{rules}
 use Rattle.divisions.proofs.weight.Statement.{statement}
 use Rattle.divisions.proofs.weight.Tie as tie
 
-returns : tie.Need-returns
+returns : tie.Need-returns-then-length-gt1000000
 unfolding weight_of
-returns c = sym (div-eq_of_lt c.if1.true)
+returns c = sym (div-eq_of_lt c.if-length-gt1000000.true)
 
-returns-2 : tie.Need-returns-2
+returns-2 : tie.Need-returns
 unfolding weight_of
 returns-2 c = quotient_is _ _ _ _ c.divide.ensures
 
-pub weight-spec : {M : Type 1} → statement M
-weight-spec = tie.close (tie.spec returns (λ c κs. search rules) returns-2)
+pub weight_spec : {M : Type 1} → statement M
+weight_spec = tie.close (tie.spec returns (λ c κs. search rules) returns-2)

@@ -10,16 +10,16 @@ use Rattle.fields.proofs.to_mark.Tie as tie
 
 index-requires : tie.Need-index-requires
 index-requires c κs =
-    let s = c.before in rw (back (to_at s.args.lines.now s.args.i) c.index-arg.given) (not_negative s.requires.good.to)
+    let s = c.before in rw (back (to_at s.args.lines.now s.args.i) c.index-arg-1.given) (not_negative s.requires.good.to)
 
 returns : tie.Need-returns
 returns c =
     let s = c.before.before in
     let e : c.index.result ≡ nat_abs (to_at s.args.lines.now s.args.i) =
-    c.index.ensures ∙ rw (back (to_at s.args.lines.now s.args.i) c.before.index-arg.given) in
+    c.index.ensures ∙ rw (back (to_at s.args.lines.now s.args.i) c.index-arg-1.given) in
     (e, omega (arith, s.requires.good.to.low), omega (arith, s.requires.good.to.high))
 
-pub to-mark-spec : {M : Type 1} → statement M
-to-mark-spec =
+pub to_mark_spec : {M : Type 1} → statement M
+to_mark_spec =
     tie.close
     (tie.spec (λ c. search rules) (λ c. search rules) (λ c. search rules) (λ c. search rules) index-requires returns)

@@ -21,102 +21,102 @@ made c =
     let b = h.before in
     let t = b.before.before in
     let v = t.before.before in
-    let e = stored b.plain3.result b.plain3.type-inv (b.plain3.ensures ∙ ap pos b.before.be22.ensures.0) in
-    let f = stored t.plain2.result t.plain2.type-inv (t.plain2.ensures ∙ ap pos t.before.be2.ensures.0) in
-    let g = stored v.plain.result v.plain.type-inv (v.plain.ensures ∙ ap pos v.before.be1.ensures.0) in
-    rw (e, f, g, h.be23.ensures.0, n.be24.ensures.0) at c.new.ensures
+    let e = stored b.plain-b.result b.plain-b.type_inv (b.plain-b.ensures ∙ ap pos b.be2-2.ensures.0) in
+    let f = stored t.plain-t.result t.plain-t.type_inv (t.plain-t.ensures ∙ ap pos t.be2.ensures.0) in
+    let g = stored v.plain-version.result v.plain-version.type_inv (v.plain-version.ensures ∙ ap pos v.be1.ensures.0) in
+    rw (e, f, g, h.be2-h.ensures.0, n.be2-n.ensures.0) at c.new.ensures
 
-returns : tie.Need-returns
+returns : tie.Need-returns-then-len-lt-HEAD_BYTES
 unfolding head_of
-returns c = rw (lt-ltb _ _ c.if1.true)
+returns c = rw (lt-ltb _ _ c.if-len-lt-HEAD_BYTES.true)
 
-returns-2 : tie.Need-returns-2
+returns-2 : tie.Need-returns-then-be4-len
 unfolding head_of
 returns-2 c =
     let c₂ = c.before in
-    rw (le-ltb _ _ c₂.before.if1.false, ← c₂.be4.ensures.0, ne_eqb _ _ c.if2.true)
+    rw (le-ltb _ _ c₂.if-len-lt-HEAD_BYTES.false, ← c₂.be4.ensures.0, ne_eqb _ _ c.if-be4-len.true)
 
 -- the version and the counts of a book that was made are those that the file states, and good
-good : (c : tie.After-book) → (let entry : tie.Start = search in let f = entry.args.file.now in
+good : (c : tie.In-Good) → (let entry : tie.Start = search in let f = entry.args.file.now in
     (version_out (pos (stated_version f)) ≡ false)
     × (book_out (pos (stated_version f)) (pos (stated_b f)) (pos (stated_t f)) (stated_h f) (stated_n f) ≡ false)
-    × (c.book.given.0.0 ≡ stated_counts f))
-good c = book_made _ _ _ _ _ _ (made c.before.before) _ c.book.given.1
+    × (c.in-Good.book ≡ stated_counts f))
+good c = book_made _ _ _ _ _ _ (made c.before) _ c.in-Good.is
 
 -- the length of the file that it has, by what is stated
-length_is : (c : tie.After-length-of) → (let entry : tie.Start = search in let f = entry.args.file.now in
-    c.length-of.result ≡ file_length (stated_version f) (stated_h f) (stated_n f))
+length_is : (c : tie.After-length_of) → (let entry : tie.Start = search in let f = entry.args.file.now in
+    c.length_of.result ≡ file_length (stated_version f) (stated_h f) (stated_n f))
 length_is c =
-    let known : tie.After-book = search in
-    c.length-of.ensures ∙ ap length_of (good known).2
+    let known : tie.In-Good = search in
+    c.length_of.ensures ∙ ap length_of (good known).2
 
-returns-3 : tie.Need-returns-3
+returns-3 : tie.Need-returns-then-len-length_of
 unfolding head_of
 returns-3 c =
-    let known : tie.After-book = search in
+    let known : tie.In-Good = search in
     let g = good known in
-    let c₂ : tie.Else2 = search in
+    let c₂ : tie.Else-be4-len = search in
     rw (
-      le-ltb _ _ c₂.before.before.if1.left,
-      ← c₂.before.be4.ensures.0,
-      eq-eqb _ _ c₂.if2.left,
+      le-ltb _ _ c₂.if-len-lt-HEAD_BYTES.false,
+      ← c₂.be4.ensures.0,
+      eq-eqb _ _ c₂.if-be4-len.false,
       g.0,
       g.1,
       ← (length_is c.before),
-      ne_eqb _ _ c.if3.true,
+      ne_eqb _ _ c.if-len-length_of.true,
     )
 
-returns-4 : tie.Need-returns-4
+returns-4 : tie.Need-returns-in-Refused
 unfolding head_of
 returns-4 c =
     let n : tie.After-new = search in
-    let c₂ : tie.Else2 = search in
-    rw (le-ltb _ _ c₂.before.before.if1.left, ← c₂.before.be4.ensures.0, eq-eqb _ _ c₂.if2.left)
-    (book_refused _ _ _ _ _ _ (made n) _ c.before.r.given.1 _)
+    let c₂ : tie.Else-be4-len = search in
+    rw (le-ltb _ _ c₂.if-len-lt-HEAD_BYTES.false, ← c₂.be4.ensures.0, eq-eqb _ _ c₂.if-be4-len.false)
+    (book_refused _ _ _ _ _ _ (made n) _ c.in-Refused.is _)
 
-returns-5 : tie.Need-returns-5
+returns-5 : tie.Need-returns-else-len-length_of
 unfolding head_of
 returns-5 c =
-    let known : tie.After-book = search in
+    let known : tie.In-Good = search in
     let g = good known in
-    let c₂ : tie.Else2 = search in
+    let c₂ : tie.Else-be4-len = search in
     rw (
-      le-ltb _ _ c₂.before.before.if1.left,
-      ← c₂.before.be4.ensures.0,
-      eq-eqb _ _ c₂.if2.left,
+      le-ltb _ _ c₂.if-len-lt-HEAD_BYTES.false,
+      ← c₂.be4.ensures.0,
+      eq-eqb _ _ c₂.if-be4-len.false,
       g.0,
       g.1,
       ← g.2,
       ← (length_is c.before),
-      eq-eqb _ _ c.if3.false,
+      eq-eqb _ _ c.if-len-length_of.false,
     )
 
 -- whose version and counts are inside their limits
-length-of-requires : tie.Need-length-of-requires
+length-of-requires : tie.Need-length_of-requires
 length-of-requires c κs =
-    let known : tie.After-book = search in
+    let known : tie.In-Good = search in
     let g = good known in
     let s = counts_state _ _ _ _ _ g.0 g.1 in
     rw g.2 (s.known_version, s.few_held, s.few_lines)
 
-pub head-of-spec : {M : Type 1} → statement M
-head-of-spec =
+pub head_of_spec : {M : Type 1} → statement M
+head_of_spec =
     tie.close
     (tie.spec
     returns
     (λ c κs. search rules)  -- be4-requires
     returns-2
     (λ c κs. search rules)  -- be1-requires
-    (λ c κs. search rules)  -- plain-requires
+    (λ c κs. search rules)  -- plain-version-requires
     (λ c κs. search rules)  -- be2-requires
-    (λ c κs. search rules)  -- plain-requires-2
+    (λ c κs. search rules)  -- plain-t-requires
     (λ c κs. search rules)  -- be2-requires-2
-    (λ c κs. search rules)  -- plain-requires-3
-    (λ c κs. search rules)  -- be2-requires-3
-    (λ c κs. search rules)  -- be2-requires-4
+    (λ c κs. search rules)  -- plain-b-requires
+    (λ c κs. search rules)  -- be2-h-requires
+    (λ c κs. search rules)  -- be2-n-requires
     (λ c κs. search rules)  -- new-requires
-    (λ c. search rules)  -- enum-known-r
-    (λ c. search rules)  -- enum-known-book
+    (λ c. search rules)  -- enum_known-r
+    (λ c. search rules)  -- enum_known-book
     length-of-requires
     returns-3
     returns-4

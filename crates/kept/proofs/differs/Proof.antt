@@ -9,52 +9,53 @@ use Rattle.kept.proofs.SameNumbers.{Compared, too_short, compare_start, compare_
 use Rattle.kept.proofs.differs.Statement.{statement}
 use Rattle.kept.proofs.differs.Tie as tie
 
-abbrev invariant-loop : tie.invariant-loop
+abbrev invariant-loop : tie.invariant-loop-place
 invariant-loop report rows place₀ place = Compared report rows place
 
-abbrev decreases-loop : tie.decreases-loop
+abbrev decreases-loop : tie.decreases-loop-place
 decreases-loop report rows place₀ place = length rows - place
 
-returns : tie.Need-returns invariant-loop decreases-loop
-returns c = too_short _ _ c.if1.true
+returns : tie.Need-returns-then-report-rows invariant-loop decreases-loop
+returns c = too_short _ _ c.if-report-rows.true
 
 -- the flag that the code has is the definition's test
-flag : (c : tie.After-same invariant-loop decreases-loop) → (let l : tie.At-loop invariant-loop decreases-loop = search in let g = l.before.before.args in
-    c.same.result ≡ eq_z (get_or g.report.now l.loop.place (pos 0)) (get_or g.rows.now l.loop.place (pos 0)))
+flag : (c : tie.After-same invariant-loop decreases-loop)
+    → (let l : tie.At-loop-place invariant-loop decreases-loop = search in let g = l.args in
+    c.same.result ≡ eq_z (get_or g.report.now l.loop-place.place (pos 0)) (get_or g.rows.now l.loop-place.place (pos 0)))
 flag c = c.same.ensures ∙ search rules
 
-loop-again : tie.Need-loop-preserved invariant-loop decreases-loop
+loop-again : tie.Need-loop-place-preserved invariant-loop decreases-loop
 loop-again c =
-    let in-loop : tie.In-loop invariant-loop decreases-loop = search in
+    let in-loop : tie.In-loop-place invariant-loop decreases-loop = search in
     let l = in-loop.before in
-    compare_next _ _ l.before.if1.left l.loop.place in-loop.loop-test.taken l.loop.inv
-    (sym (flag c.before) ∙ c.if2.true)
+    compare_next _ _ l.if-report-rows.false l.loop-place.place in-loop.loop-place-test.true l.loop-place.invariant
+    (sym (flag c.before) ∙ c.if-same.true)
 
-returns-2 : tie.Need-returns-2 invariant-loop decreases-loop
+returns-2 : tie.Need-returns-else-same invariant-loop decreases-loop
 returns-2 c =
-    let in-loop : tie.In-loop invariant-loop decreases-loop = search in
+    let in-loop : tie.In-loop-place invariant-loop decreases-loop = search in
     let l = in-loop.before in
-    compare_stop _ _ l.before.if1.left l.loop.place in-loop.loop-test.taken l.loop.inv
-    (sym (flag c.before) ∙ c.if2.false)
+    compare_stop _ _ l.if-report-rows.false l.loop-place.place in-loop.loop-place-test.true l.loop-place.invariant
+    (sym (flag c.before) ∙ c.if-same.false)
 
-returns-3 : tie.Need-returns-3 invariant-loop decreases-loop
-returns-3 c = compare_end _ _ c.before.loop.place c.loop-test.false c.before.loop.invariant
+returns-3 : tie.Need-returns invariant-loop decreases-loop
+returns-3 c = compare_end _ _ c.loop-place.place c.loop-place-test.false c.loop-place.invariant
 
-pub differs-spec : {M : Type 1} → statement M
-differs-spec =
+pub differs_spec : {M : Type 1} → statement M
+differs_spec =
     tie.close
     (tie.spec
     invariant-loop
     decreases-loop
     returns
-    (λ c. compare_start _ _)  -- loop-holds
-    (λ c. omega arith)  -- mul-same
-    (λ c. omega arith)  -- shared-slice-copy-out-same
-    (λ c. omega arith)  -- mul-same-2
-    (λ c. omega arith)  -- shared-slice-copy-out-same-2
+    (λ c. compare_start _ _)  -- loop-place-init
+    (λ c. omega arith)  -- offset_bounds-report-place
+    (λ c. omega arith)  -- bounds-report-place
+    (λ c. omega arith)  -- offset_bounds-rows-place
+    (λ c. omega arith)  -- bounds-rows-place
     (λ c κs. tt)  -- same-requires
-    (λ c. omega arith)  -- add-place
-    (λ c. omega arith)  -- loop-less
+    (λ c. omega arith)  -- overflow_add-place
+    (λ c. omega arith)  -- loop-place-smaller
     loop-again
     returns-2
     returns-3)

@@ -9,11 +9,11 @@ use Rattle.level.proofs.level_adjust.Tie as tie
 
 -- what the call below answered, at the numbers that were lent
 called : (c : tie.After-adjust)
-    → (let a = c.before.before.args in c.adjust.result
+    → (let a = c.args in c.adjust.result
     ≡ (adjust_of (lent a.version a.b a.t a.held.now a.lines.now) a.heights.now).answer)
 called c = ap (λ (o : Given). o.answer) c.adjust.ensures ∙ search rules
 
-adjust-answer-requires : tie.Need-adjust-answer-requires
+adjust-answer-requires : tie.Need-adjust_answer-requires
 adjust-answer-requires c κs =
     let r = c.before in
     let s = r.before.before in
@@ -21,7 +21,7 @@ adjust-answer-requires c κs =
     subst SmallAdjusted (sym (called r)) (adjust_small (lent a.version a.b a.t a.held.now a.lines.now) a.heights.now)
 
 returns : tie.Need-returns
-returns c = rw c.adjust-answer.ensures (ap of_adjust c.before.before.adjust.ensures ∙ search rules)
+returns c = rw c.adjust_answer.ensures (ap of_adjust c.adjust.ensures ∙ search rules)
 
-pub level-adjust-spec : {M : Type 1} → statement M
-level-adjust-spec = tie.close (tie.spec (λ c κs. search rules) adjust-answer-requires (λ c. search rules) returns)
+pub level_adjust_spec : {M : Type 1} → statement M
+level_adjust_spec = tie.close (tie.spec (λ c κs. search rules) adjust-answer-requires (λ c. search rules) returns)

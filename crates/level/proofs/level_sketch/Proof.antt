@@ -13,7 +13,7 @@ called : (c : tie.After-sketch) → (let s : tie.Start = search in let a = s.arg
     (lists a.links.now a.spurs.now a.loops.now a.run.now)).answer)
 called c = ap (λ (o : Drawing). o.answer) c.sketch.ensures ∙ search rules
 
-sketch-answer-requires : tie.Need-sketch-answer-requires
+sketch-answer-requires : tie.Need-sketch_answer-requires
 sketch-answer-requires c κs =
     let after-sketch : tie.After-sketch = search in
     let s : tie.Start = search in
@@ -24,16 +24,16 @@ sketch-answer-requires c κs =
 returns : tie.Need-returns
 returns c =
     let after-sketch : tie.After-sketch = search in
-    rw c.sketch-answer.ensures (ap of_sketch after-sketch.sketch.ensures ∙ search rules)
+    rw c.sketch_answer.ensures (ap of_sketch after-sketch.sketch.ensures ∙ search rules)
 
-pub level-sketch-spec : {M : Type 1} → statement M
-level-sketch-spec =
+pub level_sketch_spec : {M : Type 1} → statement M
+level_sketch_spec =
     tie.close
     (tie.spec
     (λ c κs. search rules)  -- sketch-requires
     sketch-answer-requires
-    (λ c. search rules)  -- same-length
-    (λ c. search rules)  -- same-length-2
-    (λ c. search rules)  -- same-length-3
-    (λ c. search rules)  -- same-length-4
+    (λ c. search rules)  -- shape_of-links
+    (λ c. search rules)  -- shape_of-spurs
+    (λ c. search rules)  -- shape_of-loops
+    (λ c. search rules)  -- shape_of-run
     returns)

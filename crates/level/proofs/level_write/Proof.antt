@@ -14,18 +14,18 @@ called : (c : tie.After-write)
     ≡ (write_of (lent a.version a.b a.t a.held.now a.lines.now) a.file.now).answer)
 called c = ap (λ (w : Writing). w.answer) c.write.ensures ∙ search rules
 
-write-answer-requires : tie.Need-write-answer-requires
+write-answer-requires : tie.Need-write_answer-requires
 write-answer-requires c κs =
     let written : tie.After-write = search in
     let entry : tie.Start = search in
     let a = entry.args in
     subst SmallWritten (sym (called written)) (write_small (lent a.version a.b a.t a.held.now a.lines.now) a.file.now
-    (omega (arith, entry.good)))
+    (omega (arith, entry.well_formed)))
 
 returns : tie.Need-returns
 returns c =
     let written : tie.After-write = search in
-    rw c.write-answer.ensures (ap of_writing written.write.ensures ∙ search rules)
+    rw c.write_answer.ensures (ap of_writing written.write.ensures ∙ search rules)
 
-pub level-write-spec : {M : Type 1} → statement M
-level-write-spec = tie.close (tie.spec (λ c κs. search rules) write-answer-requires (λ c. search rules) returns)
+pub level_write_spec : {M : Type 1} → statement M
+level_write_spec = tie.close (tie.spec (λ c κs. search rules) write-answer-requires (λ c. search rules) returns)

@@ -8,12 +8,12 @@ use borrow.Author.Rules.{rules}
 use Rattle.level.proofs.rate_answer.Statement.{statement}
 use Rattle.level.proofs.rate_answer.Tie as tie
 
-returns : tie.Need-returns
+returns : tie.Need-returns-in-PerKm
 unfolding signed_rate withdrawn_of rate_of
 returns c =
-    let c₁ : tie.After-signed-count = search in
-    let c₀ : tie.After-signed-refusal = search in
-    let r = c₀.signed-refusal.result in
+    let c₁ : tie.After-signed_count-line = search in
+    let c₀ : tie.After-signed_refusal-r = search in
+    let r = c₀.signed_refusal-r.result in
     let number : to_z w64 (of_z w64 r.number) ≡ r.number = search rules in
     let place : to_z w64 (of_z w64 r.place) ≡ r.place = search rules in
     let s : tie.Start = search in
@@ -21,18 +21,18 @@ returns c =
     rw (
       number,
       place,
-      c₀.signed-refusal.ensures,
-      stored _ c₁.signed-count.ok c₁.signed-count.ensures,
+      c₀.signed_refusal-r.ensures,
+      stored _ c₁.signed_count-line.type_inv c₁.signed_count-line.ensures,
       back,
-      c.before.rate.given.1,
+      c.in-PerKm.is,
     )
 
-returns-2 : tie.Need-returns-2
+returns-2 : tie.Need-returns-in-Withdrawn
 unfolding signed_rate withdrawn_of rate_of of_bits
 returns-2 c =
-    let c₁ : tie.After-signed-count = search in
-    let c₀ : tie.After-signed-refusal = search in
-    let r = c₀.signed-refusal.result in
+    let c₁ : tie.After-signed_count-line = search in
+    let c₀ : tie.After-signed_refusal-r = search in
+    let r = c₀.signed_refusal-r.result in
     let number : to_z w64 (of_z w64 r.number) ≡ r.number = search rules in
     let place : to_z w64 (of_z w64 r.place) ≡ r.place = search rules in
     let s : tie.Start = search in
@@ -40,19 +40,19 @@ returns-2 c =
     rw (
       number,
       place,
-      c₀.signed-refusal.ensures,
-      stored _ c₁.signed-count.ok c₁.signed-count.ensures,
+      c₀.signed_refusal-r.ensures,
+      stored _ c₁.signed_count-line.type_inv c₁.signed_count-line.ensures,
       back,
-      c.enum_told.given.1,
+      c.in-Withdrawn.is,
     )
 
-pub rate-answer-spec : {M : Type 1} → statement M
-rate-answer-spec =
+pub rate_answer_spec : {M : Type 1} → statement M
+rate_answer_spec =
     tie.close
     (tie.spec
-    (λ c κs. search rules)  -- signed-refusal-requires
-    (λ c κs. search rules)  -- signed-count-requires
-    (λ c. search rules)  -- enum-known-rate
-    (λ c. search rules)  -- enum_told
+    (λ c κs. search rules)  -- signed_refusal-r-requires
+    (λ c κs. search rules)  -- signed_count-line-requires
+    (λ c. search rules)  -- enum_known-rate
+    (λ c. search rules)  -- enum_told-1
     returns
     returns-2)

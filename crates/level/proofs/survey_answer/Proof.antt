@@ -10,25 +10,25 @@ use Rattle.level.proofs.survey_answer.Tie as tie
 returns : tie.Need-returns
 unfolding signed_answer
 returns c =
-    let c₂ : tie.After-signed-count2 = search in
-    let c₁ : tie.After-signed-count = search in
-    let c₀ : tie.After-signed-refusal = search in
-    let r = c₀.signed-refusal.result in
+    let c₂ : tie.After-signed_count-2 = search in
+    let c₁ : tie.After-signed_count = search in
+    let c₀ : tie.After-signed_refusal-r = search in
+    let r = c₀.signed_refusal-r.result in
     let number : to_z w64 (of_z w64 r.number) ≡ r.number = search rules in
     let place : to_z w64 (of_z w64 r.place) ≡ r.place = search rules in
     rw (
       number,
       place,
-      c₀.signed-refusal.ensures,
-      stored _ c₁.signed-count.ok c₁.signed-count.ensures,
-      stored _ c₂.signed-count2.ok c₂.signed-count2.ensures,
+      c₀.signed_refusal-r.ensures,
+      stored _ c₁.signed_count.type_inv c₁.signed_count.ensures,
+      stored _ c₂.signed_count-2.type_inv c₂.signed_count-2.ensures,
     )
 
-pub survey-answer-spec : {M : Type 1} → statement M
-survey-answer-spec =
+pub survey_answer_spec : {M : Type 1} → statement M
+survey_answer_spec =
     tie.close
     (tie.spec
-    (λ c κs. search rules)  -- signed-refusal-requires
-    (λ c κs. search rules)  -- signed-count-requires
-    (λ c κs. search rules)  -- signed-count-requires-2
+    (λ c κs. search rules)  -- signed_refusal-r-requires
+    (λ c κs. search rules)  -- signed_count-requires
+    (λ c κs. search rules)  -- signed_count-requires-2
     returns)

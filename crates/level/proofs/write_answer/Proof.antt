@@ -10,22 +10,22 @@ use Rattle.level.proofs.write_answer.Tie as tie
 returns : tie.Need-returns
 unfolding signed_written
 returns c =
-    let c₁ : tie.After-signed-count = search in
-    let c₀ : tie.After-signed-refusal = search in
-    let r = c₀.signed-refusal.result in
+    let c₁ : tie.After-signed_count = search in
+    let c₀ : tie.After-signed_refusal-r = search in
+    let r = c₀.signed_refusal-r.result in
     let number : to_z w64 (of_z w64 r.number) ≡ r.number = search rules in
     let place : to_z w64 (of_z w64 r.place) ≡ r.place = search rules in
     rw (
       number,
       place,
-      c₀.signed-refusal.ensures,
-      stored _ c₁.signed-count.ok c₁.signed-count.ensures,
+      c₀.signed_refusal-r.ensures,
+      stored _ c₁.signed_count.type_inv c₁.signed_count.ensures,
     )
 
-pub write-answer-spec : {M : Type 1} → statement M
-write-answer-spec =
+pub write_answer_spec : {M : Type 1} → statement M
+write_answer_spec =
     tie.close
     (tie.spec
-    (λ c κs. search rules)  -- signed-refusal-requires
-    (λ c κs. search rules)  -- signed-count-requires
+    (λ c κs. search rules)  -- signed_refusal-r-requires
+    (λ c κs. search rules)  -- signed_count-requires
     returns)

@@ -7,5 +7,5 @@ returns : tie.Need-returns
 unfolding page_of
 returns c = let after_write : tie.After-write = search in after_write.write.ensures
 
-pub write-page-spec : {M : Type 1} → statement M
-write-page-spec = tie.close (tie.spec (λ c κs. search rules) (λ c. search rules) returns)
+pub write_page_spec : {M : Type 1} → statement M
+write_page_spec = tie.close (tie.spec (λ c κs. search rules) (λ c. search rules) returns)

@@ -7,5 +7,5 @@ returns : tie.Need-returns
 unfolding sketch_page_of
 returns c = let after_write : tie.After-write = search in after_write.write.ensures
 
-pub write-sketch-spec : {M : Type 1} → statement M
-write-sketch-spec = tie.close (tie.spec (λ c κs. search rules) (λ c. search rules) returns)
+pub write_sketch_spec : {M : Type 1} → statement M
+write_sketch_spec = tie.close (tie.spec (λ c κs. search rules) (λ c. search rules) returns)

@@ -8,21 +8,21 @@ use Rattle.rows.proofs.length_by.Tie as tie
 
 index-requires : tie.Need-index-requires
 index-requires c κs =
-    let p = c.before.requires in
-    rw (back _ c.index-arg.given) (not_negative (p.0.lengths _ (line_there p.1)))
+    let p = c.requires in
+    rw (back _ c.index-arg-1.given) (not_negative (p.0.lengths _ (line_there p.1)))
 
 returns : tie.Need-returns
 unfolding length_by
-returns c = rw (back _ c.before.index-arg.given) at c.index.ensures
+returns c = rw (back _ c.index-arg-1.given) at c.index.ensures
 
-pub length-by-spec : {M : Type 1} → statement M
-length-by-spec =
+pub length_by_spec : {M : Type 1} → statement M
+length_by_spec =
     tie.close
     (tie.spec
-    (λ c. search rules)  -- sub-index
-    (λ c. search rules)  -- mul-index
-    (λ c. search rules)  -- add-index
-    (λ c. search rules)  -- mul-index-2
-    (λ c. search rules)  -- shared-slice-copy-out-index
+    (λ c. search rules)  -- overflow_sub-code
+    (λ c. search rules)  -- overflow_mul-code
+    (λ c. search rules)  -- overflow_add-code
+    (λ c. search rules)  -- offset_bounds-lines-code
+    (λ c. search rules)  -- bounds-lines-code
     index-requires
     returns)

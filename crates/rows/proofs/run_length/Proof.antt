@@ -7,65 +7,65 @@ use Rattle.rows.proofs.Totals.{Summed, none_summed, one_summed, all_summed, leng
 use Rattle.rows.proofs.run_length.Statement.{statement}
 use Rattle.rows.proofs.run_length.Tie as tie
 
-abbrev invariant-loop : tie.invariant-loop
+abbrev invariant-loop : tie.invariant-loop-j
 invariant-loop lines run sum₀ j₀ sum j = Summed (length_by lines) most_length run j sum
 
-abbrev decreases-loop : tie.decreases-loop
+abbrev decreases-loop : tie.decreases-loop-j
 decreases-loop lines run sum₀ j₀ sum j = length run - j
 
-cast-length-by : tie.Need-overflow-cast-length-by invariant-loop decreases-loop
+cast-length-by : tie.Need-overflow_cast-run invariant-loop decreases-loop
 cast-length-by c =
-    let at-loop : tie.At-loop invariant-loop decreases-loop = search in
+    let at-loop : tie.At-loop-j invariant-loop decreases-loop = search in
     let entry : tie.Start invariant-loop decreases-loop = search in
-    omega (arith, entry.pre.0.few_lines, (entry.pre.1.each at-loop.loop.j (omega arith)).high)
+    omega (arith, entry.requires.0.few_lines, (entry.requires.1.each at-loop.loop-j.j (omega arith)).high)
 
-length-by-requires : tie.Need-length-by-requires invariant-loop decreases-loop
+length-by-requires : tie.Need-length_by-sum-requires invariant-loop decreases-loop
 length-by-requires c κs =
-    let at-loop : tie.At-loop invariant-loop decreases-loop = search in
+    let at-loop : tie.At-loop-j invariant-loop decreases-loop = search in
     let entry : tie.Start invariant-loop decreases-loop = search in
-    (entry.pre.0, entry.pre.1.each at-loop.loop.j (omega arith))
+    (entry.requires.0, entry.requires.1.each at-loop.loop-j.j (omega arith))
 
-add-sum : tie.Need-overflow-add-sum invariant-loop decreases-loop
+add-sum : tie.Need-overflow_add-sum invariant-loop decreases-loop
 add-sum c =
-    let at-loop : tie.At-loop invariant-loop decreases-loop = search in
+    let at-loop : tie.At-loop-j invariant-loop decreases-loop = search in
     let entry : tie.Start invariant-loop decreases-loop = search in
-    let p = entry.pre in
+    let p = entry.requires in
     omega (
       arith,
-      c.length-by.ensures,
-      length_size _ _ p.0 (p.1.each at-loop.loop.j (omega arith)),
+      c.length_by-sum.ensures,
+      length_size _ _ p.0 (p.1.each at-loop.loop-j.j (omega arith)),
       p.1.few,
-      at-loop.loop.inv.small,
+      at-loop.loop-j.invariant.small,
     )
 
-loop-again : tie.Need-loop-preserved invariant-loop decreases-loop
+loop-again : tie.Need-loop-j-preserved invariant-loop decreases-loop
 loop-again c =
-    let at-loop : tie.At-loop invariant-loop decreases-loop = search in
+    let at-loop : tie.At-loop-j invariant-loop decreases-loop = search in
     let entry : tie.Start invariant-loop decreases-loop = search in
-    let p = entry.pre in
-    rw c.length-by.ensures (one_summed (omega arith) (length_size _ _ p.0 (p.1.each at-loop.loop.j (omega arith)))
-    at-loop.loop.inv)
+    let p = entry.requires in
+    rw c.length_by-sum.ensures (one_summed (omega arith) (length_size _ _ p.0 (p.1.each at-loop.loop-j.j (omega arith)))
+    at-loop.loop-j.invariant)
 
 returns : tie.Need-returns invariant-loop decreases-loop
 unfolding length_of
 returns c =
     let entry : tie.Start invariant-loop decreases-loop = search in
-    let s = all_summed (omega arith) c.before.loop.invariant in
-    (s.0, omega (arith, entry.pre.1.few, s.1))
+    let s = all_summed (omega arith) c.loop-j.invariant in
+    (s.0, omega (arith, entry.requires.1.few, s.1))
 
-pub run-length-spec : {M : Type 1} → statement M
-run-length-spec =
+pub run_length_spec : {M : Type 1} → statement M
+run_length_spec =
     tie.close
     (tie.spec
     invariant-loop
     decreases-loop
-    (λ c. none_summed)  -- loop-holds
-    (λ c. let entry : tie.Start invariant-loop decreases-loop = search in omega (arith, entry.pre.1.few))  -- mul-length-by
-    (λ c. omega arith)  -- shared-slice-read-length-by
+    (λ c. none_summed)  -- loop-j-init
+    (λ c. let entry : tie.Start invariant-loop decreases-loop = search in omega (arith, entry.requires.1.few))  -- offset_bounds-run-j
+    (λ c. omega arith)  -- bounds-run-j
     cast-length-by
     length-by-requires
     add-sum
-    (λ c. let entry : tie.Start invariant-loop decreases-loop = search in omega (arith, entry.pre.1.few))  -- add-j
-    (λ c. omega arith)  -- loop-less
+    (λ c. let entry : tie.Start invariant-loop decreases-loop = search in omega (arith, entry.requires.1.few))  -- overflow_add-j
+    (λ c. omega arith)  -- loop-j-smaller
     loop-again
     returns)

@@ -4,27 +4,27 @@ use borrow.Author.Rules.{rules}
 use Rattle.search.proofs.direct_half.Statement.{statement}
 use Rattle.search.proofs.direct_half.Tie as tie
 
-returns : tie.Need-returns
+returns : tie.Need-returns-then-s-ge-LIMIT
 returns c = direct_none _ _ _ _ _ _
 
-returns-2 : tie.Need-returns-2
+returns-2 : tie.Need-returns-then-ends-h
 returns-2 c =
     let entry : tie.Start = search in
-    let p = entry.pre in
-    direct_of _ _ _ _ _ _ _ p.1.1 c.before.before.before.least-sum.ensures (omega arith) c.if2.true
+    let p = entry.requires in
+    direct_of _ _ _ _ _ _ _ p.1.1 c.least_sum-s.ensures (omega arith) c.if-ends-h.true
 
-returns-3 : tie.Need-returns-3
+returns-3 : tie.Need-returns
 returns-3 c = direct_none _ _ _ _ _ _
 
-pub direct-half-spec : {M : Type 1} → statement M
-direct-half-spec =
+pub direct_half_spec : {M : Type 1} → statement M
+direct_half_spec =
     tie.close
     (tie.spec
-    (λ c. search rules)  -- mul-least-sum
-    (λ c. search rules)  -- shared-slice-read-least-sum
-    (λ c κs. let s : tie.Start = search in (s.pre.0, s.pre.1.0.chained s.args.r s.pre.1.1.r_ok))  -- least-sum-requires
+    (λ c. search rules)  -- offset_bounds-head-r
+    (λ c. search rules)  -- bounds-head-r
+    (λ c κs. let s : tie.Start = search in (s.requires.0, s.requires.1.0.chained s.args.r s.requires.1.1.r_ok))  -- least_sum-s-requires
     returns
-    (λ c. search rules)  -- mul-if2
-    (λ c. search rules)  -- shared-slice-read-if2
+    (λ c. search rules)  -- offset_bounds-ends-h
+    (λ c. search rules)  -- bounds-ends-h
     returns-2
     returns-3)

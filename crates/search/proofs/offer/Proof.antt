@@ -8,24 +8,24 @@ use Rattle.search.proofs.offer.Tie as tie
 lower-requires : tie.Need-lower-requires
 lower-requires c κs =
     let entry : tie.Start = search in
-    let s = entry.pre.0 in (s.heap, (entry.pre.1, omega (arith, s.over _ entry.pre.1)))
+    let s = entry.requires.0 in (s.heap, (entry.requires.1, omega (arith, s.over _ entry.requires.1)))
 
-returns : tie.Need-returns
-returns c = fell (omega arith) refl c.before.before.lower.ensures
+returns : tie.Need-returns-then-k-best
+returns c = fell (omega arith) refl c.lower.ensures
 
-returns-2 : tie.Need-returns-2
+returns-2 : tie.Need-returns-else-k-best
 returns-2 c = kept (omega arith) refl refl
 
-pub offer-spec : {M : Type 1} → statement M
-offer-spec =
+pub offer_spec : {M : Type 1} → statement M
+offer_spec =
     tie.close
     (tie.spec
-    (λ c. search rules)  -- mul-if1
-    (λ c. search rules)  -- slice-read-if1
-    (λ c. search rules)  -- mul-best
-    (λ c. search rules)  -- slice-write-best
+    (λ c. search rules)  -- offset_bounds-best-o
+    (λ c. search rules)  -- bounds-best-o
+    (λ c. search rules)  -- offset_bounds-best-o-then-k-best
+    (λ c. search rules)  -- bounds-best-o-then-k-best
     lower-requires
-    (λ c. search rules)  -- same-length
-    (λ c. search rules)  -- same-length-2
+    (λ c. search rules)  -- shape_of-best
+    (λ c. search rules)  -- shape_of-seg
     returns
     returns-2)

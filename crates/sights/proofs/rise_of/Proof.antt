@@ -24,23 +24,23 @@ difference-read s =
 sub-requires : tie.Need-sub-requires
 sub-requires c κs = let s = c.before.before in rw (difference-read s) (omega (arith, s.requires.place.good.difference))
 
-returns : tie.Need-returns
+returns : tie.Need-returns-then-h-eq0
 returns c =
     let s = c.before.before.before in
     let e : to_z w64 (of_z w64 c.sub.result) ≡ neg_ℤ (difference_at s.args.lines.now (place_of s.args.h)) =
-    stored c.sub.result c.sub.type-inv (c.sub.ensures ∙ rw (difference-read s, +ℤ_idl)) in (
-      e ∙ sym (ap (λ (x : Sight). x.rise) (along_half s.args.lines.now s.args.h c.before.if1.true)),
+    stored c.sub.result c.sub.type_inv (c.sub.ensures ∙ rw (difference-read s, +ℤ_idl)) in (
+      e ∙ sym (ap (λ (x : Sight). x.rise) (along_half s.args.lines.now s.args.h c.if-h-eq0.true)),
       rw (e, size_neg) s.requires.place.good.difference,
     )
 
-returns-2 : tie.Need-returns-2
+returns-2 : tie.Need-returns-else-h-eq0
 returns-2 c =
     let s = c.before.before in (
-      difference-read s ∙ sym (ap (λ (x : Sight). x.rise) (against_half s.args.lines.now s.args.h c.if1.false)),
+      difference-read s ∙ sym (ap (λ (x : Sight). x.rise) (against_half s.args.lines.now s.args.h c.if-h-eq0.false)),
       rw (difference-read s) s.requires.place.good.difference,
     )
 
-pub rise-of-spec : {M : Type 1} → statement M
-rise-of-spec =
+pub rise_of_spec : {M : Type 1} → statement M
+rise_of_spec =
     tie.close (tie.spec (λ c. search rules) (λ c. search rules) (λ c. search rules) (λ c. search rules) (λ c. search rules) sub-requires
     returns returns-2)

@@ -8,38 +8,38 @@ use borrow.Author.Rules.{rules}
 use Rattle.sights.proofs.total_of.Statement.{statement}
 use Rattle.sights.proofs.total_of.Tie as tie
 
-abbrev invariant-loop : tie.invariant-loop
+abbrev invariant-loop : tie.invariant-loop-j
 invariant-loop weight a e sum₀ j₀ sum j =
     (a ≤ j) × (j ≤ e) × (sum ≤ (j - a) * most_weight) × (sum + weighed weight j (e - j) ≡ weighed weight a (e - a))
 
-abbrev decreases-loop : tie.decreases-loop
+abbrev decreases-loop : tie.decreases-loop-j
 decreases-loop weight a e sum₀ j₀ sum j = e - j
 
-loop-again : tie.Need-loop-preserved invariant-loop decreases-loop
+loop-again : tie.Need-loop-j-preserved invariant-loop decreases-loop
 loop-again c =
     let s = c.before.before.before in
-    let l = c.before.before.loop in
-    let t = c.before.loop-test.true in
+    let l = c.loop-j in
+    let t = c.loop-j-test.true in
     let w = s.requires.small l.j in
     (omega arith, omega arith, omega arith, weighed_turn s.args.weight.now s.args.a s.args.e l.j l.sum t l.invariant.3)
 
 returns : tie.Need-returns invariant-loop decreases-loop
 returns c =
     let s = c.before.before in
-    let l = c.before.loop in
-    weighed_end s.args.weight.now s.args.a s.args.e l.j l.sum c.loop-test.false l.invariant.3
+    let l = c.loop-j in
+    weighed_end s.args.weight.now s.args.a s.args.e l.j l.sum c.loop-j-test.false l.invariant.3
 
-pub total-of-spec : {M : Type 1} → statement M
-total-of-spec =
+pub total_of_spec : {M : Type 1} → statement M
+total_of_spec =
     tie.close
     (tie.spec
     invariant-loop
     decreases-loop
-    (λ c. let o = c.requires.span.order in (omega arith, omega arith, omega arith, omega arith))  -- loop-holds
-    (λ c. let s = c.before.before in omega (arith, s.requires.long))  -- mul-sum
-    (λ c. let s = c.before.before.before in omega (arith, s.requires.long))  -- shared-slice-read-sum
-    (λ c. let s = c.before.before.before in omega (arith, s.requires.span.few, s.requires.small c.before.before.loop.j))  -- add-sum
-    (λ c. let s = c.before.before.before in omega (arith, s.requires.long))  -- add-j
-    (λ c. search rules)  -- loop-less
+    (λ c. let o = c.requires.span.order in (omega arith, omega arith, omega arith, omega arith))  -- loop-j-init
+    (λ c. let s = c.before.before in omega (arith, s.requires.long))  -- offset_bounds-weight-j
+    (λ c. let s = c.before.before.before in omega (arith, s.requires.long))  -- bounds-weight-j
+    (λ c. let s = c.before.before.before in omega (arith, s.requires.span.few, s.requires.small c.loop-j.j))  -- overflow_add-sum
+    (λ c. let s = c.before.before.before in omega (arith, s.requires.long))  -- overflow_add-j
+    (λ c. search rules)  -- loop-j-smaller
     loop-again
     returns)

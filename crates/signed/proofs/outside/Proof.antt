@@ -5,19 +5,19 @@ use Rattle.laws.specs.Tests.{out_z}
 use Rattle.signed.proofs.outside.Statement.{statement}
 use Rattle.signed.proofs.outside.Tie as tie
 
-returns : tie.Need-returns
+returns : tie.Need-returns-then-x-lo
 unfolding out_z
 returns c =
     let f = c.before.ranges in
-    let e = simp (to_z-of_z f.x, to_z-of_z f.lo) at c.if1.true in
+    let e = simp (to_z-of_z f.x, to_z-of_z f.lo) at c.if-x-lo.true in
     simp e
 
-returns-2 : tie.Need-returns-2
+returns-2 : tie.Need-returns-else-x-lo
 unfolding out_z
 returns-2 c =
     let f = c.before.ranges in
-    let e = simp (to_z-of_z f.x, to_z-of_z f.lo) at c.if1.false in
+    let e = simp (to_z-of_z f.x, to_z-of_z f.lo) at c.if-x-lo.false in
     simp (to_z-of_z f.x, to_z-of_z f.hi, e)
 
-pub outside-spec : {M : Type 1} → statement M
-outside-spec = tie.close (tie.spec returns returns-2)
+pub outside_spec : {M : Type 1} → statement M
+outside_spec = tie.close (tie.spec returns returns-2)

@@ -4,14 +4,14 @@ use Rattle.signed.proofs.outside_count.Statement.{statement}
 use Rattle.signed.proofs.outside_count.Tie as tie
 
 -- src/lib.rt:32:1
-returns : tie.Need-returns
+returns : tie.Need-returns-then-n-lo
 unfolding out_n
-returns c = rw (lt-ltb _ _ c.if1.true)
+returns c = rw (lt-ltb _ _ c.if-n-lo.true)
 
 -- src/lib.rt:32:1
-returns-2 : tie.Need-returns-2
+returns-2 : tie.Need-returns-else-n-lo
 unfolding out_n
-returns-2 c = rw (le-ltb _ _ c.if1.false)
+returns-2 c = rw (le-ltb _ _ c.if-n-lo.false)
 
-pub outside-count-spec : {M : Type 1} → statement M
-outside-count-spec = tie.close (tie.spec returns returns-2)
+pub outside_count_spec : {M : Type 1} → statement M
+outside_count_spec = tie.close (tie.spec returns returns-2)

@@ -6,14 +6,14 @@ use Rattle.start.proofs.Zeros.{so_many, blank}
 use Rattle.start.proofs.raise.Statement.{statement}
 use Rattle.start.proofs.raise.Tie as tie
 
-pub raise-spec : {M : Type 1} → statement M
-raise-spec =
+pub raise_spec : {M : Type 1} → statement M
+raise_spec =
     tie.close
     (tie.spec
-    (λ c. search rules)  -- array-borrow-prefix-has
-    (λ c. let s : tie.Start = search in sym (so_many false s.args.b 256 s.pre.0.held.few))  -- slice-aggregate-raise-in
-    (λ c. search rules)  -- array-borrow-prefix-base
-    (λ c. let s : tie.Start = search in sym (so_many (pos 0) s.args.b 256 s.pre.0.held.few))  -- slice-aggregate-raise-in-2
-    (λ c κs. let s : tie.Start = search in (s.pre.0, (blank s.args.b 256 s.pre.0.held.few, s.pre.1)))  -- raise-in-requires
-    (λ c. search rules)  -- same-length
+    (λ c. search rules)  -- slice_bounds-has-end
+    (λ c. let s : tie.Start = search in sym (so_many false s.args.b 256 s.requires.0.held.few))  -- slice_bounds-raise_in-end
+    (λ c. search rules)  -- slice_bounds-base-end
+    (λ c. let s : tie.Start = search in sym (so_many (pos 0) s.args.b 256 s.requires.0.held.few))  -- slice_bounds-raise_in-end-2
+    (λ c κs. let s : tie.Start = search in (s.requires.0, (blank s.args.b 256 s.requires.0.held.few, s.requires.1)))  -- raise_in-requires
+    (λ c. search rules)  -- shape_of-z
     (λ c. search rules))  -- returns

@@ -6,56 +6,56 @@ use borrow.Author.Rules.{rules}
 use Rattle.start.proofs.raise_in.Statement.{statement}
 use Rattle.start.proofs.raise_in.Tie as tie
 
-lift-all-requires : tie.Need-lift-all-requires
+lift-all-requires : tie.Need-lift_all-requires
 lift-all-requires c κs =
     let s : tie.Start = search in (
-      s.pre.0,
+      s.requires.0,
       lift_none s.args.flags.now s.args.own.now s.args.root.now s.args.over.now s.args.has.now
-          s.args.base.now s.args.b s.pre.1.0,
+          s.args.base.now s.args.b s.requires.1.0,
     )
 
-returns : tie.Need-returns
+returns : tie.Need-returns-then-m-gt0
 returns c =
-    let after-lift-all : tie.After-lift-all = search in
+    let after-lift-all : tie.After-lift_all = search in
     let s : tie.Start = search in
-    let l = after-lift-all.lift-all in
-    let m = c.before.first-unheld in
+    let l = after-lift-all.lift_all in
+    let m = c.first_unheld-m in
     λ at p held g. (
       m.ensures ∙ unheld_is s.args.b at held s.args.flags.now s.args.own.now s.args.root.now s.args.over.now
-          l.last.1.1.1.1.0 l.last.1.1.1.1.1.0 p g l.ensures,
-      λ z. absurd (omega (arith, c.if1.true)),
-      s.pre.1.1,
+          l.new.has l.new.base p g l.ensures,
+      λ z. absurd (omega (arith, c.if-m-gt0.true)),
+      s.requires.1.1,
     )
 
-returns-2 : tie.Need-returns-2
+returns-2 : tie.Need-returns
 returns-2 c =
-    let else1 : tie.Else1 = search in
-    let after-first-unheld : tie.After-first-unheld = search in
-    let after-lift-all : tie.After-lift-all = search in
+    let else1 : tie.Else-m-gt0 = search in
+    let after-first-unheld : tie.After-first_unheld-m = search in
+    let after-lift-all : tie.After-lift_all = search in
     let s : tie.Start = search in
-    let l = after-lift-all.lift-all in
-    let m = after-first-unheld.first-unheld in
-    let g₀ = c.before.begin.ensures in
-    let e : m.result ≡ 0 = omega (arith, else1.if1.left) in
+    let l = after-lift-all.lift_all in
+    let m = after-first-unheld.first_unheld-m in
+    let g₀ = c.begin.ensures in
+    let e : m.result ≡ 0 = omega (arith, else1.if-m-gt0.false) in
     λ at p held g. (
       sym e ∙ m.ensures ∙ unheld_is s.args.b at held s.args.flags.now s.args.own.now s.args.root.now
-          s.args.over.now l.last.1.1.1.1.0 l.last.1.1.1.1.1.0 p g l.ensures,
+          s.args.over.now l.new.has l.new.base p g l.ensures,
       λ z v h. g₀.each v h ∙ start_is s.args.b at held s.args.flags.now s.args.own.now s.args.root.now
-          s.args.over.now l.last.1.1.1.1.0 l.last.1.1.1.1.1.0 p g l.ensures (sym m.ensures ∙ e) v h,
+          s.args.over.now l.new.has l.new.base p g l.ensures (sym m.ensures ∙ e) v h,
       g₀.all,
     )
 
-pub raise-in-spec : {M : Type 1} → statement M
-raise-in-spec =
+pub raise_in_spec : {M : Type 1} → statement M
+raise_in_spec =
     tie.close
     (tie.spec
     lift-all-requires
-    (λ c κs. search rules)  -- first-unheld-requires
-    (λ c. search rules)  -- same-length
-    (λ c. search rules)  -- same-length-2
+    (λ c κs. search rules)  -- first_unheld-m-requires
+    (λ c. search rules)  -- shape_of-has-then-m-gt0
+    (λ c. search rules)  -- shape_of-base-then-m-gt0
     returns
     (λ c κs. search rules)  -- begin-requires
-    (λ c. search rules)  -- same-length-3
-    (λ c. search rules)  -- same-length-4
-    (λ c. search rules)  -- same-length-5
+    (λ c. search rules)  -- shape_of-has
+    (λ c. search rules)  -- shape_of-base
+    (λ c. search rules)  -- shape_of-z
     returns-2)

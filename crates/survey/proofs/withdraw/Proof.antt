@@ -9,43 +9,43 @@ use Rattle.survey.proofs.withdraw.Tie as tie
 
 -- what the test answered, at the numbers that were lent
 tested : (c : tie.After-test)
-    → (let a = c.before.before.args in c.test.result ≡ test_of (lent a.version a.b a.t a.held.now a.lines.now))
+    → (let a = c.args in c.test.result ≡ test_of (lent a.version a.b a.t a.held.now a.lines.now))
 tested c = c.test.ensures ∙ search rules
 
-withdraw-good-requires : tie.Need-withdraw-good-requires
+withdraw-good-requires : tie.Need-withdraw_good-requires
 withdraw-good-requires c κs =
     let after_test : tie.After-test = search in
     let entry : tie.Start = search in
-    let g = c.before.before.before in
+    let g = c.before.before in
     let a = entry.args in
-    good_lines _ _ (tested_good (lent a.version a.b a.t a.held.now a.lines.now) g.book.given.0.0
-    (sym (tested after_test) ∙ g.book.given.1))
+    good_lines _ _ (tested_good (lent a.version a.b a.t a.held.now a.lines.now) g.in-Good.book
+    (sym (tested after_test) ∙ g.in-Good.is))
 
-returns : tie.Need-returns
+returns : tie.Need-returns-in-Refused
 unfolding withdraw_of correct_of
 returns c =
     let after_test : tie.After-test = search in
-    rw (← (tested after_test), c.before.before.r.given.1, c.refused.ensures)
+    rw (← (tested after_test), c.in-Refused.is, c.refused.ensures)
 
-returns-2 : tie.Need-returns-2
+returns-2 : tie.Need-returns-in-Good
 unfolding withdraw_of correct_of
 returns-2 c =
-    let after-book : tie.After-book = search in
+    let after-book : tie.In-Good = search in
     let after_test : tie.After-test = search in
-    let e = c.before.before.withdraw-good.ensures in
-    rw (← (tested after_test), after-book.book.given.1) (e ∙ search rules)
+    let e = c.withdraw_good.ensures in
+    rw (← (tested after_test), after-book.in-Good.is) (e ∙ search rules)
 
-pub withdraw-spec : {M : Type 1} → statement M
-withdraw-spec =
+pub withdraw_spec : {M : Type 1} → statement M
+withdraw_spec =
     tie.close
     (tie.spec
     (λ c κs. search rules)  -- test-requires
-    (λ c. search rules)  -- enum-known-r
+    (λ c. search rules)  -- enum_known-r
     (λ c κs. search rules)  -- refused-requires
-    (λ c. search rules)  -- enum-known-book
+    (λ c. search rules)  -- enum_known-book
     withdraw-good-requires
-    (λ c. search rules)  -- same-length
+    (λ c. search rules)  -- shape_of-lines-in-Refused
     returns
-    (λ c. search rules)  -- same-length-2
-    (λ c. search rules)  -- same-length-3
+    (λ c. search rules)  -- shape_of-lines-in-Good
+    (λ c. search rules)  -- shape_of-report
     returns-2)

@@ -17,36 +17,36 @@ height-read : (s : tie.Start)
     → to_z w64 (of_z w64 (get_or s.args.h.now s.args.v (pos 0))) ≡ get_or s.args.h.now s.args.v (pos 0)
 height-read s = read (get_or s.args.h.now s.args.v (pos 0)) most_height (s.requires.1.0.inside s.args.v) (omega arith)
 
-pull-read : (c : tie.After-pull-of)
-    → (let s : tie.Start = search in to_z w64 (of_z w64 c.pull-of.result)
-    ≡ pull_here s.pre.0 s.pre.1.0 s.pre.1.1)
+pull-read : (c : tie.After-pull_of-g)
+    → (let s : tie.Start = search in to_z w64 (of_z w64 c.pull_of-g.result)
+    ≡ pull_here s.requires.0 s.requires.1.0 s.requires.1.1)
 pull-read c =
     let entry : tie.Start = search in
-    stored c.pull-of.result c.pull-of.type-inv (c.pull-of.ensures ∙ rw (height-read entry))
+    stored c.pull_of-g.result c.pull_of-g.type_inv (c.pull_of-g.ensures ∙ rw (height-read entry))
 
-move_read : (c : tie.After-move-by)
-    → (let s : tie.Start = search in to_z w64 (of_z w64 c.move-by.result)
-    ≡ nearest (pull_here s.pre.0 s.pre.1.0 s.pre.1.1) (get_or s.args.total.now s.args.v 0))
-move_read c = stored c.move-by.result c.move-by.type-inv (c.move-by.ensures ∙ rw (pull-read c.before.before))
+move_read : (c : tie.After-move_by)
+    → (let s : tie.Start = search in to_z w64 (of_z w64 c.move_by.result)
+    ≡ nearest (pull_here s.requires.0 s.requires.1.0 s.requires.1.1) (get_or s.args.total.now s.args.v 0))
+move_read c = stored c.move_by.result c.move_by.type_inv (c.move_by.ensures ∙ rw (pull-read c.before.before))
 
-pull-of-requires : tie.Need-pull-of-requires
+pull-of-requires : tie.Need-pull_of-g-requires
 pull-of-requires c κs =
     let s : tie.Start = search in (
-      s.pre.0.ends s.args.v s.pre.1.1,
+      s.requires.0.ends s.args.v s.requires.1.1,
       (
-        s.pre.1.0,
-        (rw (height-read s) (s.pre.1.0.inside s.args.v), s.pre.0.span s.args.v s.pre.1.1),
+        s.requires.1.0,
+        (rw (height-read s) (s.requires.1.0.inside s.args.v), s.requires.0.span s.args.v s.requires.1.1),
       ),
     )
 
-move-by-requires : tie.Need-move-by-requires
+move-by-requires : tie.Need-move_by-requires
 move-by-requires c κs =
     let s : tie.Start = search in
     rw (pull-read c.before) (
-      total_zero s.pre.0 s.pre.1.0 s.pre.1.1,
+      total_zero s.requires.0 s.requires.1.0 s.requires.1.1,
       (
-        total_fits s.pre.0 s.pre.1.0 s.pre.1.1,
-        omega (arith, pull_fits s.pre.0 s.pre.1.0 s.pre.1.1),
+        total_fits s.requires.0 s.requires.1.0 s.requires.1.1,
+        omega (arith, pull_fits s.requires.0 s.requires.1.0 s.requires.1.1),
       ),
     )
 
@@ -54,23 +54,23 @@ returns : tie.Need-returns
 returns c =
     let s : tie.Start = search in
     let e = move_read c in (
-      e ∙ move_is s.pre.0 s.pre.1.0 s.pre.1.1,
-      rw e (move_fits s.pre.0 s.pre.1.0 s.pre.1.1),
+      e ∙ move_is s.requires.0 s.requires.1.0 s.requires.1.1,
+      rw e (move_fits s.requires.0 s.requires.1.0 s.requires.1.1),
     )
 
-pub move-of-spec : {M : Type 1} → statement M
-move-of-spec =
+pub move_of_spec : {M : Type 1} → statement M
+move_of_spec =
     tie.close
     (tie.spec
-    (λ c. search rules)  -- mul-pull-of
-    (λ c. search rules)  -- shared-slice-copy-out-pull-of
-    (λ c. search rules)  -- mul-pull-of-2
-    (λ c. search rules)  -- shared-slice-read-pull-of
-    (λ c. search rules)  -- add-pull-of
-    (λ c. search rules)  -- mul-pull-of-3
-    (λ c. search rules)  -- shared-slice-read-pull-of-2
+    (λ c. search rules)  -- offset_bounds-h-v
+    (λ c. search rules)  -- bounds-h-v
+    (λ c. search rules)  -- offset_bounds-first-v
+    (λ c. search rules)  -- bounds-first-v
+    (λ c. search rules)  -- overflow_add-v
+    (λ c. search rules)  -- offset_bounds-first-v-2
+    (λ c. search rules)  -- bounds-first-v-2
     pull-of-requires
-    (λ c. search rules)  -- mul-move-by
-    (λ c. search rules)  -- shared-slice-read-move-by
+    (λ c. search rules)  -- offset_bounds-total-v
+    (λ c. search rules)  -- bounds-total-v
     move-by-requires
     returns)

@@ -9,14 +9,14 @@ use native.Mathlib.Omega.{arith}
 use Rattle.sweeps.proofs.sweep.Statement.{statement}
 use Rattle.sweeps.proofs.sweep.Tie as tie
 
-abbrev invariant-loop : tie.invariant-loop
+abbrev invariant-loop : tie.invariant-loop-left
 invariant-loop first other rise weight total held h₀ b s₀ left₀ h s left =
     (left ≤ b) × (swept s h ≡ sweep (rows first (columns other rise weight)) (flags held) h₀ (b - left)) × Working h b
 
-abbrev decreases-loop : tie.decreases-loop
+abbrev decreases-loop : tie.decreases-loop-left
 decreases-loop first other rise weight total held h₀ b s₀ left₀ h s left = left
 
-loop-holds : tie.Need-loop-init invariant-loop decreases-loop
+loop-holds : tie.Need-loop-left-init invariant-loop decreases-loop
 loop-holds c =
     let s : tie.Start invariant-loop decreases-loop = search in
     let f = rows s.args.first.now (columns s.args.other.now s.args.rise.now s.args.weight.now) in
@@ -24,26 +24,26 @@ loop-holds c =
       omega arith,
       sweep_none f (flags s.args.held.now) s.args.h.now
           ∙ ap (sweep f (flags s.args.held.now) s.args.h.now) e,
-      s.pre.1.0,
+      s.requires.1.0,
     )
 
-take-turn-requires : tie.Need-take-turn-requires invariant-loop decreases-loop
+take-turn-requires : tie.Need-take_turn-s-requires invariant-loop decreases-loop
 take-turn-requires c κs =
     let s : tie.Start invariant-loop decreases-loop = search in
-    let l = c.before.before.loop in
-    (s.pre.0, (l.invariant.2, (omega (arith, l.invariant.0, c.before.loop-test.true), s.pre.1.1)))
+    let l = c.loop-left in
+    (s.requires.0, (l.invariant.2, (omega (arith, l.invariant.0, c.loop-left-test.true), s.requires.1.1)))
 
-loop-again : tie.Need-loop-preserved invariant-loop decreases-loop
+loop-again : tie.Need-loop-left-preserved invariant-loop decreases-loop
 loop-again c =
-    let l : tie.At-loop invariant-loop decreases-loop = search in
+    let l : tie.At-loop-left invariant-loop decreases-loop = search in
     let s : tie.Start invariant-loop decreases-loop = search in
-    let t = c.before.take-turn in
+    let t = c.take_turn-s in
     let f = rows s.args.first.now (columns s.args.other.now s.args.rise.now s.args.weight.now) in
-    let e : s.args.b - l.loop.left + 1 ≡ s.args.b - (l.loop.left - 1) =
-    omega (arith, l.loop.inv.0, c.before.before.before.loop-test.true) in (
-      omega (arith, l.loop.inv.0),
-      sweep_turn f (flags s.args.held.now) s.args.h.now (s.args.b - l.loop.left) (swept l.loop.s l.loop.h)
-          (swept t.result t.new.1.1.1.1.1.1.0) l.loop.inv.1 t.ensures.0
+    let e : s.args.b - l.loop-left.left + 1 ≡ s.args.b - (l.loop-left.left - 1) =
+    omega (arith, l.loop-left.invariant.0, c.loop-left-test.true) in (
+      omega (arith, l.loop-left.invariant.0),
+      sweep_turn f (flags s.args.held.now) s.args.h.now (s.args.b - l.loop-left.left) (swept l.loop-left.s l.loop-left.h)
+          (swept t.result t.new.h) l.loop-left.invariant.1 t.ensures.0
           ∙ ap (sweep f (flags s.args.held.now) s.args.h.now) e,
       t.ensures.1,
     )
@@ -51,21 +51,21 @@ loop-again c =
 returns : tie.Need-returns invariant-loop decreases-loop
 returns c =
     let s : tie.Start invariant-loop decreases-loop = search in
-    let l = c.before.loop in
-    let e : s.args.b - l.left ≡ s.args.b = omega (arith, c.loop-test.false) in
+    let l = c.loop-left in
+    let e : s.args.b - l.left ≡ s.args.b = omega (arith, c.loop-left-test.false) in
     (rw e at l.invariant.1, l.invariant.2)
 
-pub sweep-spec : {M : Type 1} → statement M
-sweep-spec =
+pub sweep_spec : {M : Type 1} → statement M
+sweep_spec =
     tie.close
     (tie.spec
     invariant-loop
     decreases-loop
     loop-holds
-    (λ c. omega (arith, c.before.before.loop.invariant.0))  -- sub-take-turn
+    (λ c. omega (arith, c.loop-left.invariant.0))  -- overflow_sub-b
     take-turn-requires
-    (λ c. omega arith)  -- sub-left
-    (λ c. omega arith)  -- loop-less
+    (λ c. omega arith)  -- overflow_sub-left
+    (λ c. omega arith)  -- loop-left-smaller
     loop-again
-    (λ c. let s : tie.Start invariant-loop decreases-loop = search in c.before.loop.invariant.2.all ∙ sym s.pre.1.0.all)  -- same-length
+    (λ c. let s : tie.Start invariant-loop decreases-loop = search in c.loop-left.invariant.2.all ∙ sym s.requires.1.0.all)  -- shape_of-h
     returns)

@@ -60,21 +60,21 @@ rise-read s = read (rise-of s) most_difference (rise_size s) (omega arith)
 present-read : (s : tie.Start) → to_z w64 (of_z w64 s.args.z) ≡ s.args.z
 present-read s = read s.args.z most_height s.requires.1.1 (omega arith)
 
-abbrev start_of : tie.After-add → tie.Start
+abbrev start_of : tie.After-add-given → tie.Start
 start_of c = search
 
-given-read : (c : tie.After-add) → to_z w64 (of_z w64 c.add.result) ≡ height-of (start_of c) +ℤ rise-of (start_of c)
-given-read c = stored c.add.result c.add.type-inv (c.add.ensures ∙ rw (height-read (start_of c), rise-read (start_of c)))
+given-read : (c : tie.After-add-given) → to_z w64 (of_z w64 c.add-given.result) ≡ height-of (start_of c) +ℤ rise-of (start_of c)
+given-read c = stored c.add-given.result c.add-given.type_inv (c.add-given.ensures ∙ rw (height-read (start_of c), rise-read (start_of c)))
 
-count-read : (c : tie.After-signed-count) → to_z w64 (of_z w64 c.signed-count.result) ≡ pos (weight-of (start_of c.before.before))
-count-read c = stored c.signed-count.result c.signed-count.type-inv c.signed-count.ensures
+count-read : (c : tie.After-signed_count) → to_z w64 (of_z w64 c.signed_count.result) ≡ pos (weight-of (start_of c.before.before))
+count-read c = stored c.signed_count.result c.signed_count.type_inv c.signed_count.ensures
 
 over-read : (c : tie.After-sub) → to_z w64 (of_z w64 c.sub.result) ≡ rise-over (start_of c.before.before.before)
 over-read c =
-    stored c.sub.result c.sub.type-inv (c.sub.ensures ∙ rw
+    stored c.sub.result c.sub.type_inv (c.sub.ensures ∙ rw
     (given-read c.before.before.before, present-read (start_of c.before.before.before)))
 
-add-requires : tie.Need-add-requires
+add-requires : tie.Need-add-given-requires
 add-requires c κs =
     let s : tie.Start = search in
     let x = height-size s in let r = rise_size s in rw (height-read s, rise-read s) (omega arith)
@@ -82,34 +82,34 @@ add-requires c κs =
 sub-requires : tie.Need-sub-requires
 sub-requires c κs =
     let g = given-read c.before.before in let h = given-size (start_of c.before.before) in let s = start_of c.before.before
-    in let z = s.pre.1.1 in rw (g, present-read s) (omega arith)
+    in let z = s.requires.1.1 in rw (g, present-read s) (omega arith)
 
 mul-requires : tie.Need-mul-requires
 mul-requires c κs =
     let s = start_of c.before.before.before in
     let h = rise-over-size s in
-    let w = s.pre.0.range.weight_in s.args.j in
+    let w = s.requires.0.range.weight_in s.args.j in
     let k : weight-of s * nat_abs (rise-over s) ≤ most_weight * most_apart = mul-le-mul w h in
     rw (count-read c.before, over-read c) (omega arith)
 
 returns : tie.Need-returns
 unfolding term_at
-returns c = stored c.mul.result c.mul.type-inv (c.mul.ensures ∙ rw (count-read c.before.before, over-read c.before))
+returns c = stored c.mul.result c.mul.type_inv (c.mul.ensures ∙ rw (count-read c.before.before, over-read c.before))
 
-pub term-spec : {M : Type 1} → statement M
-term-spec =
+pub term_spec : {M : Type 1} → statement M
+term_spec =
     tie.close
     (tie.spec
-    (λ c. search rules)  -- mul-add
-    (λ c. search rules)  -- shared-slice-read-add
-    (λ c. let s = c.before.before.before in omega (arith, s.requires.0.range.other_in s.args.j))  -- mul-add-2
-    (λ c. let s = c.before.before.before in omega (arith, s.requires.0.range.other_in s.args.j))  -- shared-slice-copy-out-add
-    (λ c. search rules)  -- mul-add-3
-    (λ c. search rules)  -- shared-slice-copy-out-add-2
+    (λ c. search rules)  -- offset_bounds-other-j
+    (λ c. search rules)  -- bounds-other-j
+    (λ c. let s = c.before.before.before in omega (arith, s.requires.0.range.other_in s.args.j))  -- offset_bounds-h-other
+    (λ c. let s = c.before.before.before in omega (arith, s.requires.0.range.other_in s.args.j))  -- bounds-h-other
+    (λ c. search rules)  -- offset_bounds-rise-j
+    (λ c. search rules)  -- bounds-rise-j
     add-requires
-    (λ c. search rules)  -- mul-signed-count
-    (λ c. search rules)  -- shared-slice-read-signed-count
-    (λ c κs. let s : tie.Start = search in omega (arith, s.pre.0.range.weight_in s.args.j))  -- signed-count-requires
+    (λ c. search rules)  -- offset_bounds-weight-j
+    (λ c. search rules)  -- bounds-weight-j
+    (λ c κs. let s : tie.Start = search in omega (arith, s.requires.0.range.weight_in s.args.j))  -- signed_count-requires
     sub-requires
     mul-requires
     returns)

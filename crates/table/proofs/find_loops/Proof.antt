@@ -2,10 +2,10 @@ use borrow.Author.Rules.{rules}
 use Rattle.table.proofs.find_loops.Statement.{statement}
 use Rattle.table.proofs.find_loops.Tie as tie
 
-find-in-requires : tie.Need-find-in-requires
+find-in-requires : tie.Need-find_in-requires
 find-in-requires c κs =
     let entry : tie.Start = search in
-    let p = entry.pre in (
+    let p = entry.requires in (
       p.0,
       (
         p.1,
@@ -21,18 +21,18 @@ find-in-requires c κs =
       ),
     )
 
-pub find-loops-spec : {M : Type 1} → statement M
-find-loops-spec =
+pub find_loops_spec : {M : Type 1} → statement M
+find_loops_spec =
     tie.close
     (tie.spec
-    (λ c. search rules)  -- slice-aggregate-find-in
-    (λ c. search rules)  -- slice-aggregate-find-in-2
-    (λ c. search rules)  -- slice-aggregate-find-in-3
-    (λ c. search rules)  -- slice-aggregate-find-in-4
-    (λ c. search rules)  -- slice-aggregate-find-in-5
-    (λ c. search rules)  -- slice-aggregate-find-in-6
-    (λ c. search rules)  -- slice-aggregate-find-in-7
+    (λ c. search rules)  -- slice_bounds-find_in-end
+    (λ c. search rules)  -- slice_bounds-find_in-end-2
+    (λ c. search rules)  -- slice_bounds-find_in-end-3
+    (λ c. search rules)  -- slice_bounds-find_in-end-4
+    (λ c. search rules)  -- slice_bounds-find_in-end-5
+    (λ c. search rules)  -- slice_bounds-find_in-end-6
+    (λ c. search rules)  -- slice_bounds-find_in-end-7
     find-in-requires
-    (λ c. search rules)  -- same-length
-    (λ c. search rules)  -- same-length-2
+    (λ c. search rules)  -- shape_of-starts
+    (λ c. search rules)  -- shape_of-runs
     (λ c. search rules))  -- returns

@@ -7,10 +7,10 @@ use Rattle.text.proofs.Puts.{nothing_put, put_length, one_more, all_put}
 use Rattle.text.proofs.put.Statement.{statement}
 use Rattle.text.proofs.put.Tie as tie
 
-abbrev invariant-loop : tie.invariant-loop
+abbrev invariant-loop : tie.invariant-loop-i
 invariant-loop out₀ at s next₀ i₀ out next i = (i ≤ length s) × Put out₀ out at next (take i s)
 
-abbrev decreases-loop : tie.decreases-loop
+abbrev decreases-loop : tie.decreases-loop-i
 decreases-loop out₀ at s next₀ i₀ out next i = length s - i
 
 returns : tie.Need-returns invariant-loop decreases-loop
@@ -22,11 +22,11 @@ put_spec =
     (tie.spec
     invariant-loop
     decreases-loop
-    (λ c. (omega arith, search nothing_put))  -- loop-holds
-    (λ c. omega arith)  -- shared-slice-read-put-byte
-    (λ c κs. tt)  -- put-byte-requires
-    (λ c. omega arith)  -- add-i
-    (λ c. omega arith)  -- loop-less
-    (λ c. (omega arith, search (one_more (λ s. s) (λ a b. refl))))  -- loop-again
-    (λ c. search put_length)  -- same-length
+    (λ c. (omega arith, search nothing_put))  -- loop-i-init
+    (λ c. omega arith)  -- bounds-s-i
+    (λ c κs. tt)  -- put_byte-next-requires
+    (λ c. omega arith)  -- overflow_add-i
+    (λ c. omega arith)  -- loop-i-smaller
+    (λ c. (omega arith, search (one_more (λ s. s) (λ a b. refl))))  -- loop-i-preserved
+    (λ c. search put_length)  -- shape_of-out
     returns)

@@ -11,7 +11,7 @@ returns c =
     let line = c.before.before in
     let space = line.before.before.before.before in
     let start = space.before.before.before in
-    rw (listed_one start.args.line, ← (to_z-of_z start.ranges.line)) (space.put_byte.ensures then line.put-signed.ensures)
+    rw (listed_one start.args.line, ← (to_z-of_z start.ranges.line)) (space.put_byte-at.ensures then line.put_signed.ensures)
 
-pub put-line-spec : {M : Type 1} → statement M
-put-line-spec = tie.close (tie.spec (λ c κs. tt) (λ c κs. tt) (λ c. put_length (returns c)) returns)
+pub put_line_spec : {M : Type 1} → statement M
+put_line_spec = tie.close (tie.spec (λ c κs. tt) (λ c κs. tt) (λ c. put_length (returns c)) returns)

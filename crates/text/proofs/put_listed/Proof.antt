@@ -11,42 +11,42 @@ use Rattle.text.proofs.Puts.{nothing_put, put_length, one_more, all_put}
 use Rattle.text.proofs.put_listed.Statement.{statement}
 use Rattle.text.proofs.put_listed.Tie as tie
 
-abbrev invariant-loop : tie.invariant-loop
+abbrev invariant-loop : tie.invariant-loop-i
 invariant-loop out₀ at list next₀ i₀ out next i = (i ≤ length list) × Put out₀ out at next (listed_text (take i list))
 
-abbrev decreases-loop : tie.decreases-loop
+abbrev decreases-loop : tie.decreases-loop-i
 decreases-loop out₀ at list next₀ i₀ out next i = length list - i
 
-loop-holds : tie.Need-loop-init invariant-loop decreases-loop
+loop-holds : tie.Need-loop-i-init invariant-loop decreases-loop
 unfolding listed_text
 loop-holds c = (omega arith, search nothing_put)
 
-loop-again : tie.Need-loop-preserved invariant-loop decreases-loop
+loop-again : tie.Need-loop-i-preserved invariant-loop decreases-loop
 loop-again c =
     let turn = c.before.before in
     let arg = turn.before in
     let at = arg.before.before.before in
-    let list = at.before.before.args.list.now in (
+    let list = at.args.list.now in (
       omega arith,
-      one_more listed_text listed_append list at.loop.i at.loop.invariant.1 (pos 0) (omega arith)
-          (rw (back _ arg.put-line-arg2.given) at turn.put-line.ensures),
+      one_more listed_text listed_append list at.loop-i.i at.loop-i.invariant.1 (pos 0) (omega arith)
+          (rw (back _ arg.put_line-arg-in-loop-i-1.given) at turn.put_line-next.ensures),
     )
 
 returns : tie.Need-returns invariant-loop decreases-loop
 returns c = search (all_put listed_text listed_append)
 
-pub put-listed-spec : {M : Type 1} → statement M
-put-listed-spec =
+pub put_listed_spec : {M : Type 1} → statement M
+put_listed_spec =
     tie.close
     (tie.spec
     invariant-loop
     decreases-loop
     loop-holds
-    (λ c. search rules)  -- mul-put-line
-    (λ c. omega arith)  -- shared-slice-copy-out-put-line
-    (λ c κs. tt)  -- put-line-requires
-    (λ c. omega arith)  -- add-i
-    (λ c. omega arith)  -- loop-less
+    (λ c. search rules)  -- offset_bounds-list-i
+    (λ c. omega arith)  -- bounds-list-i
+    (λ c κs. tt)  -- put_line-next-requires
+    (λ c. omega arith)  -- overflow_add-i
+    (λ c. omega arith)  -- loop-i-smaller
     loop-again
-    (λ c. search put_length)  -- same-length
+    (λ c. search put_length)  -- shape_of-out
     returns)

@@ -12,7 +12,7 @@ use Rattle.unchecked.proofs.check_line.Tie as tie
 closes-requires : tie.Need-closes-requires
 closes-requires c κs =
     let entry : tie.Start = search in
-    let p = entry.pre.0 in (
+    let p = entry.requires.0 in (
       omega (arith, c, p.few, p.bounded.ends_at),
       (
         omega (arith, p.bests, p.bounded.mark_ok (entry.args.number * 2) (omega (arith, c, p.few))),
@@ -20,15 +20,15 @@ closes-requires c κs =
       ),
     )
 
-check-loop-requires : tie.Need-check-loop-requires
+check-loop-requires : tie.Need-check_loop-requires
 check-loop-requires c κs =
-    let closing : tie.Then1 = search in
+    let closing : tie.Then-closes = search in
     let after-closes : tie.After-closes = search in
     let entry : tie.Start = search in
-    let p = entry.pre.0 in
+    let p = entry.requires.0 in
     let held = tree_held p.listed p.holding in
-    let k = closes_closing p.listed p.holding entry.args.number entry.pre.1
-    (sym after-closes.closes.ensures ∙ closing.if1.taken) in
+    let k = closes_closing p.listed p.holding entry.args.number entry.requires.1
+    (sym after-closes.closes.ensures ∙ closing.if-closes.true) in
     record {
       marks = p.marks;
       n = p.n;
@@ -40,19 +40,19 @@ check-loop-requires c κs =
       its = k.2;
     }
 
-returns : tie.Need-returns
+returns : tie.Need-returns-then-closes
 returns c =
-    let after-check-loop : tie.After-check-loop = search in
-    let closing : tie.Then1 = search in
+    let after-check-loop : tie.After-check_loop = search in
+    let closing : tie.Then-closes = search in
     let after-closes : tie.After-closes = search in
-    let looped = after-check-loop.check-loop.ensures in
-    (closing_line (sym after-closes.closes.ensures ∙ closing.if1.taken) looped.0, looped.1)
+    let looped = after-check-loop.check_loop.ensures in
+    (closing_line (sym after-closes.closes.ensures ∙ closing.if-closes.true) looped.0, looped.1)
 
-returns-2 : tie.Need-returns-2
+returns-2 : tie.Need-returns-else-closes
 returns-2 c =
     let after-closes : tie.After-closes = search in
-    (other_line (sym after-closes.closes.ensures ∙ c.if1.false) refl, refl)
+    (other_line (sym after-closes.closes.ensures ∙ c.if-closes.false) refl, refl)
 
-pub check-line-spec : {M : Type 1} → statement M
-check-line-spec =
+pub check_line_spec : {M : Type 1} → statement M
+check_line_spec =
     tie.close (tie.spec closes-requires check-loop-requires returns returns-2)

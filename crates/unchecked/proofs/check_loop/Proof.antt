@@ -17,7 +17,7 @@ low p = small_number p.held p.c p.is_line p.its
 follow-requires : tie.Need-follow-requires
 follow-requires c κs =
     let entry : tie.Start = search in
-    let p = entry.pre in record {
+    let p = entry.requires in record {
       marks = simp length-set p.marks;
       n = p.n;
       bests = p.bests;
@@ -31,22 +31,22 @@ returns : tie.Need-returns
 returns c =
     let s : tie.Start = search in
     let f = c.follow in (
-      λ n lines t l i e. loop_checked t l i e s.args.marked.now f.new.1.1.0 s.pre.marks f.ensures.0,
+      λ n lines t l i e. loop_checked t l i e s.args.marked.now f.new.marked s.requires.marks f.ensures.0,
       f.ensures.1 ∙ simp length-set,
     )
 
-pub check-loop-spec : {M : Type 1} → statement M
-check-loop-spec =
+pub check_loop_spec : {M : Type 1} → statement M
+check_loop_spec =
     tie.close
     (tie.spec
-    (λ c. omega (arith, low c.requires))  -- mul-marked
-    (λ c. omega (arith, low c.requires))  -- element-write-marked
-    (λ c. omega (arith, low c.requires))  -- mul-from
-    (λ c. omega (arith, low c.requires))  -- add-from
-    (λ c. omega (arith, low c.requires))  -- mul-from-2
-    (λ c. omega (arith, low c.requires))  -- element-copy-out-from
-    (λ c. omega (arith, low c.before.requires))  -- mul-to
-    (λ c. omega (arith, low c.before.requires))  -- mul-to-2
-    (λ c. omega (arith, low c.before.requires))  -- element-copy-out-to
+    (λ c. omega (arith, low c.requires))  -- offset_bounds-marked-number
+    (λ c. omega (arith, low c.requires))  -- bounds-marked-number
+    (λ c. omega (arith, low c.requires))  -- overflow_mul-from
+    (λ c. omega (arith, low c.requires))  -- overflow_add-from
+    (λ c. omega (arith, low c.requires))  -- offset_bounds-ends-number
+    (λ c. omega (arith, low c.requires))  -- bounds-ends-number
+    (λ c. omega (arith, low c.requires))  -- overflow_mul-to
+    (λ c. omega (arith, low c.requires))  -- offset_bounds-ends-number-2
+    (λ c. omega (arith, low c.requires))  -- bounds-ends-number-2
     follow-requires
     returns)

@@ -4,20 +4,20 @@ use borrow.Author.Rules.{rules}
 use Rattle.unchecked.proofs.is_open.Statement.{statement}
 use Rattle.unchecked.proofs.is_open.Tie as tie
 
-returns : tie.Need-returns
-returns c = rw (eq-eqb _ 0 c.if1.true)
+returns : tie.Need-returns-then-ends-number-eq0
+returns c = rw (eq-eqb _ 0 c.if-ends-number-eq0.true)
 
-returns-2 : tie.Need-returns-2
-returns-2 c = rw (ne_eqb _ 0 c.before.if1.false)
+returns-2 : tie.Need-returns
+returns-2 c = rw (ne_eqb _ 0 c.if-ends-number-eq0.false)
 
-pub is-open-spec : {M : Type 1} → statement M
-is-open-spec =
+pub is_open_spec : {M : Type 1} → statement M
+is_open_spec =
     tie.close
     (tie.spec
-    (λ c. search rules)  -- mul-if1
-    (λ c. search rules)  -- mul-if1-2
-    (λ c. search rules)  -- shared-slice-read-if1
+    (λ c. search rules)  -- overflow_mul-number
+    (λ c. search rules)  -- offset_bounds-ends-number
+    (λ c. search rules)  -- bounds-ends-number
     returns
-    (λ c. search rules)  -- mul-result
-    (λ c. search rules)  -- shared-slice-read-result
+    (λ c. search rules)  -- offset_bounds-marked-number
+    (λ c. search rules)  -- bounds-marked-number
     returns-2)

@@ -6,12 +6,12 @@ use Rattle.unchecked.proofs.not_checked.Tie as tie
 
 returns : tie.Need-returns
 returns c =
-    let after-list-open : tie.After-list-open = search in
-    let after-check-lines : tie.After-check-lines = search in
+    let after-list-open : tie.After-list_open = search in
+    let after-check-lines : tie.After-check_lines = search in
     let entry : tie.Start = search in
-    λ n order lines li ho. open_list _ entry.pre.closes.few li ho after-check-lines.check-lines.ensures
-    after-list-open.List-open.ensures
+    λ n order lines li ho. open_list _ entry.requires.closes.few li ho after-check-lines.check_lines.ensures
+    after-list-open.list_open.ensures
 
-pub not-checked-spec : {M : Type 1} → statement M
-not-checked-spec =
+pub not_checked_spec : {M : Type 1} → statement M
+not_checked_spec =
     tie.close (tie.spec (λ c κs. search rules) (λ c κs. search rules) (λ c. search rules) returns)

@@ -18,27 +18,27 @@ size : (c : tie.Start) → (let k = c.args.book in
     c.args.bytes ≡ 13 + k.held * 10 + k.lines * entry_bytes (line_kind k.version))
 size c = c.requires.1.1.0
 
-write-head-requires : tie.Need-write-head-requires
+write-head-requires : tie.Need-write_head-requires
 write-head-requires c κs =
     let entry : tie.Start = search in
-    (size entry, simp length-take (omega (arith, size entry, entry.pre.1.1.1)))
+    (size entry, simp length-take (omega (arith, size entry, entry.requires.1.1.1)))
 
-write-entries-requires : tie.Need-write-entries-requires
+write-entries-requires : tie.Need-write_entries-requires
 write-entries-requires c κs =
     let entry : tie.Start = search in
-    let back : tie.After-file = search in (
-      omega (arith, entry.pre.1.0.whole),
-      simp (length-take, length-drop) (omega (arith, back.file.given.1, size entry, entry.pre.1.1.1)),
+    let back : tie.After-file-1 = search in (
+      omega (arith, entry.requires.1.0.whole),
+      simp (length-take, length-drop) (omega (arith, back.file-1.given.1, size entry, entry.requires.1.1.1)),
     )
 
-write-entries-requires-2 : tie.Need-write-entries-requires-2
+write-entries-requires-2 : tie.Need-write_entries-requires-2
 write-entries-requires-2 c κs =
     let entry : tie.Start = search in
-    let back : tie.After-file = search in
-    let again : tie.After-file2 = search in
-    rw (c.before.of-lines.ensures, line_words_lem entry.args.book.version) (
-      omega (arith, entry.pre.0.good.whole),
-      simp (length-take, length-drop) (omega (arith, back.file.given.1, again.file2.given.1, size entry, entry.pre.1.1.1)),
+    let back : tie.After-file-1 = search in
+    let again : tie.After-file-2-1 = search in
+    rw (c.of_lines.ensures, line_words_lem entry.args.book.version) (
+      omega (arith, entry.requires.0.good.whole),
+      simp (length-take, length-drop) (omega (arith, back.file-1.given.1, again.file-2-1.given.1, size entry, entry.requires.1.1.1)),
     )
 
 returns : tie.Need-returns
@@ -47,18 +47,18 @@ returns c =
     let entry : tie.Start = search in
     let k = entry.args.book in
     let bytes = entry.args.bytes in
-    let head : tie.After-write-head = search in
-    let held : tie.After-write-entries = search in
-    let lines : tie.After-write-entries2 = search in
-    let kind : tie.After-of-lines = search in
+    let head : tie.After-write_head = search in
+    let held : tie.After-write_entries = search in
+    let lines : tie.After-write_entries-2 = search in
+    let kind : tie.After-of_lines = search in
     let h = entry.args.held.now in
     let l = entry.args.lines.now in
-    let p₁ = then_part (none_poured entry.args.file.now) _ (head_bytes k) 13 (omega arith) head.write-head.ensures
+    let p₁ = then_part (none_poured entry.args.file.now) _ (head_bytes k) 13 (omega arith) head.write_head.ensures
     (head_length k) in
     let p₂ = then_part p₁ _ (written Held h k.held) (13 + k.held * 10) (omega arith) held.write_entries.ensures
     (written_length Held h k.held ∙ omega arith) in
     let p₃ = then_part p₂ _ (written (line_kind k.version) l k.lines) bytes (omega (arith, size entry))
-    (rw kind.of-lines.ensures at lines.write-entries2.ensures)
+    (rw kind.of_lines.ensures at lines.write_entries-2.ensures)
     (written_length (line_kind k.version) l k.lines ∙ omega (arith, size entry)) in
     p₃.is
 
@@ -66,20 +66,20 @@ pub fill_spec : {M : Type 1} → statement M
 fill_spec =
     tie.close
     (tie.spec
-    (λ c. let entry : tie.Start = search in omega (arith, entry.pre.1.0.few))  -- mul-lines-at
-    (λ c. let entry : tie.Start = search in omega (arith, entry.pre.1.0.few))  -- add-lines-at
-    (λ c. search rules)  -- sub-write-head
-    (λ c. search rules)  -- part-write-head-start
-    (λ c. let entry : tie.Start = search in omega (arith, size entry, entry.pre.1.1.1))  -- part-write-head-end
+    (λ c. let entry : tie.Start = search in omega (arith, entry.requires.1.0.few))  -- overflow_mul-lines_at
+    (λ c. let entry : tie.Start = search in omega (arith, entry.requires.1.0.few))  -- overflow_add-lines_at
+    (λ c. search rules)  -- slice_bounds-write_head-count
+    (λ c. search rules)  -- slice_bounds-write_head-start
+    (λ c. let entry : tie.Start = search in omega (arith, size entry, entry.requires.1.1.1))  -- slice_bounds-write_head-end
     write-head-requires
-    (λ c. search rules)  -- sub-write-entries
-    (λ c. search rules)  -- part-write-entries-start
-    (λ c. let entry : tie.Start = search in omega (arith, size entry, entry.pre.1.1.1))  -- part-write-entries-end
+    (λ c. search rules)  -- slice_bounds-write_entries-count
+    (λ c. search rules)  -- slice_bounds-write_entries-start
+    (λ c. let entry : tie.Start = search in omega (arith, size entry, entry.requires.1.1.1))  -- slice_bounds-write_entries-end
     write-entries-requires
-    (λ c κs. let entry : tie.Start = search in omega (arith, entry.pre.0.known_version))  -- of-lines-requires
-    (λ c. let entry : tie.Start = search in omega (arith, size entry))  -- sub-write-entries-2
-    (λ c. let entry : tie.Start = search in omega (arith, size entry))  -- part-write-entries-start-2
-    (λ c. let entry : tie.Start = search in omega (arith, size entry, entry.pre.1.1.1))  -- part-write-entries-end-2
+    (λ c κs. let entry : tie.Start = search in omega (arith, entry.requires.0.known_version))  -- of_lines-requires
+    (λ c. let entry : tie.Start = search in omega (arith, size entry))  -- slice_bounds-write_entries-count-2
+    (λ c. let entry : tie.Start = search in omega (arith, size entry))  -- slice_bounds-write_entries-start-2
+    (λ c. let entry : tie.Start = search in omega (arith, size entry, entry.requires.1.1.1))  -- slice_bounds-write_entries-end-2
     write-entries-requires-2
-    (λ c. search rules)  -- same-length
+    (λ c. search rules)  -- shape_of-file
     returns)

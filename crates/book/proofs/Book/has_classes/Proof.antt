@@ -6,5 +6,5 @@ use Rattle.book.proofs.Book.has_classes.Tie as tie
 returns : tie.Need-returns
 returns c = c.same.ensures ∙ search rules
 
-pub has-classes-spec : {M : Type 1} → statement M
-has-classes-spec = tie.close (tie.spec (λ c κs. search rules) returns)
+pub has_classes_spec : {M : Type 1} → statement M
+has_classes_spec = tie.close (tie.spec (λ c κs. search rules) returns)

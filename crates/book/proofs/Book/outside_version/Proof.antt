@@ -8,5 +8,5 @@ returns : tie.Need-returns
 unfolding version_out
 returns c = c.outside.ensures ∙ search rules
 
-pub outside-version-spec : {M : Type 1} → statement M
-outside-version-spec = tie.close (tie.spec (λ c κs. search rules) returns)
+pub outside_version_spec : {M : Type 1} → statement M
+outside_version_spec = tie.close (tie.spec (λ c κs. search rules) returns)

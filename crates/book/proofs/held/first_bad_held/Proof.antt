@@ -12,10 +12,10 @@ use Rattle.book.proofs.Made.{entry_made, no_entry}
 use Rattle.book.proofs.held.first_bad_held.Statement.{statement}
 use Rattle.book.proofs.held.first_bad_held.Tie as tie
 
-abbrev invariant-loop : tie.invariant-loop
+abbrev invariant-loop : tie.invariant-loop-j
 invariant-loop held b n i at mark j₀ j = (j ≤ i) × (held_before held (mark_at held i) j ≡ false)
 
-abbrev decreases-loop : tie.decreases-loop
+abbrev decreases-loop : tie.decreases-loop-j
 decreases-loop held b n i at mark j₀ j = i - j
 
 abbrev invariant-scan : tie.invariant-scan
@@ -25,100 +25,101 @@ abbrev decreases-scan : tie.decreases-scan
 decreases-scan held b n i₀ i = n - i
 
 -- what the constructor answered of the entry at place i
-made : (c : tie.After-new invariant-loop decreases-loop invariant-scan decreases-scan)
-    → (let at : tie.At-scan invariant-loop decreases-loop invariant-scan decreases-scan = search in let g = at.before.args in
-    c.new.result ≡ held_entry_of (to_z w64 (of_z w64 g.b)) (mark_at g.held.now at.scan.i) (height_at g.held.now at.scan.i))
-made c = c.new.ensures ∙ search rules
+made : (c : tie.After-new-made invariant-loop decreases-loop invariant-scan decreases-scan)
+    → (let at : tie.At-scan invariant-loop decreases-loop invariant-scan decreases-scan = search in let g = at.args in
+    c.new-made.result ≡ held_entry_of (to_z w64 (of_z w64 g.b)) (mark_at g.held.now at.scan.i) (height_at g.held.now at.scan.i))
+made c = c.new-made.ensures ∙ search rules
 
 -- an entry that was made is not outside, and has the mark of the list
-good : (c : tie.After-made invariant-loop decreases-loop invariant-scan decreases-scan)
-    → (let at : tie.At-scan invariant-loop decreases-loop invariant-scan decreases-scan = search in let g = at.before.args in
+good : (c : tie.In-Good invariant-loop decreases-loop invariant-scan decreases-scan)
+    → (let at : tie.At-scan invariant-loop decreases-loop invariant-scan decreases-scan = search in let g = at.args in
     (held_out (to_z w64 (of_z w64 g.b)) (mark_at g.held.now at.scan.i) (height_at g.held.now at.scan.i) ≡ false)
-    × (c.made.given.0.0.mark ≡ mark_at g.held.now at.scan.i))
-good c = entry_made _ _ _ _ (made c.before.before) _ c.made.given.1
+    × (c.in-Good.entry.mark ≡ mark_at g.held.now at.scan.i))
+good c = entry_made _ _ _ _ (made c.before) _ c.in-Good.is
 
 -- the marks that are compared are those of the entries at places j and i
 held-flag : (c : tie.After-same invariant-loop decreases-loop invariant-scan decreases-scan)
-    → (let l : tie.At-loop invariant-loop decreases-loop invariant-scan decreases-scan = search in let at : tie.At-scan invariant-loop decreases-loop invariant-scan decreases-scan = search in
-    let g = at.before.args in
-    c.same.result ≡ eq_z (mark_at g.held.now l.loop.j) (mark_at g.held.now at.scan.i))
+    → (let l : tie.At-loop-j invariant-loop decreases-loop invariant-scan decreases-scan = search in
+    let at : tie.At-scan invariant-loop decreases-loop invariant-scan decreases-scan = search in
+    let g = at.args in
+    c.same.result ≡ eq_z (mark_at g.held.now l.loop-j.j) (mark_at g.held.now at.scan.i))
 held-flag c =
-    let known : tie.After-made invariant-loop decreases-loop invariant-scan decreases-scan = search in
+    let known : tie.In-Good invariant-loop decreases-loop invariant-scan decreases-scan = search in
     rw (← (good known).1) (c.same.ensures ∙ search rules)
 
-loop-holds : tie.Need-loop-init invariant-loop decreases-loop invariant-scan decreases-scan
+loop-holds : tie.Need-loop-j-init invariant-loop decreases-loop invariant-scan decreases-scan
 unfolding held_before
 loop-holds c =
     let at : tie.At-scan invariant-loop decreases-loop invariant-scan decreases-scan = search in
-    (omega arith, any_none (λ j. eq_z (mark_at at.before.args.held.now j) (mark_at at.before.args.held.now at.scan.i)))
+    (omega arith, any_none (λ j. eq_z (mark_at at.args.held.now j) (mark_at at.args.held.now at.scan.i)))
 
-loop-again : tie.Need-loop-preserved invariant-loop decreases-loop invariant-scan decreases-scan
+loop-again : tie.Need-loop-j-preserved invariant-loop decreases-loop invariant-scan decreases-scan
 unfolding held_before
 loop-again c =
-    let l : tie.At-loop invariant-loop decreases-loop invariant-scan decreases-scan = search in
-    (omega arith, any_next _ l.loop.j l.loop.inv.1 (sym (held-flag c.before) ∙ c.if2.false))
+    let l : tie.At-loop-j invariant-loop decreases-loop invariant-scan decreases-scan = search in
+    (omega arith, any_next _ l.loop-j.j l.loop-j.invariant.1 (sym (held-flag c.before) ∙ c.if-same.false))
 
 scan-again : tie.Need-scan-preserved invariant-loop decreases-loop invariant-scan decreases-scan
 unfolding held_bad
 scan-again c =
-    let known : tie.After-made invariant-loop decreases-loop invariant-scan decreases-scan = search in
+    let known : tie.In-Good invariant-loop decreases-loop invariant-scan decreases-scan = search in
     let at : tie.At-scan invariant-loop decreases-loop invariant-scan decreases-scan = search in
-    let e : c.before.loop.j ≡ at.scan.i = omega arith in
-    scan_next _ _ at.scan.i (omega arith) (rw (good known).0 (rw e at c.before.loop.invariant.1)) at.scan.inv
+    let e : c.loop-j.j ≡ at.scan.i = omega arith in
+    scan_next _ _ at.scan.i (omega arith) (rw (good known).0 (rw e at c.loop-j.invariant.1)) at.scan.invariant
 
-returns : tie.Need-returns invariant-loop decreases-loop invariant-scan decreases-scan
+returns : tie.Need-returns-then-n-i invariant-loop decreases-loop invariant-scan decreases-scan
 unfolding first_bad_held
-returns c = scan_end _ _ c.before.scan.i c.if1.true c.before.scan.invariant ∙ search rules
+returns c = scan_end _ _ c.scan.i c.if-n-i.true c.scan.invariant ∙ search rules
 
-returns-2 : tie.Need-returns-2 invariant-loop decreases-loop invariant-scan decreases-scan
+returns-2 : tie.Need-returns-in_default invariant-loop decreases-loop invariant-scan decreases-scan
 unfolding first_bad_held held_bad
 returns-2 c =
     let at : tie.At-scan invariant-loop decreases-loop invariant-scan decreases-scan = search in
-    scan_stop _ _ at.scan.i (omega arith) (rw (no_entry _ _ _ _ (made c.before.before) _ c.enum_told.given.1))
-    at.scan.inv ∙ search rules
+    scan_stop _ _ at.scan.i (omega arith) (rw (no_entry _ _ _ _ (made c.before) _ c.in_default.is))
+    at.scan.invariant ∙ search rules
 
-returns-3 : tie.Need-returns-3 invariant-loop decreases-loop invariant-scan decreases-scan
+returns-3 : tie.Need-returns-then-same invariant-loop decreases-loop invariant-scan decreases-scan
 unfolding first_bad_held held_bad held_before
 returns-3 c =
-    let known : tie.After-made invariant-loop decreases-loop invariant-scan decreases-scan = search in
+    let known : tie.In-Good invariant-loop decreases-loop invariant-scan decreases-scan = search in
     let at : tie.At-scan invariant-loop decreases-loop invariant-scan decreases-scan = search in
     let in-loop = c.before.before.before in
     let f =
-    any_found _ at.scan.i in-loop.before.loop.j in-loop.loop-test.true (sym (held-flag c.before) ∙ c.if2.true) in
-    scan_stop _ _ at.scan.i (omega arith) (rw (good known).0 f) at.scan.inv ∙ search rules
+    any_found _ at.scan.i in-loop.loop-j.j in-loop.loop-j-test.true (sym (held-flag c.before) ∙ c.if-same.true) in
+    scan_stop _ _ at.scan.i (omega arith) (rw (good known).0 f) at.scan.invariant ∙ search rules
 
-pub first-bad-held-spec : {M : Type 1} → statement M
-first-bad-held-spec =
+pub first_bad_held_spec : {M : Type 1} → statement M
+first_bad_held_spec =
     tie.close
     (tie.spec
     invariant-loop
     decreases-loop
     invariant-scan
     decreases-scan
-    (λ c. scan_start _ _)  -- scan-holds
-    (λ c. search rules)  -- mul-at
-    (λ c. search rules)  -- add-new
-    (λ c. search rules)  -- mul-new
-    (λ c. search rules)  -- shared-slice-copy-out-new
-    (λ c. search rules)  -- add-new-2
-    (λ c. search rules)  -- mul-new-2
-    (λ c. search rules)  -- shared-slice-copy-out-new-2
-    (λ c κs. search rules)  -- new-requires
-    (λ c. search rules)  -- enum-known-made
-    (λ c. search rules)  -- enum_told
-    (λ c. search rules)  -- add-result
+    (λ c. scan_start _ _)  -- scan-init
+    (λ c. search rules)  -- overflow_mul-at
+    (λ c. search rules)  -- overflow_add-at
+    (λ c. search rules)  -- offset_bounds-held-at
+    (λ c. search rules)  -- bounds-held-at
+    (λ c. search rules)  -- overflow_add-at-in-scan
+    (λ c. search rules)  -- offset_bounds-held-at-in-scan
+    (λ c. search rules)  -- bounds-held-at-in-scan
+    (λ c κs. search rules)  -- new-made-requires
+    (λ c. search rules)  -- enum_known-made
+    (λ c. search rules)  -- enum_told-1
+    (λ c. search rules)  -- overflow_add-result
     loop-holds
-    (λ c. search rules)  -- mul-same
-    (λ c. search rules)  -- add-same
-    (λ c. search rules)  -- mul-same-2
-    (λ c. search rules)  -- shared-slice-copy-out-same
+    (λ c. search rules)  -- overflow_mul-j
+    (λ c. search rules)  -- overflow_add-j
+    (λ c. search rules)  -- offset_bounds-held-j
+    (λ c. search rules)  -- bounds-held-j
     (λ c κs. search rules)  -- same-requires
-    (λ c. search rules)  -- add-result-2
-    (λ c. search rules)  -- add-j
-    (λ c. search rules)  -- loop-less
+    (λ c. search rules)  -- overflow_add-result-then-same
+    (λ c. search rules)  -- overflow_add-j-in-loop-j
+    (λ c. search rules)  -- loop-j-smaller
     loop-again
-    (λ c. search rules)  -- add-i
-    (λ c. search rules)  -- scan-less
+    (λ c. search rules)  -- overflow_add-i
+    (λ c. search rules)  -- scan-smaller
     scan-again
     returns
     returns-2

@@ -8,14 +8,14 @@ returns : tie.Need-returns
 unfolding entry_of
 returns c = c.new.ensures ∙ search rules
 
-pub line-of-spec : {M : Type 1} → statement M
-line-of-spec =
+pub line_of_spec : {M : Type 1} → statement M
+line_of_spec =
     tie.close
     (tie.spec
-    (λ c. search rules)  -- shared-slice-copy-out-new
-    (λ c. search rules)  -- shared-slice-copy-out-new-2
-    (λ c. search rules)  -- shared-slice-copy-out-new-3
-    (λ c. search rules)  -- shared-slice-copy-out-new-4
-    (λ c. search rules)  -- shared-slice-copy-out-new-5
+    (λ c. search rules)  -- bounds-e-0
+    (λ c. search rules)  -- bounds-e-1
+    (λ c. search rules)  -- bounds-e-2
+    (λ c. search rules)  -- bounds-e-3
+    (λ c. search rules)  -- bounds-e-4
     (λ c κs. search rules)  -- new-requires
     returns)

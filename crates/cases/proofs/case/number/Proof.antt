@@ -5,13 +5,13 @@ use Rattle.cases.specs.Case.{number_of}
 use Rattle.cases.proofs.case.number.Statement.{statement}
 use Rattle.cases.proofs.case.number.Tie as tie
 
-returns : tie.Need-returns
+returns : tie.Need-returns-then-case-at
 unfolding number_of
-returns c = (rw (lt-ltb _ _ c.if1.true), omega arith)
+returns c = (rw (lt-ltb _ _ c.if-case-at.true), omega arith)
 
-returns-2 : tie.Need-returns-2
+returns-2 : tie.Need-returns
 unfolding number_of
-returns-2 c = (rw (le-ltb _ _ c.before.if1.false) c.two.ensures.0, c.two.ensures.1)
+returns-2 c = (rw (le-ltb _ _ c.if-case-at.false) c.two.ensures.0, c.two.ensures.1)
 
-pub number-spec : {M : Type 1} → statement M
-number-spec = tie.close (tie.spec (λ c. search rules) (λ c. search rules) (λ c. search rules) returns (λ c κs. search rules) returns-2)
+pub number_spec : {M : Type 1} → statement M
+number_spec = tie.close (tie.spec (λ c. search rules) (λ c. search rules) (λ c. search rules) returns (λ c κs. search rules) returns-2)

@@ -16,19 +16,19 @@ returns c =
     let c₃ = c.before in
     let c₂ = c₃.before in
     let c₁ = c₂.before in
-    let e₀ = stored c₂.plain.result c₂.plain.type-inv (c₂.plain.ensures ∙ ap pos c₁.be2.ensures.0) in
-    let e₁ = stored c.signed8.result c.signed8.type-inv (c.signed8.ensures ∙ ap (to_z w64) c₃.be8.ensures) in
-    rw (e₀, e₁) (filled (_ ∷ _ ∷ []) c₁.before.before.args.out.now c₁.before.before.requires.1)
+    let e₀ = stored c₂.plain-mark.result c₂.plain-mark.type_inv (c₂.plain-mark.ensures ∙ ap pos c₁.be2.ensures.0) in
+    let e₁ = stored c.signed8-height.result c.signed8-height.type_inv (c.signed8-height.ensures ∙ ap (to_z w64) c₃.be8.ensures) in
+    rw (e₀, e₁) (filled (_ ∷ _ ∷ []) c₁.args.out.now c₁.requires.1)
 
-pub read-held-spec : {M : Type 1} → statement M
-read-held-spec =
+pub read_held_spec : {M : Type 1} → statement M
+read_held_spec =
     tie.close
     (tie.spec
     (λ c κs. search rules)  -- be2-requires
-    (λ c κs. search rules)  -- plain-requires
+    (λ c κs. search rules)  -- plain-mark-requires
     (λ c κs. search rules)  -- be8-requires
-    (λ c κs. search rules)  -- signed8-requires
-    (λ c. search rules)  -- slice-set-from-mark
-    (λ c. search rules)  -- slice-set-from-height
-    (λ c. search rules)  -- same-length
+    (λ c κs. search rules)  -- signed8-height-requires
+    (λ c. search rules)  -- bounds-out-0
+    (λ c. search rules)  -- bounds-out-1
+    (λ c. search rules)  -- shape_of-out
     returns)

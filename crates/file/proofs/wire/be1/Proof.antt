@@ -9,10 +9,10 @@ returns : tie.Need-returns
 unfolding be
 returns c = (rw add-zero (omega arith), omega arith)
 
-pub be1-spec : {M : Type 1} → statement M
-be1-spec =
+pub be1_spec : {M : Type 1} → statement M
+be1_spec =
     tie.close
     (tie.spec
-    (λ c. search rules)  -- shared-slice-read-wide
+    (λ c. search rules)  -- bounds-s-a
     (λ c κs. search rules)  -- wide-requires
     returns)

@@ -9,15 +9,15 @@ returns : tie.Need-returns
 unfolding be
 returns c = (rw add-zero (omega arith), omega arith)
 
-pub be2-spec : {M : Type 1} → statement M
-be2-spec =
+pub be2_spec : {M : Type 1} → statement M
+be2_spec =
     tie.close
     (tie.spec
-    (λ c. search rules)  -- shared-slice-read-wide
+    (λ c. search rules)  -- bounds-s-a
     (λ c κs. search rules)  -- wide-requires
-    (λ c. search rules)  -- mul-result
-    (λ c. search rules)  -- add-wide
-    (λ c. search rules)  -- shared-slice-read-wide-2
+    (λ c. search rules)  -- overflow_mul-result
+    (λ c. search rules)  -- overflow_add-a
+    (λ c. search rules)  -- bounds-s-a-2
     (λ c κs. search rules)  -- wide-requires-2
-    (λ c. search rules)  -- add-result
+    (λ c. search rules)  -- overflow_add-result
     returns)

@@ -8,5 +8,5 @@ use Rattle.file.proofs.wire.plain.Tie as tie
 returns : tie.Need-returns
 returns c = to_z_pos w64 (omega arith)
 
-pub plain-spec : {M : Type 1} → statement M
-plain-spec = tie.close (tie.spec (λ c. search rules) returns)
+pub plain_spec : {M : Type 1} → statement M
+plain_spec = tie.close (tie.spec (λ c. search rules) returns)

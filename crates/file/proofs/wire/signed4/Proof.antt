@@ -9,23 +9,24 @@ use borrow.Author.Rules.{rules}
 use Rattle.file.proofs.wire.signed4.Statement.{statement}
 use Rattle.file.proofs.wire.signed4.Tie as tie
 
-sub-result : tie.Need-overflow-sub-result
+sub-result : tie.Need-overflow_sub-result
 sub-result c =
-    let x = c.before.args.x in
+    let x = c.args.x in
     let e : to_z w64 x ≡ pos x = to_z_pos w64 (omega arith) in
-    rw (e, drop32 x c.before.requires) (record { sfits = omega arith })
+    rw (e, drop32 x c.requires) (record { sfits = omega arith })
 
-returns : tie.Need-returns
-returns c = to_z_pos w64 (omega arith) ∙ sym (to_z_pos w32 c.if1.true)
-
-returns-2 : tie.Need-returns-2
-returns-2 c =
-    let x = c.before.args.x in
+pub signed4_spec : {M : Type 1} → statement M
+signed4_spec =
+    tie.close
+    (tie.spec
+    (λ c. search rules)  -- overflow_cast-result
+    (λ c. search rules)  -- overflow_cast-result-else-x-lt2147483648
+    sub-result
+    (λ c. to_z_pos w64 (omega arith) ∙ sym (to_z_pos w32 (omega arith)))  -- returns, where x stays
+    (λ c.
+    let x = c.args.x in
     let e : to_z w64 x ≡ pos x = to_z_pos w64 (omega arith) in
     to_z-of_z (sub-result c)
     ∙ ap (λ (z : ℤ). z -ℤ pos 4294967296) e
-    ∙ drop32 c.before.args.x c.before.requires
-    ∙ sym (high32 c.before.args.x c.if1.false)
-
-pub signed4-spec : {M : Type 1} → statement M
-signed4-spec = tie.close (tie.spec (λ c. search rules) (λ c. search rules) sub-result returns returns-2)
+    ∙ drop32 x c.requires
+    ∙ sym (high32 x (omega arith))))  -- returns, where it is negative

@@ -10,16 +10,16 @@ use borrow.Author.Rules.{rules}
 use Rattle.file.proofs.wire.signed8.Statement.{statement}
 use Rattle.file.proofs.wire.signed8.Tie as tie
 
-sub-result-2 : tie.Need-overflow-sub-result-2
+sub-result-2 : tie.Need-overflow_sub-result-else-x-lt9223372036854775808
 sub-result-2 c =
-    let x = c.before.args.x in
+    let x = c.args.x in
     let m = 18446744073709551615 - x in
     let e : to_z w64 m ≡ pos m = to_z_pos w64 (omega arith) in
     rw (e, minus_one_less m) (record { sfits = omega arith })
 
-returns-2 : tie.Need-returns-2
+returns-2 : tie.Need-returns-else-x-lt9223372036854775808
 returns-2 c =
-    let x = c.before.args.x in
+    let x = c.args.x in
     let m = 18446744073709551615 - x in
     let e : m ≡ 18446744073709551616 - suc x = omega arith in
     let f : to_z w64 m ≡ pos m = to_z_pos w64 (omega arith) in
@@ -27,8 +27,8 @@ returns-2 c =
     ∙ ap (λ (z : ℤ). negsuc 0 -ℤ z) f
     ∙ minus_one_less m
     ∙ ap negsuc e
-    ∙ sym (high64 x c.if1.false)
+    ∙ sym (high64 x c.if-x-lt9223372036854775808.false)
 
-pub signed8-spec : {M : Type 1} → statement M
-signed8-spec =
+pub signed8_spec : {M : Type 1} → statement M
+signed8_spec =
     tie.close (tie.spec (λ c. search rules) (λ c. search rules) (λ c. search rules) sub-result-2 (λ c. search rules) returns-2)

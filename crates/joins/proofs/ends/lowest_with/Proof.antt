@@ -12,24 +12,24 @@ use Rattle.joins.proofs.ends.lowest_with.Tie as tie
 abbrev has_them : List ℕ → ℕ → ℕ → Bool
 has_them ends k i = eqb (get_or ends i 0) k
 
-abbrev invariant-loop : tie.invariant-loop
+abbrev invariant-loop : tie.invariant-loop-i
 invariant-loop ends k i₀ i = (i ≤ length ends) × Scanned (has_them ends k) (length ends) i
 
-abbrev decreases-loop : tie.decreases-loop
+abbrev decreases-loop : tie.decreases-loop-i
 decreases-loop ends k i₀ i = length ends - i
 
-pub lowest-with-spec : {M : Type 1} → statement M
-lowest-with-spec =
+pub lowest_with_spec : {M : Type 1} → statement M
+lowest_with_spec =
     tie.close
     (tie.spec
     invariant-loop
     decreases-loop
-    (λ c. (omega arith, scan_start (has_them c.args.ends.now c.args.k) (length c.args.ends.now)))  -- loop-holds
-    (λ c. omega arith)  -- mul-if1
-    (λ c. omega arith)  -- shared-slice-read-if1
-    (λ c. omega arith)  -- add-result
-    (λ c. scan_stop _ _ _ (omega arith) (eq-eqb _ _ c.if1.true) c.before.before.before.loop.invariant.1)  -- returns
-    (λ c. omega arith)  -- add-i
-    (λ c. omega arith)  -- loop-less
-    (λ c. (omega arith, scan_next _ _ _ (omega arith) (ne_eqb _ _ c.if1.false) c.before.before.before.loop.invariant.1))  -- loop-again
-    (λ c. scan_end _ _ _ c.loop-test.false c.before.loop.invariant.1))  -- returns-2
+    (λ c. (omega arith, scan_start (has_them c.args.ends.now c.args.k) (length c.args.ends.now)))  -- loop-i-init
+    (λ c. omega arith)  -- offset_bounds-ends-i
+    (λ c. omega arith)  -- bounds-ends-i
+    (λ c. omega arith)  -- overflow_add-result
+    (λ c. scan_stop _ _ _ (omega arith) (eq-eqb _ _ c.if-ends-i.true) c.loop-i.invariant.1)  -- returns-then-ends-i
+    (λ c. omega arith)  -- overflow_add-i
+    (λ c. omega arith)  -- loop-i-smaller
+    (λ c. (omega arith, scan_next _ _ _ (omega arith) (ne_eqb _ _ c.if-ends-i.false) c.loop-i.invariant.1))  -- loop-i-preserved
+    (λ c. scan_end _ _ _ c.loop-i-test.false c.loop-i.invariant.1))  -- returns

@@ -6,32 +6,32 @@ use Rattle.joins.proofs.Moves.{last_at, turns_it, lets_it}
 use Rattle.joins.proofs.link.read_to.Statement.{statement}
 use Rattle.joins.proofs.link.read_to.Tie as tie
 
-returns : tie.Need-returns
+returns : tie.Need-returns-then-last-m
 returns c =
     let after_turn : tie.After-turn = search in
-    let then1 : tie.Then1 = search in
+    let then1 : tie.Then-last-m = search in
     let after_last : tie.After-last = search in
     let entry : tie.Start = search in
     turns_it (λ x. eqb x.last entry.args.m) _ _ _
-    (λ before x after e h. ne_eqb _ _ (λ z. then1.if1.taken (after_last.last.ensures ∙ last_at before x after _ _ _ e h ∙ z)))
+    (λ before x after e h. ne_eqb _ _ (λ z. then1.if-last-m.true (after_last.last.ensures ∙ last_at before x after _ _ _ e h ∙ z)))
     _ _ after_turn.turn.ensures
 
-returns-2 : tie.Need-returns-2
+returns-2 : tie.Need-returns-else-last-m
 returns-2 c =
     let after_last : tie.After-last = search in
     let entry : tie.Start = search in
     lets_it (λ x. eqb x.last entry.args.m) _ _ _
-    (λ before x after e h. eq-eqb _ _ (sym (after_last.last.ensures ∙ last_at before x after _ _ _ e h) ∙ c.if1.false))
+    (λ before x after e h. eq-eqb _ _ (sym (after_last.last.ensures ∙ last_at before x after _ _ _ e h) ∙ c.if-last-m.false))
 
-pub read-to-spec : {M : Type 1} → statement M
-read-to-spec =
+pub read_to_spec : {M : Type 1} → statement M
+read_to_spec =
     tie.close
     (tie.spec
-    (λ c. search rules)  -- mul-last
-    (λ c. search rules)  -- slice-read-last
+    (λ c. search rules)  -- offset_bounds-rows-i
+    (λ c. search rules)  -- bounds-rows-i
     (λ c κs. search rules)  -- last-requires
     (λ c κs. search rules)  -- turn-requires
-    (λ c. search rules)  -- same-length
-    (λ c. search rules)  -- same-length-2
+    (λ c. search rules)  -- shape_of-rows
+    (λ c. search rules)  -- shape_of-runs
     returns
     returns-2)

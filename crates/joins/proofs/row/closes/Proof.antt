@@ -5,7 +5,7 @@ use Rattle.joins.proofs.row.closes.Tie as tie
 
 returns : tie.Need-returns
 unfolding row_closes
-returns c = rw (c.before.first.ensures, c.last.ensures)
+returns c = rw (c.first.ensures, c.last.ensures)
 
-pub closes-spec : {M : Type 1} → statement M
-closes-spec = tie.close (tie.spec (λ c κs. search rules) (λ c κs. search rules) returns)
+pub closes_spec : {M : Type 1} → statement M
+closes_spec = tie.close (tie.spec (λ c κs. search rules) (λ c κs. search rules) returns)

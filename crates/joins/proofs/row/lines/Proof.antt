@@ -7,33 +7,33 @@ use Rattle.joins.proofs.Sums.{lines_next, lines_end}
 use Rattle.joins.proofs.row.lines.Statement.{statement}
 use Rattle.joins.proofs.row.lines.Tie as tie
 
-abbrev invariant-loop : tie.invariant-loop
+abbrev invariant-loop : tie.invariant-loop-i
 invariant-loop rows sum₀ i₀ sum i = (i ≤ length rows) × (sum + row_lines (drop i rows) ≡ row_lines rows) × (sum ≤ i * row_limit)
 
-abbrev decreases-loop : tie.decreases-loop
+abbrev decreases-loop : tie.decreases-loop-i
 decreases-loop rows sum₀ i₀ sum i = length rows - i
 
-loop-again : tie.Need-loop-preserved invariant-loop decreases-loop
+loop-again : tie.Need-loop-i-preserved invariant-loop decreases-loop
 loop-again c =
-    let at-loop : tie.At-loop invariant-loop decreases-loop = search in
-    let r = c.count.ensures in (
+    let at-loop : tie.At-loop-i invariant-loop decreases-loop = search in
+    let r = c.count-sum.ensures in (
       omega arith,
-      rw r (lines_next _ _ _ (omega arith) at-loop.loop.inv.1),
-      omega (arith, r, at-loop.loop.inv),
+      rw r (lines_next _ _ _ (omega arith) at-loop.loop-i.invariant.1),
+      omega (arith, r, at-loop.loop-i.invariant),
     )
 
-pub lines-spec : {M : Type 1} → statement M
-lines-spec =
+pub lines_spec : {M : Type 1} → statement M
+lines_spec =
     tie.close
     (tie.spec
     invariant-loop
     decreases-loop
-    (λ c. (omega arith, omega arith, omega arith))  -- loop-holds
-    (λ c. omega arith)  -- mul-count
-    (λ c. omega arith)  -- shared-slice-read-count
-    (λ c κs. tt)  -- count-requires
-    (λ c. omega (arith, c))  -- add-sum
-    (λ c. omega arith)  -- add-i
-    (λ c. omega arith)  -- loop-less
+    (λ c. (omega arith, omega arith, omega arith))  -- loop-i-init
+    (λ c. omega arith)  -- offset_bounds-rows-i
+    (λ c. omega arith)  -- bounds-rows-i
+    (λ c κs. tt)  -- count-sum-requires
+    (λ c. omega (arith, c))  -- overflow_add-sum
+    (λ c. omega arith)  -- overflow_add-i
+    (λ c. omega arith)  -- loop-i-smaller
     loop-again
-    (λ c. lines_end _ _ c.before.loop.i (omega arith) c.before.loop.invariant.1))  -- returns
+    (λ c. lines_end _ _ c.loop-i.i (omega arith) c.loop-i.invariant.1))  -- returns

@@ -7,25 +7,25 @@ use Rattle.joins.proofs.run.begin_at.Tie as tie
 
 returns : tie.Need-returns
 returns c =
-    let after-third : tie.After-turn3 = search in
-    let after-second : tie.After-turn2 = search in
+    let after-third : tie.After-turn-3 = search in
+    let after-second : tie.After-turn-2 = search in
     let after_first : tie.After-turn = search in
     let entry : tie.Start = search in
-    parts_turned entry.args.run.now entry.args.k entry.pre
-    _ after_first.turn.ensures _ after-second.turn2.ensures _ after-third.turn3.ensures
+    parts_turned entry.args.run.now entry.args.k entry.requires
+    _ after_first.turn.ensures _ after-second.turn-2.ensures _ after-third.turn-3.ensures
 
-pub begin-at-spec : {M : Type 1} → statement M
-begin-at-spec =
+pub begin_at_spec : {M : Type 1} → statement M
+begin_at_spec =
     tie.close
     (tie.spec
-    (λ c. search rules)  -- slice-relend-prefix-turn
-    (λ c. sym (length-take-le _ _ c.before.before.requires))  -- slice-aggregate-turn
+    (λ c. search rules)  -- slice_bounds-turn-end
+    (λ c. sym (length-take-le _ _ c.requires))  -- slice_bounds-turn-end-2
     (λ c κs. search rules)  -- turn-requires
-    (λ c. search rules)  -- mul-turn
-    (λ c. search rules)  -- sub-turn
-    (λ c. search rules)  -- part-turn-start
-    (λ c. search rules)  -- part-turn-end
+    (λ c. search rules)  -- offset_bounds-run-k
+    (λ c. search rules)  -- slice_bounds-turn-count
+    (λ c. search rules)  -- slice_bounds-turn-start
+    (λ c. search rules)  -- slice_bounds-turn-end-3
     (λ c κs. search rules)  -- turn-requires-2
     (λ c κs. search rules)  -- turn-requires-3
-    (λ c. search rules)  -- same-length
+    (λ c. search rules)  -- shape_of-run
     returns)

@@ -3,34 +3,35 @@ use Rattle.joins.proofs.Begun.{begun_forward, begun_back}
 use Rattle.joins.proofs.run.begin_lowest.Statement.{statement}
 use Rattle.joins.proofs.run.begin_lowest.Tie as tie
 
-returns : tie.Need-returns
+returns : tie.Need-returns-then-run-k-eq0
 returns c = λ w e.
-    let after-lowest : tie.After-lowest = search in
-    let then1 : tie.Then1 = search in
-    let after-begin : tie.After-begin-at = search in
-    begun_forward after-lowest.lowest.ensures w e then1.if1.taken _ after-begin.begin_at.ensures
+    let after-lowest : tie.After-lowest-k = search in
+    let then1 : tie.Then-run-k-eq0 = search in
+    let after-begin : tie.After-begin_at = search in
+    begun_forward after-lowest.lowest-k.ensures w e then1.if-run-k-eq0.true _ after-begin.begin_at.ensures
 
-returns-2 : tie.Need-returns-2
+returns-2 : tie.Need-returns-else-run-k-eq0
 returns-2 c = λ w e.
-    let after-lowest : tie.After-lowest = search in
-    let else1 : tie.Else1 = search in
+    let after-lowest : tie.After-lowest-k = search in
+    let else1 : tie.Else-run-k-eq0 = search in
     let after_turn : tie.After-turn = search in
-    let after-begin : tie.After-begin-at2 = search in
-    begun_back after-lowest.lowest.ensures w e else1.if1.left _ after_turn.turn.ensures _ after-begin.begin-at2.ensures
+    let after-begin : tie.After-begin_at-else-run-k-eq0 = search in
+    begun_back after-lowest.lowest-k.ensures w e else1.if-run-k-eq0.false _ after_turn.turn.ensures _
+    after-begin.begin_at-else-run-k-eq0.ensures
 
-pub begin-lowest-spec : {M : Type 1} → statement M
-begin-lowest-spec =
+pub begin_lowest_spec : {M : Type 1} → statement M
+begin_lowest_spec =
     tie.close
     (tie.spec
-    (λ c κs. search rules)  -- lowest-requires
-    (λ c. search rules)  -- mul-if1
-    (λ c. search rules)  -- slice-read-if1
-    (λ c κs. search rules)  -- begin-at-requires
+    (λ c κs. search rules)  -- lowest-k-requires
+    (λ c. search rules)  -- offset_bounds-run-k
+    (λ c. search rules)  -- bounds-run-k
+    (λ c κs. search rules)  -- begin_at-requires
     (λ c κs. search rules)  -- turn-requires
-    (λ c. search rules)  -- sub-begin-at
-    (λ c. search rules)  -- sub-begin-at-2
-    (λ c κs. search rules)  -- begin-at-requires-2
-    (λ c. search rules)  -- same-length
+    (λ c. search rules)  -- overflow_sub-n
+    (λ c. search rules)  -- overflow_sub-n-else-run-k-eq0
+    (λ c κs. search rules)  -- begin_at-requires-else-run-k-eq0
+    (λ c. search rules)  -- shape_of-run-then-run-k-eq0
     returns
-    (λ c. search rules)  -- same-length-2
+    (λ c. search rules)  -- shape_of-run-else-run-k-eq0
     returns-2)

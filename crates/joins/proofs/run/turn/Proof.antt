@@ -6,21 +6,21 @@ use Rattle.joins.proofs.Turned.{TurnedTo, turned_start, turned_next, turned_end}
 use Rattle.joins.proofs.run.turn.Statement.{statement}
 use Rattle.joins.proofs.run.turn.Tie as tie
 
-abbrev invariant-loop : tie.invariant-loop
+abbrev invariant-loop : tie.invariant-loop-i
 invariant-loop run₀ n i₀ run i = (i + i ≤ n + 1) × (length run ≡ n) × (n ≡ length run₀) × TurnedTo run₀ run i
 
-abbrev decreases-loop : tie.decreases-loop
+abbrev decreases-loop : tie.decreases-loop-i
 decreases-loop run₀ n i₀ run i = n - i
 
-loop-again : tie.Need-loop-preserved invariant-loop decreases-loop
+loop-again : tie.Need-loop-i-preserved invariant-loop decreases-loop
 loop-again c =
-    let at-loop : tie.At-loop invariant-loop decreases-loop = search in
+    let at-loop : tie.At-loop-i invariant-loop decreases-loop = search in
     let after-flip : tie.After-flip invariant-loop decreases-loop = search in (
       omega arith,
       simp length-set (omega arith),
       omega arith,
-      rw (after-flip.flip.ensures, c.flip2.ensures)
-          (turned_next _ _ at-loop.loop.i _ at-loop.loop.inv.3 (omega arith) (omega arith)),
+      rw (after-flip.flip.ensures, c.flip-in-loop-i.ensures)
+          (turned_next _ _ at-loop.loop-i.i _ at-loop.loop-i.invariant.3 (omega arith) (omega arith)),
     )
 
 pub turn_spec : {M : Type 1} → statement M
@@ -29,22 +29,22 @@ turn_spec =
     (tie.spec
     invariant-loop
     decreases-loop
-    (λ c. (omega arith, omega arith, omega arith, turned_start _))  -- loop-holds
-    (λ c. omega arith)  -- sub-loop
-    (λ c. omega arith)  -- sub-j
-    (λ c. omega arith)  -- sub-j-2
-    (λ c. omega arith)  -- mul-code
-    (λ c. omega arith)  -- slice-read-code
-    (λ c. omega arith)  -- mul-flip
-    (λ c. omega arith)  -- slice-read-flip
+    (λ c. (omega arith, omega arith, omega arith, turned_start _))  -- loop-i-init
+    (λ c. omega arith)  -- overflow_sub-n
+    (λ c. omega arith)  -- overflow_sub-j
+    (λ c. omega arith)  -- overflow_sub-j-in-loop-i
+    (λ c. omega arith)  -- offset_bounds-run-i
+    (λ c. omega arith)  -- bounds-run-i
+    (λ c. omega arith)  -- offset_bounds-run-j
+    (λ c. omega arith)  -- bounds-run-j
     (λ c κs. tt)  -- flip-requires
-    (λ c. omega arith)  -- mul-run
-    (λ c. omega arith)  -- slice-write-run
-    (λ c κs. tt)  -- flip-requires-2
-    (λ c. omega arith)  -- mul-run-2
-    (λ c. simp length-set (omega arith))  -- slice-write-run-2
-    (λ c. omega arith)  -- add-i
-    (λ c. omega arith)  -- loop-less
+    (λ c. omega arith)  -- offset_bounds-run-i-in-loop-i
+    (λ c. omega arith)  -- bounds-run-i-in-loop-i
+    (λ c κs. tt)  -- flip-requires-in-loop-i
+    (λ c. omega arith)  -- offset_bounds-run-j-in-loop-i
+    (λ c. simp length-set (omega arith))  -- bounds-run-j-in-loop-i
+    (λ c. omega arith)  -- overflow_add-i
+    (λ c. omega arith)  -- loop-i-smaller
     loop-again
-    (λ c. omega arith)  -- same-length
-    (λ c. turned_end _ _ c.before.loop.i (omega arith) c.before.loop.invariant.3))  -- returns
+    (λ c. omega arith)  -- shape_of-run
+    (λ c. turned_end _ _ c.loop-i.i (omega arith) c.loop-i.invariant.3))  -- returns

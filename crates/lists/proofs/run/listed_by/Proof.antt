@@ -13,19 +13,19 @@ use Rattle.lists.proofs.run.listed_by.Statement.{statement}
 use Rattle.lists.proofs.run.listed_by.Tie as tie
 
 -- the number of the half
-number : (c : tie.Else1) → to_z w64 (c.before.args.code / 2) ≡ pos (c.before.args.code / 2)
+number : (c : tie.Else-code-eq0) → to_z w64 (c.args.code / 2) ≡ pos (c.args.code / 2)
 number c = to_z_pos w64 (omega arith)
 
-returns : tie.Need-returns
+returns : tie.Need-returns-then-code-eq0
 unfolding listed_by
-returns c = rw (eq-eqb _ _ c.if1.true) (to_z_pos w64 (omega arith))
+returns c = rw (eq-eqb _ _ c.if-code-eq0.true) (to_z_pos w64 (omega arith))
 
-returns-2 : tie.Need-returns-2
+returns-2 : tie.Need-returns
 unfolding listed_by
 returns-2 c =
     let e = c.before in
-    rw (ne_eqb _ _ e.if1.false)
-    (back _ c.sub.type-inv ∙ (rw (number e) at c.sub.ensures) ∙ +ℤ_idl (neg_ℤ (pos (e.before.args.code / 2))))
+    rw (ne_eqb _ _ e.if-code-eq0.false)
+    (back _ c.sub.type_inv ∙ (rw (number e) at c.sub.ensures) ∙ +ℤ_idl (neg_ℤ (pos (e.args.code / 2))))
 
-pub listed-by-spec : {M : Type 1} → statement M
-listed-by-spec = tie.close (tie.spec (λ c. search rules) returns (λ c κs. rw (number c) (omega arith)) returns-2)
+pub listed_by_spec : {M : Type 1} → statement M
+listed_by_spec = tie.close (tie.spec (λ c. search rules) returns (λ c κs. rw (number c) (omega arith)) returns-2)

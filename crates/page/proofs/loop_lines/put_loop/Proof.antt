@@ -7,39 +7,39 @@ use borrow.Author.Rules.{rules}
 use Rattle.page.proofs.loop_lines.put_loop.Statement.{statement}
 use Rattle.page.proofs.loop_lines.put_loop.Tie as tie
 
-slice-aggregate-loop-text : tie.Need-slice-aggregate-loop-text
+slice-aggregate-loop-text : tie.Need-slice_bounds-loop_text-end
 slice-aggregate-loop-text c =
-    let after-list-run : tie.After-list-run = search in
+    let after-list-run : tie.After-list_run = search in
     let s : tie.Start = search in
-    simp length-take (omega (arith, s.pre.1.0.few, after-list-run.list-run.kept))
+    simp length-take (omega (arith, s.requires.1.0.few, after-list-run.list_run.auto))
 
 returns : tie.Need-returns
 returns c =
-    let after-list-run : tie.After-list-run = search in
-    let after-row-of : tie.After-row-of = search in
+    let after-list-run : tie.After-list_run = search in
+    let after-row-of : tie.After-row_of = search in
     let s : tie.Start = search in
-    let a2 : tie.After-loop-text-arg2 = search in
-    let a3 : tie.After-loop-text-arg3 = search in
-    let a4 : tie.After-loop-text-arg4 = search in
-    let after-loop-text : tie.After-loop-text = search in
+    let a2 : tie.After-loop_text-arg-2-1 = search in
+    let a3 : tie.After-loop_text-arg-3-1 = search in
+    let a4 : tie.After-loop_text-arg-4-1 = search in
+    let after-loop-text : tie.After-loop_text = search in
     line_put s.args.t s.args.number s.args.lines.now s.args.run.now after-row-of.row_of.ensures
-    (list_front s.args.run.now (replicate 256 (pos 0)) _ after-list-run.list-run.ensures)
-    (rw (back _ a2.loop-text-arg2.given, back _ a3.loop-text-arg3.given, back _ a4.loop-text-arg4.given) at
-    after-loop-text.loop-text.ensures)
+    (list_front s.args.run.now (replicate 256 (pos 0)) _ after-list-run.list_run.ensures)
+    (rw (back _ a2.loop_text-arg-2-1.given, back _ a3.loop_text-arg-3-1.given, back _ a4.loop_text-arg-4-1.given) at
+    after-loop-text.loop_text.ensures)
 
-pub put-loop-spec : {M : Type 1} → statement M
-put-loop-spec =
+pub put_loop_spec : {M : Type 1} → statement M
+put_loop_spec =
     tie.close
     (tie.spec
-    (λ c. search rules)  -- slice-aggregate-row-of
-    (λ c κs. search rules)  -- row-of-requires
-    (λ c. search rules)  -- slice-aggregate-list-run
-    (λ c κs. let s : tie.Start = search in (run_coded s.pre.0 s.pre.1.0, omega (arith, s.pre.1.0.few)))  -- list-run-requires
-    (λ c. search rules)  -- array-copy-out-loop-text
-    (λ c. search rules)  -- array-copy-out-loop-text-2
-    (λ c. search rules)  -- array-copy-out-loop-text-3
-    (λ c. search rules)  -- array-share-prefix-list
+    (λ c. search rules)  -- slice_bounds-row_of-end
+    (λ c κs. search rules)  -- row_of-requires
+    (λ c. search rules)  -- slice_bounds-list_run-end
+    (λ c κs. let s : tie.Start = search in (run_coded s.requires.0 s.requires.1.0, omega (arith, s.requires.1.0.few)))  -- list_run-requires
+    (λ c. search rules)  -- bounds-row-2
+    (λ c. search rules)  -- bounds-row-3
+    (λ c. search rules)  -- bounds-row-4
+    (λ c. search rules)  -- slice_bounds-list-end
     slice-aggregate-loop-text
-    (λ c κs. search rules)  -- loop-text-requires
-    (λ c. search rules)  -- same-length
+    (λ c κs. search rules)  -- loop_text-requires
+    (λ c. search rules)  -- shape_of-out
     returns)

@@ -5,23 +5,23 @@ use Rattle.page.proofs.sheet.put_loops_of.Tie as tie
 
 returns : tie.Need-returns
 returns c =
-    let after-put-loops : tie.After-put-loops = search in
-    let after-head-text : tie.After-head-text = search in
-    let after-find-loops : tie.After-find-loops = search in
+    let after-put-loops : tie.After-put_loops = search in
+    let after-head-text : tie.After-head_text-at = search in
+    let after-find-loops : tie.After-find_loops-found = search in
     let s : tie.Start = search in
-    loops_put _ _ s.pre after-find-loops.find-loops.ensures.0 after-head-text.head-text.ensures
-    after-put-loops.put-loops.ensures
+    loops_put _ _ s.requires after-find-loops.find_loops-found.ensures.0 after-head-text.head_text-at.ensures
+    after-put-loops.put_loops.ensures
 
-pub put-loops-of-spec : {M : Type 1} → statement M
-put-loops-of-spec =
+pub put_loops_of_spec : {M : Type 1} → statement M
+put_loops_of_spec =
     tie.close
     (tie.spec
-    (λ c. search rules)  -- slice-aggregate-find-loops
-    (λ c. search rules)  -- slice-aggregate-find-loops-2
-    (λ c κs. search rules)  -- find-loops-requires
-    (λ c κs. search rules)  -- head-text-requires
-    (λ c. search rules)  -- slice-aggregate-put-loops
-    (λ c. search rules)  -- slice-aggregate-put-loops-2
-    (λ c κs. search rules)  -- put-loops-requires
-    (λ c. search rules)  -- same-length
+    (λ c. search rules)  -- slice_bounds-find_loops-end
+    (λ c. search rules)  -- slice_bounds-find_loops-end-2
+    (λ c κs. search rules)  -- find_loops-found-requires
+    (λ c κs. search rules)  -- head_text-at-requires
+    (λ c. search rules)  -- slice_bounds-put_loops-end
+    (λ c. search rules)  -- slice_bounds-put_loops-end-2
+    (λ c κs. search rules)  -- put_loops-requires
+    (λ c. search rules)  -- shape_of-out
     returns)

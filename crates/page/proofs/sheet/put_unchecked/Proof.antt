@@ -5,34 +5,34 @@ use borrow.Author.Rules.{rules}
 use Rattle.page.proofs.sheet.put_unchecked.Statement.{statement}
 use Rattle.page.proofs.sheet.put_unchecked.Tie as tie
 
-array-share-prefix-list : tie.Need-array-share-prefix-list
+array-share-prefix-list : tie.Need-slice_bounds-list-end
 array-share-prefix-list c =
     let s : tie.Start = search in
-    let n = c.before.before.not-checked-good in
-    unchecked_fits s.args.book s.args.lines.now s.pre _ (search rules) n.ensures n.auto.1.1.0
+    let n = c.not_checked_good-listed in
+    unchecked_fits s.args.book s.args.lines.now s.requires _ (search rules) n.ensures n.auto.out
 
-slice-aggregate-not-checked-text : tie.Need-slice-aggregate-not-checked-text
+slice-aggregate-not-checked-text : tie.Need-slice_bounds-not_checked_text-end
 slice-aggregate-not-checked-text c =
     let s : tie.Start = search in
-    let n = c.before.before.before.not-checked-good in
-    let f = unchecked_fits s.args.book s.args.lines.now s.pre _ (search rules) n.ensures n.auto.1.1.0 in
+    let n = c.not_checked_good-listed in
+    let f = unchecked_fits s.args.book s.args.lines.now s.requires _ (search rules) n.ensures n.auto.out in
     simp length-take (omega (arith, f))
 
 returns : tie.Need-returns
 returns c =
-    let after-not-checked-good : tie.After-not-checked-good = search in
+    let after-not-checked-good : tie.After-not_checked_good-listed = search in
     let s : tie.Start = search in
-    rw (unchecked_is s.args.book s.args.lines.now s.pre _ (search rules) after-not-checked-good.not-checked-good.ensures)
-    at c.before.before.not-checked-text.ensures
+    rw (unchecked_is s.args.book s.args.lines.now s.requires _ (search rules) after-not-checked-good.not_checked_good-listed.ensures)
+    at c.not_checked_text.ensures
 
-pub put-unchecked-spec : {M : Type 1} → statement M
-put-unchecked-spec =
+pub put_unchecked_spec : {M : Type 1} → statement M
+put_unchecked_spec =
     tie.close
     (tie.spec
-    (λ c. search rules)  -- slice-aggregate-not-checked-good
-    (λ c κs. search rules)  -- not-checked-good-requires
+    (λ c. search rules)  -- slice_bounds-not_checked_good-end
+    (λ c κs. search rules)  -- not_checked_good-listed-requires
     array-share-prefix-list
     slice-aggregate-not-checked-text
-    (λ c κs. search rules)  -- not-checked-text-requires
-    (λ c. search rules)  -- same-length
+    (λ c κs. search rules)  -- not_checked_text-requires
+    (λ c. search rules)  -- shape_of-out
     returns)

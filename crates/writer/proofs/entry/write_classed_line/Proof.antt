@@ -13,39 +13,39 @@ unfolding classed_line_bytes
 returns c =
     let entry : tie.Start = search in
     let e = entry.args.e.now in
-    let whole = entry.pre.1 in
-    let line : tie.After-write-line = search in
+    let whole = entry.requires.1 in
+    let line : tie.After-write_line = search in
     let k : tie.After-bits = search in
     let class : tie.After-put = search in
-    let s : tie.After-bits2 = search in
-    let standing : tie.After-put2 = search in
-    let p₁ = then_part (none_poured entry.args.out.now) _ (line_bytes e) 12 (omega arith) line.write-line.ensures
+    let s : tie.After-bits-2 = search in
+    let standing : tie.After-put-2 = search in
+    let p₁ = then_part (none_poured entry.args.out.now) _ (line_bytes e) 12 (omega arith) line.write_line.ensures
     (entry_length Line e) in
-    let p₂ = then_signed p₁ _ 1 (class_at e 0) (omega (arith, whole)) k.before.bits-arg.given k.bits.ensures
+    let p₂ = then_signed p₁ _ 1 (class_at e 0) (omega (arith, whole)) k.bits-arg-1.given k.bits.ensures
     class.put.ensures in
-    let p₃ = then_signed p₂ _ 1 (standing_at e 0) (omega (arith, whole)) s.before.bits-arg2.given s.bits2.ensures
-    standing.put2.ensures in
+    let p₃ = then_signed p₂ _ 1 (standing_at e 0) (omega (arith, whole)) s.bits-arg-2-1.given s.bits-2.ensures
+    standing.put-2.ensures in
     all_poured p₃ whole
 
-pub write-classed-line-spec : {M : Type 1} → statement M
-write-classed-line-spec =
+pub write_classed_line_spec : {M : Type 1} → statement M
+write_classed_line_spec =
     tie.close
     (tie.spec
-    (λ c. search rules)  -- sub-write-line
-    (λ c. search rules)  -- part-write-line-start
-    (λ c. search rules)  -- part-write-line-end
-    (λ c κs. search rules)  -- write-line-requires
-    (λ c. search rules)  -- shared-slice-copy-out-bits
+    (λ c. search rules)  -- slice_bounds-write_line-count
+    (λ c. search rules)  -- slice_bounds-write_line-start
+    (λ c. search rules)  -- slice_bounds-write_line-end
+    (λ c κs. search rules)  -- write_line-requires
+    (λ c. search rules)  -- bounds-e-5
     (λ c κs. search rules)  -- bits-requires
-    (λ c. search rules)  -- sub-put
-    (λ c. search rules)  -- part-put-start
-    (λ c. search rules)  -- part-put-end
+    (λ c. search rules)  -- slice_bounds-put-count
+    (λ c. search rules)  -- slice_bounds-put-start
+    (λ c. search rules)  -- slice_bounds-put-end
     (λ c κs. search rules)  -- put-requires
-    (λ c. search rules)  -- shared-slice-copy-out-bits-2
+    (λ c. search rules)  -- bounds-e-4
     (λ c κs. search rules)  -- bits-requires-2
-    (λ c. search rules)  -- sub-put-2
-    (λ c. search rules)  -- part-put-start-2
-    (λ c. search rules)  -- part-put-end-2
+    (λ c. search rules)  -- slice_bounds-put-count-2
+    (λ c. search rules)  -- slice_bounds-put-start-2
+    (λ c. search rules)  -- slice_bounds-put-end-2
     (λ c κs. search rules)  -- put-requires-2
-    (λ c. search rules)  -- same-length
+    (λ c. search rules)  -- shape_of-out
     returns)

@@ -7,13 +7,13 @@ use Rattle.writer.proofs.entry.write_line.Statement.{statement}
 use Rattle.writer.proofs.entry.write_line.Tie as tie
 
 -- the places of the first numbers are too deep for one search
-abbrev third : tie.After-put4 → tie.After-put3
+abbrev third : tie.After-put-4 → tie.After-put-3
 third c = search
 
-abbrev second : tie.After-put3 → tie.After-put2
+abbrev second : tie.After-put-3 → tie.After-put-2
 second c = search
 
-abbrev first : tie.After-put2 → tie.After-put
+abbrev first : tie.After-put-2 → tie.After-put
 first c = search
 
 abbrev entry_of : tie.After-put → tie.Start
@@ -22,7 +22,7 @@ entry_of c = search
 returns : tie.Need-returns
 unfolding line_bytes
 returns c =
-    let length : tie.After-put4 = search in
+    let length : tie.After-put-4 = search in
     let difference = third length in
     let to = second difference in
     let from = first to in
@@ -32,43 +32,43 @@ returns c =
     let f = from.before.before in
     let entry = entry_of from in
     let e = entry.args.e.now in
-    let whole = entry.pre.1 in
-    let p₁ = then_signed (none_poured entry.args.out.now) _ 2 (from_at e 0) (omega (arith, whole)) f.before.bits-arg.given
+    let whole = entry.requires.1 in
+    let p₁ = then_signed (none_poured entry.args.out.now) _ 2 (from_at e 0) (omega (arith, whole)) f.bits-arg-1.given
     f.bits.ensures from.put.ensures in
-    let p₂ = then_signed p₁ _ 2 (to_at e 0) (omega (arith, whole)) t.before.bits-arg2.given t.bits2.ensures to.put2.ensures in
-    let p₃ = then_signed p₂ _ 4 (difference_at e 0) (omega (arith, whole)) d.before.bits-arg3.given d.bits3.ensures
-    difference.put3.ensures in
-    let p₄ = then_signed p₃ _ 4 (length_at e 0) (omega (arith, whole)) l.before.bits-arg4.given l.bits4.ensures
-    length.put4.ensures in
+    let p₂ = then_signed p₁ _ 2 (to_at e 0) (omega (arith, whole)) t.bits-arg-2-1.given t.bits-2.ensures to.put-2.ensures in
+    let p₃ = then_signed p₂ _ 4 (difference_at e 0) (omega (arith, whole)) d.bits-arg-3-1.given d.bits-3.ensures
+    difference.put-3.ensures in
+    let p₄ = then_signed p₃ _ 4 (length_at e 0) (omega (arith, whole)) l.bits-arg-4-1.given l.bits-4.ensures
+    length.put-4.ensures in
     all_poured p₄ whole
 
-pub write-line-spec : {M : Type 1} → statement M
-write-line-spec =
+pub write_line_spec : {M : Type 1} → statement M
+write_line_spec =
     tie.close
     (tie.spec
-    (λ c. search rules)  -- shared-slice-copy-out-bits
+    (λ c. search rules)  -- bounds-e-0
     (λ c κs. search rules)  -- bits-requires
-    (λ c. search rules)  -- sub-put
-    (λ c. search rules)  -- part-put-start
-    (λ c. search rules)  -- part-put-end
+    (λ c. search rules)  -- slice_bounds-put-count
+    (λ c. search rules)  -- slice_bounds-put-start
+    (λ c. search rules)  -- slice_bounds-put-end
     (λ c κs. search rules)  -- put-requires
-    (λ c. search rules)  -- shared-slice-copy-out-bits-2
+    (λ c. search rules)  -- bounds-e-1
     (λ c κs. search rules)  -- bits-requires-2
-    (λ c. search rules)  -- sub-put-2
-    (λ c. search rules)  -- part-put-start-2
-    (λ c. search rules)  -- part-put-end-2
+    (λ c. search rules)  -- slice_bounds-put-count-2
+    (λ c. search rules)  -- slice_bounds-put-start-2
+    (λ c. search rules)  -- slice_bounds-put-end-2
     (λ c κs. search rules)  -- put-requires-2
-    (λ c. search rules)  -- shared-slice-copy-out-bits-3
+    (λ c. search rules)  -- bounds-e-2
     (λ c κs. search rules)  -- bits-requires-3
-    (λ c. search rules)  -- sub-put-3
-    (λ c. search rules)  -- part-put-start-3
-    (λ c. search rules)  -- part-put-end-3
+    (λ c. search rules)  -- slice_bounds-put-count-3
+    (λ c. search rules)  -- slice_bounds-put-start-3
+    (λ c. search rules)  -- slice_bounds-put-end-3
     (λ c κs. search rules)  -- put-requires-3
-    (λ c. search rules)  -- shared-slice-copy-out-bits-4
+    (λ c. search rules)  -- bounds-e-3
     (λ c κs. search rules)  -- bits-requires-4
-    (λ c. search rules)  -- sub-put-4
-    (λ c. search rules)  -- part-put-start-4
-    (λ c. search rules)  -- part-put-end-4
+    (λ c. search rules)  -- slice_bounds-put-count-4
+    (λ c. search rules)  -- slice_bounds-put-start-4
+    (λ c. search rules)  -- slice_bounds-put-end-4
     (λ c κs. search rules)  -- put-requires-4
-    (λ c. search rules)  -- same-length
+    (λ c. search rules)  -- shape_of-out
     returns)

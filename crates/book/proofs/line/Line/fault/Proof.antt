@@ -17,32 +17,32 @@ returns c =
     let c₂ = c₃.before in
     let c₁ = c₂.before in
     rw (
-      c.first5.ensures,
-      c₁₀.outside4.ensures,
-      c₉.outside3.ensures,
-      c₈.first4.ensures,
+      c.first.ensures,
+      c₁₀.outside-3.ensures,
+      c₉.outside-2.ensures,
+      c₈.first-ends_fault.ensures,
       c₇.same.ensures,
-      c₆.first3.ensures,
-      c₅.outside-difference.ensures,
-      c₄.first2.ensures,
-      c₃.outside2.ensures,
-      c₂.first.ensures,
+      c₆.first-difference_fault.ensures,
+      c₅.outside_difference-outside_difference.ensures,
+      c₄.first-length_fault.ensures,
+      c₃.outside-outside_length.ensures,
+      c₂.first-standing_fault.ensures,
       c₁.outside.ensures,
     ) (search rules)
 
-pub fault-spec : {M : Type 1} → statement M
-fault-spec =
+pub fault_spec : {M : Type 1} → statement M
+fault_spec =
     tie.close
     (tie.spec
     (λ c κs. search rules)  -- outside-requires
-    (λ c κs. search rules)  -- first-requires
-    (λ c κs. search rules)  -- outside-requires-2
-    (λ c κs. search rules)  -- first-requires-2
-    (λ c κs. search rules)  -- outside-difference-requires
-    (λ c κs. search rules)  -- first-requires-3
+    (λ c κs. search rules)  -- first-standing_fault-requires
+    (λ c κs. search rules)  -- outside-outside_length-requires
+    (λ c κs. search rules)  -- first-length_fault-requires
+    (λ c κs. search rules)  -- outside_difference-outside_difference-requires
+    (λ c κs. search rules)  -- first-difference_fault-requires
     (λ c κs. search rules)  -- same-requires
-    (λ c κs. search rules)  -- first-requires-4
+    (λ c κs. search rules)  -- first-ends_fault-requires
+    (λ c κs. search rules)  -- outside-requires-2
     (λ c κs. search rules)  -- outside-requires-3
-    (λ c κs. search rules)  -- outside-requires-4
-    (λ c κs. search rules)  -- first-requires-5
+    (λ c κs. search rules)  -- first-requires
     returns)

@@ -8,5 +8,5 @@ returns : tie.Need-returns
 unfolding difference_out
 returns c = c.outside.ensures ∙ search rules
 
-pub outside-difference-spec : {M : Type 1} → statement M
-outside-difference-spec = tie.close (tie.spec (λ c κs. search rules) returns)
+pub outside_difference_spec : {M : Type 1} → statement M
+outside_difference_spec = tie.close (tie.spec (λ c κs. search rules) returns)

@@ -6,22 +6,22 @@ use borrow.Author.Rules.{rules}
 use Rattle.file.proofs.entry.Kind.of_lines.Statement.{statement}
 use Rattle.file.proofs.entry.Kind.of_lines.Tie as tie
 
-flag : (c : tie.After-has-classes) → c.has-classes.result ≡ has_classes (pos c.before.before.args.version)
+flag : (c : tie.After-has_classes) → c.has_classes.result ≡ has_classes (pos c.args.version)
 flag c =
     let v = c.before in
-    rw (stored v.signed-count.result v.signed-count.type-inv v.signed-count.ensures) at c.has-classes.ensures
+    rw (stored v.signed_count.result v.signed_count.type_inv v.signed_count.ensures) at c.has_classes.ensures
 
-returns : tie.Need-returns
-returns c = rw (← (flag c.before), c.if1.true)
+returns : tie.Need-returns-then-has_classes
+returns c = rw (← (flag c.before), c.if-has_classes.true)
 
-returns-2 : tie.Need-returns-2
-returns-2 c = rw (← (flag c.before), c.if1.false)
+returns-2 : tie.Need-returns
+returns-2 c = rw (← (flag c.before), c.if-has_classes.false)
 
-pub of-lines-spec : {M : Type 1} → statement M
-of-lines-spec =
+pub of_lines_spec : {M : Type 1} → statement M
+of_lines_spec =
     tie.close
     (tie.spec
-    (λ c κs. search rules)  -- signed-count-requires
-    (λ c κs. search rules)  -- has-classes-requires
+    (λ c κs. search rules)  -- signed_count-requires
+    (λ c κs. search rules)  -- has_classes-requires
     returns
     returns-2)

@@ -1,0 +1,15 @@
+use mir.Facts.{to_z-of_z}
+use Rattle.text.specs.Bytes.{bytes}
+use Rattle.text.specs.Sketch.{link_text}
+use Rattle.text.proofs.Puts.{◌then◌}
+use Rattle.text.proofs.sketch.link_text.Goals as goal
+
+pub returns : goal.returns
+unfolding bytes link_text
+returns c =
+    rw (← (to_z-of_z c.ranges.first), ← (to_z-of_z c.ranges.last), ← (to_z-of_z c.ranges.length), ← (to_z-of_z c.ranges.difference))
+    (c.put-at.ensures
+    then c.put_signed-at.ensures
+    then c.put_byte-at.ensures
+    then c.put_signed-at-2.ensures
+    then c.put_measured.ensures)
