@@ -328,21 +328,49 @@ test('loops are a hint: those that are not of the network do no harm', () => {
   assert.ok(isWhole(placeMarks({ marks, lines, before: null, pinned: new Set(), loops }), 5));
 });
 
+/** A fixed piece of work of the layout's kind, by which the pace of a machine is told: points that push each other away. */
+function yardstick() {
+  const next = numbersFrom(9);
+  const apart = ([x, y], [p, q]) => [x - p, y - q];
+  const pushed = (from, _, points) => points.map(to => apart(from, to))
+    .map(([x, y]) => [x, y, 1e-3 / (1 + Math.hypot(x, y))])
+    .reduce(([x, y], [p, q, push]) => [x + push * p, y + push * q], from);
+  let points = Array.from({ length: 200 }, () => [next(), next()]);
+  for (let round = 0; round < 5; round++) points = points.map(pushed);
+  return points;
+}
+
+/** What the yardstick takes, in milliseconds, on the machine of which the limits below speak. */
+const PACE = 32;
+const MOST_TRIES = 20;
+
+function millisecondsOf(work) {
+  const start = process.cpuUsage();
+  work();
+  const { user, system } = process.cpuUsage(start);
+  return (user + system) / 1000;
+}
+
+/** The time that a slower machine takes is counted by its own pace. */
+function timeOf(work) {
+  const before = millisecondsOf(yardstick), time = millisecondsOf(work), after = millisecondsOf(yardstick);
+  return time / Math.max(1, Math.min(before, after) / PACE);
+}
+
 test('it does not take long', () => {
-  const spent = work => {
-    const start = process.cpuUsage();
-    work();
-    const { user, system } = process.cpuUsage(start);
-    return (user + system) / 1000;
+  // What else the machine does only adds to a time, so a try that took too long is made again.
+  const least = (each, limit) => {
+    let time = Infinity;
+    for (let tries = 0; tries < MOST_TRIES && time >= limit; tries++) time = Math.min(time, timeOf(() => cold(each)));
+    return time;
   };
-  const least = each => Math.min(...Array.from({ length: 5 }, () => spent(() => cold(each))));
   const limits = [
     [townOf(20, 4), 60], [HARD['a tangle of 20'], 60],
     [CLEAR['a town of 60'], 150], [HARD['a tangle of 60'], 150],
     [gridOf(16, 16), 400], [HARD['512 lines thrown'], 400],
   ];
   for (const [each, limit] of limits) {
-    const time = least(each);
+    const time = least(each, limit);
     assert.ok(time < limit, `${each.marks} marks, ${each.lines.length} lines: ${time} ms`);
   }
 });
