@@ -6,7 +6,7 @@ use mathlib.Core.Path.{◌≡◌, refl, sym, ◌∙◌, ap, subst}
 use mathlib.Core.Logic.{◌⊎◌, inl, inr}
 use mathlib.Core.List.Memᴰ
 use mathlib.Core.List.{List, [], ◌∷◌, Memᴰ}
-use lib.ListN.{length, get_or, set, length-set}
+use lib.ListN.{length, get_or, length-set}
 use lib.Seq.{get_or-set_same, get_or-set_other}
 use Rattle.network.specs.Standing.{Line}
 use Rattle.chains.specs.Chains.{Half, fore, aft, mark_of, Bounded, On, here, later, Chain, no_half, first, Chained, Heads, Leaves}
@@ -219,11 +219,3 @@ bounded_fits b number lt = record {
   from_ok = b.mark_ok (number * 2 + 1) (omega arith);
   to_ok = b.mark_ok (number * 2) (omega arith);
 }
-
-pub zero_next : (xs : List ℕ) (i : ℕ) → i < length xs → ((j : ℕ) → j < i → get_or xs j 0 ≡ 0) → (j : ℕ) → j < i + 1
-    → get_or (set xs i 0) j 0 ≡ 0
-zero_next xs i lt f j h = go (ℕ_discrete j i)
-  where
-    go : Dec (j ≡ i) → get_or (set xs i 0) j 0 ≡ 0
-    go (yes e) = rw (e, get_or-set_same xs i 0 0 lt)
-    go (no e) = rw (get_or-set_other xs i j 0 0 e) (f j (omega arith))

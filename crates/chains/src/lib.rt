@@ -18,16 +18,13 @@ pub fn zero(a: &mut [u64], n: usize)
     requires { n ≤ length a.old }
     ensures { (i : ℕ) → i < n → get_or a.new i 0 ≡ 0 }
 {
-    let mut i = 0;
-    while i < n {
-        a[i] = 0;
-        i += 1;
-    }
+    a[..n].fill(0);
 }
 
 // The half h goes in front of the chain of the mark m.
 fn link(head: &mut [u64], next: &mut [u64], m: usize, h: usize)
-    requires { (m < length head.old) × (h < length next.old) }
+    requires has_mark { m < length head.old }
+    requires has_half { h < length next.old }
     ensures { Linked head.old next.old head.new next.new m h }
 {
     next[h] = head[m];
