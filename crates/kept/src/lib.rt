@@ -6,21 +6,11 @@ ghost use Rattle.std.specs.Prelude.{◌≡◌, ◌++◌, ◌≤◌, ◌-◌, len
 ghost use Rattle.kept.specs.Other.{other_report};
 
 // Whether the lent report is shorter than the rows, or differs from them in their places.
+#[tactic(auto, using(crate::proofs::SameNumbers::numbers_same), unfolding(crate::specs::Other::other_report))]
 pub fn differs(report: &[i64], rows: &[i64]) -> bool
     ensures { result ≡ other_report report.now rows.now }
 {
-    if report.len() < rows.len() {
-        return true;
-    }
-    let mut place = 0;
-    while place < rows.len() {
-        if signed::same(report[place], rows[place]) {
-            place += 1;
-        } else {
-            return true;
-        }
-    }
-    false
+    !report.starts_with(rows)
 }
 
 // The rows, or the heights, go to the front of what is lent.
@@ -28,11 +18,7 @@ pub fn put(rows: &[i64], out: &mut [i64])
     requires { length rows.now ≤ length out.old }
     ensures { out.new ≡ rows.now ++ drop (length rows.now) out.old }
 {
-    let mut i = 0;
-    while i < rows.len() {
-        out[i] = rows[i];
-        i += 1;
-    }
+    out[..rows.len()].copy_from_slice(rows);
 }
 
 // The places from a up to e become zeros.
@@ -40,9 +26,5 @@ pub fn vacate(out: &mut [i64], a: usize, e: usize)
     requires { (a ≤ e) × (e ≤ length out.old) }
     ensures { out.new ≡ take a out.old ++ replicate (e - a) (pos 0) ++ drop e out.old }
 {
-    let mut i = a;
-    while i < e {
-        out[i] = 0;
-        i += 1;
-    }
+    out[a..e].fill(0);
 }
