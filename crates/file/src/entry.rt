@@ -61,45 +61,43 @@ impl Kind {
 
 // A held entry: mark 2 bytes, height 8 signed.
 fn read_held(e: &[u8], out: &mut [i64])
-    requires { (length e.now ≡ 10) × (length out.old ≡ held_words) }
+    requires entry { length e.now ≡ 10 }
+    requires places { length out.old ≡ held_words }
     ensures { out.new ≡ held_numbers e.now }
 {
-    let mark = wire::plain(wire::be2(e, 0));
-    let height = wire::signed8(wire::be8(e, 2));
-    out[Held::MARK] = mark;
-    out[Held::HEIGHT] = height;
+    out[Held::MARK] = wire::plain::<2>(e, 0);
+    out[Held::HEIGHT] = wire::signed8(e, 2);
 }
 
 // A line: from 2 bytes, to 2, difference 4 signed, length 4.
 fn read_line(e: &[u8], standing: i64, class: i64, out: &mut [i64])
-    requires { (12 ≤ length e.now) × (length out.old ≡ line_words) }
+    requires entry { 12 ≤ length e.now }
+    requires places { length out.old ≡ line_words }
     ensures { out.new ≡ line_numbers standing class e.now }
 {
-    let from = wire::plain(wire::be2(e, 0));
-    let to = wire::plain(wire::be2(e, 2));
-    let difference = wire::signed4(wire::be4(e, 4));
-    let length = wire::plain(wire::be4(e, 8));
-    out[Line::FROM] = from;
-    out[Line::TO] = to;
-    out[Line::DIFFERENCE] = difference;
-    out[Line::LENGTH] = length;
+    out[Line::FROM] = wire::plain::<2>(e, 0);
+    out[Line::TO] = wire::plain::<2>(e, 2);
+    out[Line::DIFFERENCE] = wire::signed4(e, 4);
+    out[Line::LENGTH] = wire::plain::<4>(e, 8);
     out[Line::STANDING] = standing;
     out[Line::CLASS] = class;
 }
 
 // After them class 1 byte, standing 1.
 fn read_classed_line(e: &[u8], out: &mut [i64])
-    requires { (length e.now ≡ 14) × (length out.old ≡ line_words) }
+    requires entry { length e.now ≡ 14 }
+    requires places { length out.old ≡ line_words }
     ensures { out.new ≡ numbers ClassedLine e.now }
 {
-    let class = wire::plain(wire::be1(e, 12));
-    let standing = wire::plain(wire::be1(e, 13));
+    let class = wire::plain::<1>(e, 12);
+    let standing = wire::plain::<1>(e, 13);
     read_line(e, standing, class, out);
 }
 
 // One entry: its part of the file, and the places that it fills.
 fn read_entry(kind: Kind, e: &[u8], out: &mut [i64])
-    requires { (length e.now ≡ entry_bytes kind) × (length out.old ≡ entry_words kind) }
+    requires entry { length e.now ≡ entry_bytes kind }
+    requires places { length out.old ≡ entry_words kind }
     ensures { out.new ≡ numbers kind e.now }
 {
     match kind {
@@ -111,16 +109,15 @@ fn read_entry(kind: Kind, e: &[u8], out: &mut [i64])
 
 // The n entries from place a of the file on.
 pub(crate) fn read_entries(kind: Kind, file: &[u8], a: usize, n: usize, out: &mut [i64])
-    requires { (a + n * entry_bytes kind ≤ length file.now) × (n * entry_words kind ≤ length out.old) }
+    requires whole { a + n * entry_bytes kind ≤ length file.now }
+    requires room { n * entry_words kind ≤ length out.old }
     ensures { out.new ≡ entries kind file.now a n ++ drop (n * entry_words kind) out.old }
 {
     let bytes = kind.bytes();
     let words = kind.words();
-    let mut i = 0;
-    while i < n {
+    for i in 0..n {
         let at = a + i * bytes;
         let to = i * words;
         read_entry(kind, &file[at..at + bytes], &mut out[to..to + words]);
-        i += 1;
     }
 }

@@ -85,14 +85,14 @@ fn head_of(file: &[u8]) -> Head
     if len < HEAD_BYTES {
         return Head::Refused(1);
     }
-    if wire::be4(file, LENGTH_AT) as usize != len {
+    if wire::be::<4>(file, LENGTH_AT) as usize != len {
         return Head::Refused(2);
     }
-    let version = wire::plain(wire::be1(file, VERSION_AT));
-    let t = wire::plain(wire::be2(file, T_AT));
-    let b = wire::plain(wire::be2(file, B_AT));
-    let h = wire::be2(file, H_AT) as usize;
-    let n = wire::be2(file, N_AT) as usize;
+    let version = wire::plain::<1>(file, VERSION_AT);
+    let t = wire::plain::<2>(file, T_AT);
+    let b = wire::plain::<2>(file, B_AT);
+    let h = wire::be::<2>(file, H_AT) as usize;
+    let n = wire::be::<2>(file, N_AT) as usize;
     match Book::new(version, b, t, h, n) {
         Tested::Refused(r) => Head::Refused(r.number),
         Tested::Good(book) => {

@@ -4,71 +4,41 @@ ghost use Rattle.std.specs.Int.{w32, w64};
 ghost use Rattle.std.proofs.Common.{to_z};
 ghost use Rattle.file.specs.Wire.{be};
 
-fn wide(x: u8) -> u64
-    ensures { (result ≡ x) × (result < 256) }
+// The number in the W bytes from place a on, the first byte the highest.
+pub(crate) fn be<const W: usize>(s: &[u8], a: usize) -> u64
+    requires few { W ≤ 8 }
+    requires whole { a + W ≤ length s.now }
+    ensures value { result ≡ be W s.now a }
+    ensures small { result < 256 ^ W }
 {
-    x as u64
+    let mut number = 0;
+    for byte in &s[a..a + W] {
+        number = number * 256 + u64::from(*byte);
+    }
+    number
 }
 
-// The number in the byte at place a.
-pub(crate) fn be1(s: &[u8], a: usize) -> u64
-    requires { a + 1 ≤ length s.now }
-    ensures { (result ≡ be 1 s.now a) × (result < 256) }
+// The same as a signed number, of so few bytes that none is needed for the sign.
+pub(crate) fn plain<const W: usize>(s: &[u8], a: usize) -> i64
+    requires few { W ≤ 4 }
+    requires whole { a + W ≤ length s.now }
+    ensures { result ≡ pos (be W s.now a) }
 {
-    wide(s[a])
+    be::<W>(s, a) as i64
 }
 
-// In the two bytes from place a on.
-pub(crate) fn be2(s: &[u8], a: usize) -> u64
-    requires { a + 2 ≤ length s.now }
-    ensures { (result ≡ be 2 s.now a) × (result < 2 ^ 16) }
-{
-    wide(s[a]) * 256 + wide(s[a + 1])
-}
-
-// In four bytes.
-pub(crate) fn be4(s: &[u8], a: usize) -> u64
+// The signed number in four bytes.
+pub(crate) fn signed4(s: &[u8], a: usize) -> i64
     requires { a + 4 ≤ length s.now }
-    ensures { (result ≡ be 4 s.now a) × (result < 2 ^ 32) }
+    ensures { result ≡ to_z w32 (be 4 s.now a) }
 {
-    be2(s, a) * 65_536 + be2(s, a + 2)
+    i64::from((be::<4>(s, a) as u32).cast_signed())
 }
 
 // In eight.
-pub(crate) fn be8(s: &[u8], a: usize) -> u64
+pub(crate) fn signed8(s: &[u8], a: usize) -> i64
     requires { a + 8 ≤ length s.now }
-    ensures { result ≡ be 8 s.now a }
+    ensures { result ≡ to_z w64 (be 8 s.now a) }
 {
-    be4(s, a) * 4_294_967_296 + be4(s, a + 4)
-}
-
-// The number x, as a signed one.
-pub(crate) fn plain(x: u64) -> i64
-    requires { x < 2 ^ 32 }
-    ensures { result ≡ pos x }
-{
-    x as i64
-}
-
-// The signed number with the 32 bits x.
-pub(crate) fn signed4(x: u64) -> i64
-    requires { x < 2 ^ 32 }
-    ensures { result ≡ to_z w32 x }
-{
-    if x < 2_147_483_648 {
-        x as i64
-    } else {
-        x as i64 - 4_294_967_296
-    }
-}
-
-// The signed number with the 64 bits x.
-pub(crate) fn signed8(x: u64) -> i64
-    ensures { result ≡ to_z w64 x }
-{
-    if x < 9_223_372_036_854_775_808 {
-        x as i64
-    } else {
-        -1 - (18_446_744_073_709_551_615 - x) as i64
-    }
+    be::<8>(s, a).cast_signed()
 }

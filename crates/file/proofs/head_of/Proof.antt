@@ -19,22 +19,22 @@ made c =
     let n = c.before in
     let h = n.before in
     let b = h.before in
-    let t = b.before.before in
-    let v = t.before.before in
-    let e = stored b.plain-b.result b.plain-b.type_inv (b.plain-b.ensures ∙ ap pos b.be2-2.ensures.0) in
-    let f = stored t.plain-t.result t.plain-t.type_inv (t.plain-t.ensures ∙ ap pos t.be2.ensures.0) in
-    let g = stored v.plain-version.result v.plain-version.type_inv (v.plain-version.ensures ∙ ap pos v.be1.ensures.0) in
-    rw (e, f, g, h.be2-h.ensures.0, n.be2-n.ensures.0) at c.new.ensures
+    let t = b.before in
+    let v = t.before in
+    let e = stored b.plain-b.result b.plain-b.type_inv b.plain-b.ensures in
+    let f = stored t.plain-t.result t.plain-t.type_inv t.plain-t.ensures in
+    let g = stored v.plain-version.result v.plain-version.type_inv v.plain-version.ensures in
+    rw (e, f, g, h.be-h.ensures.0, n.be-n.ensures.0) at c.new.ensures
 
 returns : tie.Need-returns-then-len-lt-HEAD_BYTES
 unfolding head_of
 returns c = rw (lt-ltb _ _ c.if-len-lt-HEAD_BYTES.true)
 
-returns-2 : tie.Need-returns-then-be4-len
+returns-2 : tie.Need-returns-then-be-len
 unfolding head_of
 returns-2 c =
     let c₂ = c.before in
-    rw (le-ltb _ _ c₂.if-len-lt-HEAD_BYTES.false, ← c₂.be4.ensures.0, ne_eqb _ _ c.if-be4-len.true)
+    rw (le-ltb _ _ c₂.if-len-lt-HEAD_BYTES.false, ← c₂.be.ensures.0, ne_eqb _ _ c.if-be-len.true)
 
 -- the version and the counts of a book that was made are those that the file states, and good
 good : (c : tie.In-Good) → (let entry : tie.Start = search in let f = entry.args.file.now in
@@ -55,11 +55,11 @@ unfolding head_of
 returns-3 c =
     let known : tie.In-Good = search in
     let g = good known in
-    let c₂ : tie.Else-be4-len = search in
+    let c₂ : tie.Else-be-len = search in
     rw (
       le-ltb _ _ c₂.if-len-lt-HEAD_BYTES.false,
-      ← c₂.be4.ensures.0,
-      eq-eqb _ _ c₂.if-be4-len.false,
+      ← c₂.be.ensures.0,
+      eq-eqb _ _ c₂.if-be-len.false,
       g.0,
       g.1,
       ← (length_is c.before),
@@ -70,8 +70,8 @@ returns-4 : tie.Need-returns-in-Refused
 unfolding head_of
 returns-4 c =
     let n : tie.After-new = search in
-    let c₂ : tie.Else-be4-len = search in
-    rw (le-ltb _ _ c₂.if-len-lt-HEAD_BYTES.false, ← c₂.be4.ensures.0, eq-eqb _ _ c₂.if-be4-len.false)
+    let c₂ : tie.Else-be-len = search in
+    rw (le-ltb _ _ c₂.if-len-lt-HEAD_BYTES.false, ← c₂.be.ensures.0, eq-eqb _ _ c₂.if-be-len.false)
     (book_refused _ _ _ _ _ _ (made n) _ c.in-Refused.is _)
 
 returns-5 : tie.Need-returns-else-len-length_of
@@ -79,11 +79,11 @@ unfolding head_of
 returns-5 c =
     let known : tie.In-Good = search in
     let g = good known in
-    let c₂ : tie.Else-be4-len = search in
+    let c₂ : tie.Else-be-len = search in
     rw (
       le-ltb _ _ c₂.if-len-lt-HEAD_BYTES.false,
-      ← c₂.be4.ensures.0,
-      eq-eqb _ _ c₂.if-be4-len.false,
+      ← c₂.be.ensures.0,
+      eq-eqb _ _ c₂.if-be-len.false,
       g.0,
       g.1,
       ← g.2,
@@ -104,16 +104,13 @@ head_of_spec =
     tie.close
     (tie.spec
     returns
-    (λ c κs. search rules)  -- be4-requires
+    (λ c κs. search rules)  -- be-requires
     returns-2
-    (λ c κs. search rules)  -- be1-requires
     (λ c κs. search rules)  -- plain-version-requires
-    (λ c κs. search rules)  -- be2-requires
     (λ c κs. search rules)  -- plain-t-requires
-    (λ c κs. search rules)  -- be2-requires-2
     (λ c κs. search rules)  -- plain-b-requires
-    (λ c κs. search rules)  -- be2-h-requires
-    (λ c κs. search rules)  -- be2-n-requires
+    (λ c κs. search rules)  -- be-h-requires
+    (λ c κs. search rules)  -- be-n-requires
     (λ c κs. search rules)  -- new-requires
     (λ c. search rules)  -- enum_known-r
     (λ c. search rules)  -- enum_known-book
