@@ -26,13 +26,13 @@ use Rattle.book.proofs.IfGood.{if_good_lem}
 use Rattle.book.proofs.Passing.{counts_pass, good_passes}
 use Rattle.book.proofs.Versions.{version_passes, known_version, small_tolerance}
 use Rattle.file.specs.Wire.{be}
-use Rattle.file.specs.Entry.{entry_bytes, numbers, line_kind, entries}
+use Rattle.file.specs.Entry.{entry_bytes, line_kind}
 use Rattle.file.specs.Read.{length_of, head_of, held_of, lines_of, book_in, Outcome, done, room_of, body_of, after_head, read_of}
 use Rattle.file.specs.declared.Head.TheVariants.{States}
 use Rattle.file.specs.declared.entry.Kind.TheVariants.{Held}
 use Rattle.file.proofs.Heads.{line_bytes}
 use Rattle.file.proofs.Entries.{room_for, line_words_lem}
-use Rattle.writer.specs.Entry.{bytes, written}
+use Rattle.writer.specs.Entry.{written}
 use Rattle.writer.specs.Write.{head_bytes, file_of, any_withdrawn, cannot_say}
 use Rattle.writer.proofs.BothWays.{be_front}
 use Rattle.writer.proofs.Fields.{run, widths, field_read}

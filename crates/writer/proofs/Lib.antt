@@ -8,3 +8,4 @@ pub mod ReadBack
 pub mod FileRead
 pub mod WriteBack
 pub mod AreBytes
+pub mod Withdrawn

@@ -1,17 +1,14 @@
 -- Laws on the bytes of a number, and on how they are put.
 -- Assumes nothing.
-use mathlib.Core.Bool.{true, false, true≢false}
 use mathlib.Core.Path.{◌≡◌, refl, sym, ◌∙◌, ap}
-use mathlib.Core.List.{List, [], ◌∷◌, ◌++◌, append-nil}
-use Prim.Native.Nat.{ℕ, zero, suc, ◌+◌, ◌-◌, ◌/◌, ◌%◌, ◌≤◌, ◌<◌}
+use mathlib.Core.List.{[], ◌∷◌, ◌++◌}
+use Prim.Native.Nat.{ℕ, zero, suc, ◌-◌, ◌/◌, ◌%◌, ◌^◌, ◌*◌, ◌≤◌}
+use native.Mathlib.Nat.{div-div-eq-div-mul, pow-suc}
 use native.Mathlib.Omega.{arith}
-use lib.ListN.{length, drop, set, length-append, length-set, drop_of_length-le}
-use lib.Seq.{drop-cons, drop-set-lt, get_or-set_same, append_snoc}
-use lib.IntN.{ℤ, pos, negsuc, nat_abs}
-use lib.Signed.{lt_z}
-use mir.Val.{of_z}
-use borrow.Author.Tests.{ltb-true}
+use lib.ListN.{length, take, drop, length-append}
+use lib.Seq.{take_all}
 use mir.Syntax.{w64}
+use Rattle.std.specs.Int.{bytes_high_first, byte_at, to_be_bytes}
 use Rattle.writer.specs.Bytes.{bytes_of}
 
 pub bytes_length : (k x : ℕ) → length (bytes_of k x) ≡ k
@@ -19,38 +16,33 @@ unfolding bytes_of
 bytes_length zero x = refl
 bytes_length (suc k) x = length-append (bytes_of k (x / 256)) (x % 256 ∷ []) ∙ omega (arith, bytes_length k (x / 256))
 
--- The bits of a signed number, by its size.
-pub bits_below : (z : ℤ) → lt_z z (pos 0) ≡ true → nat_abs z < 18446744073709551616 → 18446744073709551615 - nat_abs z + 1 ≡ of_z w64 z
-bits_below (pos n) h l = let m = ltb-true n 0 h in absurd (omega arith)
-bits_below (negsuc n) h l = omega arith
+-- the library has a number's bytes from the highest on, the definition from the lowest: a byte of x is the one before of x / 256
+byte_before : (k x : ℕ) → byte_at (suc k) x ≡ byte_at k (x / 256)
+byte_before zero x = refl
+byte_before (suc k) x =
+    let whole : 256 ^ suc (suc k) ≡ 256 * 256 ^ suc k = rw (pow-suc 256 (suc k)) (omega arith) in
+    ap (λ n. n % 256) (rw whole (sym (div-div-eq-div-mul x 256 (256 ^ suc k))))
 
-pub bits_plain : (z : ℤ) → lt_z z (pos 0) ≡ false → nat_abs z ≡ of_z w64 z
-bits_plain (pos n) h = refl
-bits_plain (negsuc n) h = absurd (true≢false h)
+lowest_last : (k x : ℕ) → bytes_high_first (suc k) x ≡ bytes_high_first k (x / 256) ++ (x % 256 ∷ [])
+lowest_last zero x = refl
+lowest_last (suc k) x =
+    ap (λ r. byte_at (suc k) x ∷ r) (lowest_last k x)
+    ∙ ap (λ b. b ∷ bytes_high_first k (x / 256) ++ (x % 256 ∷ [])) (byte_before k x)
 
--- The bytes of x are put from the last to the first: before a turn the first i are missing, and they are those of the rest.
-module _ (k x : ℕ) where
-  abbrev pub PutFrom : List ℕ → ℕ → ℕ → Type 0
-  PutFrom out rest i = bytes_of k x ≡ bytes_of i rest ++ drop i out
+high_first : (k x : ℕ) → bytes_high_first k x ≡ bytes_of k x
+unfolding bytes_of
+high_first zero x = refl
+high_first (suc k) x = lowest_last k x ∙ ap (λ r. r ++ (x % 256 ∷ [])) (high_first k (x / 256))
 
-  pub put_start : (out : List ℕ) → length out ≡ k → PutFrom out x k
-  put_start out h =
-      let all : length out ≤ k = omega arith in
-      sym (append-nil (bytes_of k x)) ∙ ap (λ (r : List ℕ). bytes_of k x ++ r) (sym (drop_of_length-le out all))
+last_of : (all most x : ℕ) → most ≤ all → drop most (bytes_high_first all x) ≡ bytes_high_first (all - most) x
+last_of zero zero x h = refl
+last_of zero (suc j) x h = absurd (omega arith)
+last_of (suc t) zero x h = let none : suc t - 0 ≡ suc t = omega arith in rw none refl
+last_of (suc t) (suc j) x h = let less : suc t - suc j ≡ t - j = omega arith in rw less (last_of t j x (omega arith))
 
-  pub put_next : (out : List ℕ) (rest i : ℕ) → i < length out → PutFrom out rest (suc i)
-      → PutFrom (set out i (rest % 256)) (rest / 256) i
-  unfolding bytes_of
-  put_next out rest i h e =
-      let byte = rest % 256 in
-      e
-      ∙ append_snoc (bytes_of i (rest / 256)) byte (drop (suc i) out)
-      ∙ rw (
-        drop-cons (set out i byte) i 0 (rw (length-set) h),
-        get_or-set_same out i byte 0 h,
-        drop-set-lt (suc i) out i byte (omega arith),
-      )
-
-  pub put_end : (out : List ℕ) (rest : ℕ) → PutFrom out rest 0 → out ≡ bytes_of k x
-  unfolding bytes_of
-  put_end out rest e = sym e
+-- of the eight bytes of x the last k
+pub last_bytes : (k x : ℕ) → k ≤ 8 → take (8 - (8 - k)) (drop (8 - k) (to_be_bytes w64 x)) ≡ bytes_of k x
+last_bytes k x h =
+    let its : 8 - (8 - k) ≡ k = omega arith in
+    let last = last_of 8 (8 - k) x (omega arith) in
+    rw (last, its, high_first k x) (take_all k (bytes_of k x) (omega (arith, bytes_length k x)))

@@ -48,9 +48,10 @@ module _ {l₀ : List ℕ} {a : ℕ} {p out : List ℕ} (so_far : Poured l₀ a 
       then_part vs (bytes_of w x) (a + w) (omega arith) (rw (all, is) at e) (bytes_length w x ∙ omega arith)
 
   -- a signed number, read from where it is stored
-  pub then_signed : (vs : List ℕ) (w : ℕ) (z : ℤ) {r : ℕ} → a + w ≤ length l₀ → mag z < 2 ^ 63 → r ≡ of_z w64 (to_z w64 (of_z w64 z))
-      → vs ≡ bytes_of (length (take (a + w - a) (drop a out))) r → Poured l₀ (a + w) (p ++ in_bytes w z) (put_mid a (a + w - a) out vs)
-  then_signed vs w z h fits is e = then_number vs w (of_z w64 z) h (is ∙ ap (of_z w64) (back z fits)) e
+  pub then_signed : (vs : List ℕ) (w : ℕ) (z : ℤ) → a + w ≤ length l₀ → mag z < 2 ^ 63
+      → vs ≡ in_bytes (length (take (a + w - a) (drop a out))) (to_z w64 (of_z w64 z))
+      → Poured l₀ (a + w) (p ++ in_bytes w z) (put_mid a (a + w - a) out vs)
+  then_signed vs w z h fits e = then_number vs w (of_z w64 z) h (ap (of_z w64) (back z fits)) e
 
   pub all_poured : length l₀ ≡ a → out ≡ p
   all_poured h =

@@ -12,37 +12,41 @@ use file::entry::Kind;
 
 // A held entry: mark 2 bytes, height 8 signed.
 fn write_held(e: &[i64], out: &mut [u8])
-    requires { (length e.now ≡ held_words) × (length out.old ≡ 10) }
+    requires numbers { length e.now ≡ held_words }
+    requires entry { length out.old ≡ 10 }
     ensures { out.new ≡ held_bytes e.now }
 {
-    wire::put(wire::bits(e[Held::MARK]), &mut out[0..2]);
-    wire::put(wire::bits(e[Held::HEIGHT]), &mut out[2..10]);
+    wire::put_signed(e[Held::MARK], &mut out[0..2]);
+    wire::put_signed(e[Held::HEIGHT], &mut out[2..10]);
 }
 
 // A line: from 2 bytes, to 2, difference 4 signed, length 4.
 fn write_line(e: &[i64], out: &mut [u8])
-    requires { (length e.now ≡ line_words) × (length out.old ≡ 12) }
+    requires numbers { length e.now ≡ line_words }
+    requires entry { length out.old ≡ 12 }
     ensures { out.new ≡ line_bytes e.now }
 {
-    wire::put(wire::bits(e[Line::FROM]), &mut out[0..2]);
-    wire::put(wire::bits(e[Line::TO]), &mut out[2..4]);
-    wire::put(wire::bits(e[Line::DIFFERENCE]), &mut out[4..8]);
-    wire::put(wire::bits(e[Line::LENGTH]), &mut out[8..12]);
+    wire::put_signed(e[Line::FROM], &mut out[0..2]);
+    wire::put_signed(e[Line::TO], &mut out[2..4]);
+    wire::put_signed(e[Line::DIFFERENCE], &mut out[4..8]);
+    wire::put_signed(e[Line::LENGTH], &mut out[8..12]);
 }
 
 // After them class 1 byte, standing 1.
 fn write_classed_line(e: &[i64], out: &mut [u8])
-    requires { (length e.now ≡ line_words) × (length out.old ≡ 14) }
+    requires numbers { length e.now ≡ line_words }
+    requires entry { length out.old ≡ 14 }
     ensures { out.new ≡ classed_line_bytes e.now }
 {
     write_line(e, &mut out[0..12]);
-    wire::put(wire::bits(e[Line::CLASS]), &mut out[12..13]);
-    wire::put(wire::bits(e[Line::STANDING]), &mut out[13..14]);
+    wire::put_signed(e[Line::CLASS], &mut out[12..13]);
+    wire::put_signed(e[Line::STANDING], &mut out[13..14]);
 }
 
 // One entry: its numbers, and its part of the file.
 fn write_entry(kind: Kind, e: &[i64], out: &mut [u8])
-    requires { (length e.now ≡ entry_words kind) × (length out.old ≡ entry_bytes kind) }
+    requires numbers { length e.now ≡ entry_words kind }
+    requires entry { length out.old ≡ entry_bytes kind }
     ensures { out.new ≡ bytes kind e.now }
 {
     match kind {
@@ -54,16 +58,15 @@ fn write_entry(kind: Kind, e: &[i64], out: &mut [u8])
 
 // The first n entries of a slice, into as many places as they have bytes.
 pub(crate) fn write_entries(kind: Kind, slice: &[i64], n: usize, out: &mut [u8])
-    requires { (n * entry_words kind ≤ length slice.now) × (length out.old ≡ n * entry_bytes kind) }
+    requires whole { n * entry_words kind ≤ length slice.now }
+    requires room { length out.old ≡ n * entry_bytes kind }
     ensures { out.new ≡ written kind slice.now n }
 {
     let bytes = kind.bytes();
     let words = kind.words();
-    let mut i = 0;
-    while i < n {
+    for i in 0..n {
         let from = i * words;
         let to = i * bytes;
         write_entry(kind, &slice[from..from + words], &mut out[to..to + bytes]);
-        i += 1;
     }
 }

@@ -42,14 +42,9 @@ fn any_withdrawn(lines: &[i64], n: usize) -> bool
     requires { n * line_words ≤ length lines.now }
     ensures { result ≡ any_withdrawn lines.now n }
 {
-    let mut i = 0;
-    while i < n {
-        if signed::same(lines[i * Line::WORDS + Line::STANDING], 0) {
-            return true;
-        }
-        i += 1;
-    }
-    false
+    lines[..n * Line::WORDS]
+        .chunks_exact(Line::WORDS)
+        .any(|line| line[Line::STANDING] == 0)
 }
 
 // Refusal 16: a file of version 1 cannot say that a line is withdrawn.
@@ -65,7 +60,8 @@ fn cannot_say(book: Book, lines: &[i64]) -> bool
 
 // The head of a book's file, which has so many bytes.
 fn write_head(book: Book, bytes: usize, out: &mut [u8])
-    requires { (bytes ≡ length_of book) × (length out.old ≡ 13) }
+    requires size { bytes ≡ length_of book }
+    requires part { length out.old ≡ 13 }
     ensures { out.new ≡ head_bytes book }
 {
     wire::put(bytes as u64, &mut out[file::LENGTH_AT..file::VERSION_AT]);
@@ -78,9 +74,10 @@ fn write_head(book: Book, bytes: usize, out: &mut [u8])
 
 // The whole file, which has so many bytes: its head, its held entries, its lines.
 fn fill(book: Book, bytes: usize, held: &[i64], lines: &[i64], file: &mut [u8])
-    requires fact_1 { GoodLines book lines.now }
-    requires fact_2 { HeldEntries held.now book.marks book.held }
-    requires fact_3 { (bytes ≡ length_of book) × (bytes ≤ length file.old) }
+    requires good_lines { GoodLines book lines.now }
+    requires good_held { HeldEntries held.now book.marks book.held }
+    requires size { bytes ≡ length_of book }
+    requires room { bytes ≤ length file.old }
     ensures { file.new ≡ file_of book held.now lines.now ++ drop bytes file.old }
 {
     let lines_at = file::HEAD_BYTES + book.held * Kind::HELD_BYTES;
