@@ -3,10 +3,12 @@
 
 #![tactic(auto)]
 
-ghost use Rattle.std.specs.Prelude.{◌≡◌, ◌≤◌, length};
+ghost use Rattle.std.specs.Prelude.{◌≡◌, ◌++◌, ◌*◌, ◌≤◌, length, drop};
+ghost use Rattle.book.specs.Held.{held_words};
+ghost use Rattle.book.specs.Line.{line_words};
 ghost use Rattle.book.specs.Limits.{most_version, most_held, most_lines};
 ghost use Rattle.book.specs.Test.{refusal, test_of};
-ghost use Rattle.file.specs.Read.{Stated, length_of, head_of, answered, refused_with, book_in, body_of, room_of, read_of};
+ghost use Rattle.file.specs.Read.{Stated, length_of, head_of, held_of, lines_of, answered, refused_with, book_in, body_of, room_of, read_of};
 
 pub mod entry;
 mod wire;
@@ -104,28 +106,38 @@ fn head_of(file: &[u8]) -> Head
     }
 }
 
+// The held entries and the lines that such a file has, into the first places of what is lent.
+fn read_parts(file: &[u8], book: Book, held: &mut [i64], lines: &mut [i64])
+    requires stated { Stated (length file.now) book }
+    requires held_room { book.held * held_words ≤ length held.old }
+    requires line_room { book.lines * line_words ≤ length lines.old }
+    ensures held_read { held.new ≡ held_of file.now book ++ drop (book.held * held_words) held.old }
+    ensures lines_read { lines.new ≡ lines_of file.now book ++ drop (book.lines * line_words) lines.old }
+{
+    let lines_at = HEAD_BYTES + book.held * Kind::HELD_BYTES;
+    entry::read_entries(Kind::Held, file, HEAD_BYTES, book.held, held);
+    entry::read_entries(
+        Kind::of_lines(book.version),
+        file,
+        lines_at,
+        book.lines,
+        lines,
+    );
+}
+
 // Refusals 6 and 7: the entries are read where nobody sees them, and tested as every call tests a lent book.
 fn tested(file: &[u8], book: Book) -> Tested
     requires { Stated (length file.now) book }
     ensures { result ≡ test_of (book_in file.now book) }
 {
-    let h = book.held;
-    let n = book.lines;
     let mut held = [0i64; Book::HELD_WORDS];
     let mut lines = [0i64; Book::LINE_WORDS];
-    entry::read_entries(Kind::Held, file, HEAD_BYTES, h, &mut held[..]);
-    entry::read_entries(
-        Kind::of_lines(book.version),
-        file,
-        HEAD_BYTES + h * Kind::HELD_BYTES,
-        n,
-        &mut lines[..],
-    );
+    read_parts(file, book, &mut held[..], &mut lines[..]);
     let version = signed::signed_count(book.version);
     let b = signed::signed_count(book.marks);
     let t = signed::signed_count(book.tolerance);
-    let held_words = h * Held::WORDS;
-    let line_words = n * Line::WORDS;
+    let held_words = book.held * Held::WORDS;
+    let line_words = book.lines * Line::WORDS;
     book::test(version, b, t, &held[..held_words], &lines[..line_words])
 }
 
@@ -143,14 +155,7 @@ fn fill(file: &[u8], book: Book, held: &mut [i64], lines: &mut [i64]) -> ReadAns
     if lines.len() < n * Line::WORDS {
         return refuse(10, 0);
     }
-    entry::read_entries(Kind::Held, file, HEAD_BYTES, h, held);
-    entry::read_entries(
-        Kind::of_lines(book.version),
-        file,
-        HEAD_BYTES + h * Kind::HELD_BYTES,
-        n,
-        lines,
-    );
+    read_parts(file, book, held, lines);
     let refusal = Refusal::none();
     ReadAnswer {
         refusal,

@@ -1,6 +1,5 @@
 use borrow.Author.Tests.{lt-ltb, le-ltb}
-use Rattle.file.specs.Read.{held_of, lines_of, room_of}
-use Rattle.file.proofs.Entries.{line_words_lem}
+use Rattle.file.specs.Read.{room_of}
 use Rattle.file.proofs.fill.Goals as goal
 
 pub returns-then-held-h : goal.returns-then-held-h
@@ -12,14 +11,12 @@ unfolding room_of
 returns-then-lines-n c = rw (le-ltb _ _ c.if-held-h.false, lt-ltb _ _ c.if-lines-n.true, c.refuse-then-lines-n.ensures)
 
 pub returns : goal.returns
-unfolding room_of held_of lines_of
+unfolding room_of
 returns c =
     rw (
       le-ltb _ _ c.if-held-h.false,
       le-ltb _ _ c.if-lines-n.false,
-      c.read_entries.ensures,
-      c.read_entries-2.ensures,
-      c.of_lines.ensures,
-      line_words_lem c.args.book.version,
+      c.read_parts.ensures.held_read,
+      c.read_parts.ensures.lines_read,
       c.none-refusal.ensures,
     )

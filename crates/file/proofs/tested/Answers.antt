@@ -8,7 +8,7 @@ use Rattle.file.proofs.Entries.{entries_length, lines_length}
 use Rattle.file.proofs.tested.Goals as goal
 
 pub returns : goal.returns
-unfolding held_of lines_of
+unfolding held_of
 returns c =
     let k = c.args.book in
     let file = c.args.file.now in
@@ -16,9 +16,8 @@ returns c =
       stored c.signed_count-version.result c.signed_count-version.type_inv c.signed_count-version.ensures,
       stored c.signed_count-b.result c.signed_count-b.type_inv c.signed_count-b.ensures,
       stored c.signed_count-t.result c.signed_count-t.type_inv c.signed_count-t.ensures,
-      c.read_entries.ensures,
-      take_at _ _ (k.held * 2) (entries_length Held file 13 k.held),
-      c.read_entries-2.ensures,
-      c.of_lines.ensures,
+      c.read_parts.ensures.held_read,
+      take_at (held_of file k) _ (k.held * 2) (entries_length Held file 13 k.held),
+      c.read_parts.ensures.lines_read,
       take_at (lines_of file k) _ (k.lines * line_words) (lines_length file k),
     ) at c.test.ensures
