@@ -16,7 +16,8 @@ use Rattle.network.proofs.Grown.{Scored, scored, score_of_lem, After, new, old, 
 use Rattle.network.proofs.Shortest.{same, never}
 use Rattle.nearest.specs.Heap.{far, Lesser}
 use Rattle.network.specs.Codes.{codes}
-use Rattle.chains.specs.Chains.{Half, mark_of, sum_of, On, here, later, Met, Given, flip, halves}
+use Rattle.chains.specs.Chains.{Half, mark_of, sum_of, On, here, later, Chain, no_half, Met, Given, flip, halves}
+use Rattle.chains.specs.Chains as chains
 use Rattle.chains.proofs.Halves.{half_ends, ends_half, half_low, half_no, half_low_end, half_flip, on_zero, on_split, met_on, has_on}
 use Rattle.search.specs.Front.{limit, Two, back, lineage, Written}
 use Rattle.search.specs.Direct.{Sum, LeastSum, Direct}
@@ -31,9 +32,6 @@ pub record Least (next ends : List ℕ) (first i s : ℕ) : Type 0 where
   pub under : (j : ℕ) → On next first j → (On next i j) ⊎ (s ≤ sum_of ends j)
   pub one : (s ≡ far) ⊎ Sum next ends first s
   pub part : (j : ℕ) → On next i j → On next first j
-
-pub least_start : (next ends : List ℕ) (first : ℕ) → Least next ends first first far
-least_start next ends first = record { under = λ j o. inl o; one = inl refl; part = λ j o. o }
 
 pub least_end : (next ends : List ℕ) (first i s : ℕ) → Least next ends first i s → i ≤ 0 → LeastSum next ends first s
 least_end next ends first i s x z = record { under = λ j o. go j (x.under j o); one = x.one }
@@ -184,8 +182,19 @@ module _ (n : ℕ) (head next ends : List ℕ) (r to s : ℕ) (two : Two n r to)
   pub direct_of : Direct n head next ends r to (s % halves)
   direct_of = record { low = omega arith; whole = λ _ sub gv. direct_is sub gv }
 
-pub direct_none : (n : ℕ) (head next ends : List ℕ) (r to : ℕ) → Direct n head next ends r to 0
-direct_none n head next ends r to = record { low = omega arith; whole = λ p. absurd (omega arith) }
+-- what is on a chain is a half
+on_low : {next : List ℕ} {i h : ℕ} {hs : List ℕ} → Chain next i hs → On next i h → (0 < h) × (h < halves)
+on_low (no_half z) o = on_zero z o
+on_low (chains.first p lt c) (here q e) = (omega arith, omega arith)
+on_low (chains.first p lt c) (later q o) = on_low c o
+
+-- and so is what the least sum ends with
+pub least_half : {next ends : List ℕ} {i s : ℕ} {hs : List ℕ} → Chain next i hs → LeastSum next ends i s → s < limit → 0 < s % halves
+least_half {next = next} {ends = ends} {i = i} {s = s} ch ls small = pick ls.one
+  where
+    pick : (s ≡ far) ⊎ Sum next ends i s → 0 < s % halves
+    pick (inl z) = absurd (omega arith)
+    pick (inr z) = let lo = on_low ch z.on in omega (arith, z.its, lo)
 
 -- ---- the path written out
 

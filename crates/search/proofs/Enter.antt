@@ -9,7 +9,7 @@ use mathlib.Core.Option.{Option, none, some}
 use lib.ListN.{get_or}
 use borrow.Author.Tests.{eq-eqb, ne_eqb}
 use Rattle.network.specs.Standing.{Line}
-use Rattle.network.specs.Tree.{Entry, entry, Tree, Candidate, candidate, distance, score, far, lowest, next, step}
+use Rattle.network.specs.Tree.{Entry, entry, Tree, Candidate, candidate, distance, score, far, lowest, step}
 use Rattle.network.proofs.Grown.{scored, score_of_lem, After, new, old, after, keeps, IsLowest, lowest_none, lowest_some}
 use Rattle.network.proofs.Shortest.{same, never}
 use Rattle.network.specs.Sound.{Rising}

@@ -7,7 +7,7 @@ use mathlib.Core.Logic.{◌⊎◌, inl, inr}
 use mathlib.Core.List.{List}
 use lib.ListN.{length, get_or, set, length-set}
 use lib.Seq.{get_or-set_same, get_or-set_other}
-use Rattle.nearest.specs.Heap.{far, Changed, leaf_limit}
+use Rattle.nearest.specs.Heap.{far, leaf_limit}
 use Rattle.nearest.proofs.Tournament.{cleared}
 use Rattle.chains.specs.Chains.{mark_of, sum_of, On, here, later}
 use Rattle.chains.proofs.Halves.{on_zero, on_split}
@@ -53,15 +53,6 @@ pub record Relaxing (n : ℕ) (next ends : List ℕ) (a z : Keys) (first base i 
   pub each : (m : ℕ) → m < n → Moved n next ends a z first base m
   pub under : (j : ℕ) → On next first j → (On next i j) ⊎ (get_or z.best (mark_of ends j) 0 ≤ base + sum_of ends j)
   pub part : (j : ℕ) → On next i j → On next first j
-
-pub relax_start : (n : ℕ) (next ends best seg : List ℕ) (first base : ℕ) → Stage n best seg
-    → Relaxing n next ends (keys best seg) (keys best seg) first base first
-relax_start n next ends best seg first base st = record {
-  stage = st;
-  each = λ m h. still refl refl;
-  under = λ j o. inl o;
-  part = λ j o. o;
-}
 
 pub relax_end : (n : ℕ) (next ends best seg best' seg' : List ℕ) (first base i : ℕ)
     → Relaxing n next ends (keys best seg) (keys best' seg') first base i → i ≤ 0
@@ -143,18 +134,6 @@ stage_start n r best seg few ok lb ls fb fs = record {
     go : (m : ℕ) → m < n → Dec (m ≡ r) → get_or (set best r 0) m 0 ≤ get_or seg (n + m) 0
     go m h (yes e) = omega (arith, ap (λ (z : ℕ). get_or (set best r 0) z 0) e, get_or-set_same best r 0 0 (omega arith))
     go m h (no e) = omega (arith, get_or-set_other best r m 0 0 e, fb m h, fs (n + m) (omega arith))
-
-pub stage_close : (n m : ℕ) (best seg seg' : List ℕ) → Stage n best seg → m < n → Changed seg seg' n m far → Stage n best seg'
-stage_close n m best seg seg' st lt ch = record {
-  heap = ch.heap;
-  places = st.places;
-  over = λ x h. go x h (ℕ_discrete x m);
-  tops = st.tops;
-}
-  where
-    go : (x : ℕ) → x < n → Dec (x ≡ m) → get_or best x 0 ≤ get_or seg' (n + x) 0
-    go x h (yes e) = omega (arith, ch.here, ap (λ (z : ℕ). get_or seg' (n + z) 0) e, st.tops x h)
-    go x h (no e) = omega (arith, ch.others x h e, st.over x h)
 
 -- a mark's key falls to 0
 pub stage_set : (n r : ℕ) (best seg : List ℕ) → Stage n best seg → r < n → Stage n (set best r 0) seg

@@ -1,5 +1,5 @@
 -- The way back, written out. Assumes nothing.
-use Prim.Native.Nat.{ℕ, zero, suc, ◌+◌, ◌-◌, ◌/◌, ◌%◌, ◌≤◌, ◌<◌}
+use Prim.Native.Nat.{ℕ, zero, suc, ◌+◌, ◌-◌, ◌%◌, ◌≤◌, ◌<◌}
 use native.Mathlib.Omega.{arith}
 use native.Mathlib.Numerals.{add-one}
 use mathlib.Core.Path.{◌≡◌, refl, sym, ◌∙◌, ap, ap₂, subst}
@@ -7,7 +7,7 @@ use mathlib.Core.Bool.{Bool, true, false, true≢false}
 use mathlib.Core.List.Memᴰ
 use mathlib.Core.List.{List, [], ◌∷◌, Memᴰ}
 use mathlib.Core.Option.{Option, none, some, some-ne-none}
-use lib.ListN.{length, get_or, set, length-set}
+use lib.ListN.{length, get_or, set}
 use lib.Seq.{sets}
 use lib.Dec.{eqb}
 use Rattle.book.specs.Limits.{least_length}
@@ -84,10 +84,6 @@ module _ (n : ℕ) (sub : List Line) (sound : AllSound n sub) (roots : List ℕ)
 
 -- ---- one line of the walk
 
-pub way_low : {best ends : List ℕ} {m : ℕ} {hs : List ℕ} → Way best ends m hs → m < length best
-way_low (rooted l z) = l
-way_low (onward g u l p q e s w) = l
-
 pub walk_end : {best ends : List ℕ} {m : ℕ} {hs : List ℕ} → Way best ends m hs → get_or best m 0 ≡ 0 → (out : List ℕ) (c : ℕ)
     → Put hs out out c c
 walk_end (rooted l z) e out c = record { places = refl; count = omega arith }
@@ -101,35 +97,6 @@ abbrev pub back_mark : List ℕ → List ℕ → ℕ → ℕ
 back_mark best ends m = mark_of ends (flip (get_or best m 0 % halves))
 
 module _ (best ends out : List ℕ) (c m : ℕ) (pos : get_or best m 0 ≡ 0 → ⊥) where
-  room_of : {hs : List ℕ} → Way best ends m hs → c + length hs ≤ length out → c < length out
-  room_of (rooted l z) r = absurd (pos z)
-  room_of (onward g u l p q e s w) r = omega arith
-
-  pub walk_room : Leads best ends out c m → c < length out
-  walk_room l = room_of l.way l.room
-
-  falls_of : {hs : List ℕ} → Way best ends m hs → get_or best (back_mark best ends m) 0 / halves < get_or best m 0 / halves
-  falls_of (rooted l z) = absurd (pos z)
-  falls_of (onward g u l p q e s w) = let z : u ≡ (back_mark best ends m) = e
-      ∙ ap (λ (x : ℕ). mark_of ends x) q in omega (arith, s, ap (λ (x : ℕ). get_or best x 0) z)
-
-  -- "the distance falls at each step"
-  pub walk_falls : Leads best ends out c m → (t : ℕ) → get_or best m 0 / halves ≡ t → get_or best (back_mark best ends m) 0 / halves < t
-  walk_falls l t e = omega (arith, falls_of l.way)
-
-  next_of : {hs : List ℕ} → Way best ends m hs → halves ≤ length ends → c + length hs ≤ length out
-      → Leads best ends (set out c (back_half best m)) (c + 1) (back_mark best ends m)
-  next_of (rooted l z) t r = absurd (pos z)
-  next_of (onward g u {hs = hs} l p q e s w) t r = record {
-    ends_at = t;
-    hs = hs;
-    way = subst (λ (x : ℕ). Way best ends x hs) (e ∙ ap (λ (x : ℕ). mark_of ends x) q) w;
-    room = simp length-set (omega arith);
-  }
-
-  pub walk_next : Leads best ends out c m → Leads best ends (set out c (back_half best m)) (c + 1) (back_mark best ends m)
-  walk_next l = next_of l.way l.ends_at l.room
-
   pub walk_put : {out' : List ℕ} {a : ℕ} → Walked best ends (set out c (back_half best m)) out' (c + 1) (back_mark best ends m) a
       → Walked best ends out out' c m a
   walk_put f hs (rooted l z) = absurd (pos z)

@@ -3,7 +3,7 @@
 
 #![tactic(auto)]
 
-ghost use Rattle.std.specs.Prelude.{◌+◌, ◌*◌, ◌<◌, ◌≤◌};
+ghost use Rattle.std.specs.Prelude.{◌+◌, ◌*◌, ◌<◌, ◌≤◌, IfSome};
 ghost use Rattle.chains.specs.Chains.{Bounded, Chained, Heads};
 ghost use Rattle.search.specs.Direct.{LeastSum, Direct};
 ghost use Rattle.search.specs.Front.{limit, keys, Stage, Offered, Relaxed, RoomSearch, Two, Begun, Turned, Searched};
@@ -14,8 +14,8 @@ const LIMIT: u64 = 1152921504606846976;
 
 // Mark o is offered the key k.
 fn offer(best: &mut [u64], seg: &mut [u64], n: usize, o: usize, k: u64)
-    requires fact_1 { Stage n best.old seg.old }
-    requires fact_2 { o < n }
+    requires stage { Stage n best.old seg.old }
+    requires leaf { o < n }
     ensures { Offered n (keys best.old seg.old) (keys best.new seg.new) o k }
 {
     if k < best[o] {
@@ -61,10 +61,10 @@ fn begin(
     n: usize,
     r: usize,
 )
-    requires fact_1 { Bounded n ends.now }
-    requires fact_2 { Heads n head.now next.now }
-    requires fact_3 { RoomSearch n best.old seg.old }
-    requires fact_4 { r < n }
+    requires bounded { Bounded n ends.now }
+    requires heads { Heads n head.now next.now }
+    requires room { RoomSearch n best.old seg.old }
+    requires a_mark { r < n }
     ensures { Begun n head.now next.now ends.now best.new seg.new r }
 {
     nearest::clear(best, n);
@@ -104,7 +104,7 @@ pub fn turn(
     m
 }
 
-// Distances from the mark r over the chains, until the mark to is in or nothing is left.
+// Distances from the mark r over the chains, until the mark to is in or nothing is left, by at most a turn for each other mark.
 fn search(
     head: &[u64],
     next: &[u64],
@@ -115,15 +115,14 @@ fn search(
     r: usize,
     to: usize,
 ) -> bool
-    requires fact_1 { Bounded n ends.now }
-    requires fact_2 { Heads n head.now next.now }
-    requires fact_3 { RoomSearch n best.old seg.old }
-    requires fact_4 { Two n r to }
+    requires bounded { Bounded n ends.now }
+    requires heads { Heads n head.now next.now }
+    requires room { RoomSearch n best.old seg.old }
+    requires two { Two n r to }
     ensures { Searched n head.now next.now ends.now best.new r to result }
 {
     begin(head, next, ends, best, seg, n, r);
-    let mut k = 1;
-    while k + 1 < n {
+    for _ in 1..n - 1 {
         let m = turn(head, next, ends, best, seg, n, to);
         if m == 0 {
             return false;
@@ -131,7 +130,6 @@ fn search(
         if m == to {
             return true;
         }
-        k += 1;
     }
     false
 }
@@ -160,8 +158,8 @@ fn way(ends: &[u64], best: &[u64], out: &mut [u16], c: usize, m: usize) -> usize
 
 // The least sum of the halves on the chain from first on, or FAR.
 fn least_sum(next: &[u64], ends: &[u64], n: usize, first: usize) -> u64
-    requires fact_1 { Bounded n ends.now }
-    requires fact_2 { Chained next.now first }
+    requires bounded { Bounded n ends.now }
+    requires chained { Chained next.now first }
     ensures { LeastSum next.now ends.now first result }
 {
     let mut s = nearest::FAR;
@@ -174,22 +172,30 @@ fn least_sum(next: &[u64], ends: &[u64], n: usize, first: usize) -> u64
     s
 }
 
-// The half of the least line at the mark r, if it leads to the mark to; else 0. It needs no search: nothing is nearer.
-fn direct_half(head: &[u64], next: &[u64], ends: &[u64], n: usize, r: usize, to: usize) -> u64
-    requires fact_1 { Bounded n ends.now }
-    requires fact_2 { Heads n head.now next.now }
-    requires fact_3 { Two n r to }
-    ensures { Direct n head.now next.now ends.now r to result }
+// The half of the least line at the mark r, if it leads to the mark to. It needs no search: nothing is nearer.
+fn direct_half(
+    head: &[u64],
+    next: &[u64],
+    ends: &[u64],
+    n: usize,
+    r: usize,
+    to: usize,
+) -> Option<u64>
+    requires bounded { Bounded n ends.now }
+    requires heads { Heads n head.now next.now }
+    requires two { Two n r to }
+    ensures is_half { IfSome result (λ h. 0 < h) }
+    ensures direct { IfSome result (λ h. Direct n head.now next.now ends.now r to h) }
 {
     let s = least_sum(next, ends, n, head[r] as usize);
     if LIMIT <= s {
-        return 0;
+        return None;
     }
     let h = s % chains::HALVES;
     if (ends[h as usize] % chains::HALVES) as usize == to {
-        return h;
+        return Some(h);
     }
-    0
+    None
 }
 
 // The shortest path from the mark to back to the mark r.
@@ -209,8 +215,7 @@ pub fn path(
     requires fact_3 { Two n r to }
     ensures { Pathed n head.now next.now ends.now out.old out.new r to result }
 {
-    let h = direct_half(head, next, ends, n, r, to);
-    if 0 < h {
+    if let Some(h) = direct_half(head, next, ends, n, r, to) {
         out[0] = (h / 2 * 4 + 1 - h) as u16;
         return 1;
     }
