@@ -134,20 +134,3 @@ stage_start n r best seg few ok lb ls fb fs = record {
     go : (m : ℕ) → m < n → Dec (m ≡ r) → get_or (set best r 0) m 0 ≤ get_or seg (n + m) 0
     go m h (yes e) = omega (arith, ap (λ (z : ℕ). get_or (set best r 0) z 0) e, get_or-set_same best r 0 0 (omega arith))
     go m h (no e) = omega (arith, get_or-set_other best r m 0 0 e, fb m h, fs (n + m) (omega arith))
-
--- a mark's key falls to 0
-pub stage_set : (n r : ℕ) (best seg : List ℕ) → Stage n best seg → r < n → Stage n (set best r 0) seg
-stage_set n r best seg st ok = record {
-  heap = st.heap;
-  places = simp length-set st.places;
-  over = λ m h. go m h (ℕ_discrete m r);
-  tops = λ m h. top m h (ℕ_discrete m r);
-}
-  where
-    go : (m : ℕ) → m < n → Dec (m ≡ r) → get_or (set best r 0) m 0 ≤ get_or seg (n + m) 0
-    go m h (yes e) = omega (arith, ap (λ (z : ℕ). get_or (set best r 0) z 0) e, get_or-set_same best r 0 0 (omega (arith, st.places)))
-    go m h (no e) = omega (arith, get_or-set_other best r m 0 0 e, st.over m h)
-
-    top : (m : ℕ) → m < n → Dec (m ≡ r) → get_or (set best r 0) m 0 ≤ far
-    top m h (yes e) = omega (arith, ap (λ (z : ℕ). get_or (set best r 0) z 0) e, get_or-set_same best r 0 0 (omega (arith, st.places)))
-    top m h (no e) = omega (arith, get_or-set_other best r m 0 0 e, st.tops m h)

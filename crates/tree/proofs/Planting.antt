@@ -332,16 +332,6 @@ module _ (lines : List Line) (n : ℕ) (head next ends : List ℕ) (gv : Given l
       subst (λ (z : ℕ). Holding (grow lines (marks (n - 1)) z) best order ends) e
       (record { keyed = pl.front.keyed; entered = pl.entered })
 
--- ---- first_far
-
-pub first_next : (best : List ℕ) (i j : ℕ) → ((x : ℕ) → i ≤ x → x < j → get_or best x 0 ≡ hp.far → ⊥) → (get_or best j 0 ≡ hp.far → ⊥)
-    → (x : ℕ) → i ≤ x → x < j + 1 → get_or best x 0 ≡ hp.far → ⊥
-first_next best i j f g x a b e = go (ℕ_discrete x j)
-  where
-    go : Dec (x ≡ j) → ⊥
-    go (yes q) = g (ap (λ (z : ℕ). get_or best z 0) (sym q) ∙ e)
-    go (no q) = f x a (omega arith) e
-
 -- ---- sprout and plant
 
 pub stage_clear : (n : ℕ) (best seg : List ℕ) → n ≤ leaf_limit → 0 < n → n ≤ length best → 2 * n ≤ length seg

@@ -2,28 +2,22 @@
 
 #![tactic(auto)]
 
-ghost use Rattle.std.specs.Prelude.{◌+◌, ◌*◌, ◌<◌, ◌≤◌, length};
+ghost use Rattle.std.specs.Prelude.{◌+◌, ◌*◌, ◌<◌, ◌≤◌, length, unwrap_or, IfSome};
 ghost use Rattle.chains.specs.Chains.{Bounded, Heads};
 ghost use Rattle.search.specs.Front.{Stage};
 ghost use Rattle.tree.specs.Plant.{FirstFar, growing, Sprouted, Planted, Below, RoomTree};
 
-// The first place from i on that holds FAR, or n.
-fn first_far(best: &[u64], n: usize, i: usize) -> usize
-    requires fact_1 { n ≤ length best.now }
-    requires fact_2 { i ≤ n }
-    ensures { FirstFar best.now n i result }
+// The first place from i on that holds FAR, of those below n.
+fn first_far(best: &[u64], n: usize, i: usize) -> Option<usize>
+    requires places { n ≤ length best.now }
+    requires from { i ≤ n }
+    ensures first { FirstFar best.now n i (unwrap_or result n) }
+    ensures below { IfSome result (λ r. r < n) }
 {
-    let mut j = i;
-    while j < n {
-        if best[j] == nearest::FAR {
-            return j;
-        }
-        j += 1;
-    }
-    j
+    (i..n).find(|m| best[*m] == nearest::FAR)
 }
 
-// One mark more, the k-th: by the least key, or, where there is none, the next root.
+// One mark more, the k-th: by the least key, or, where there is none, the next root. The answer is where the next one is looked for.
 fn sprout(
     head: &[u64],
     next: &[u64],
@@ -35,10 +29,11 @@ fn sprout(
     k: usize,
     root: usize,
 ) -> usize
-    requires fact_1 { Bounded n ends.now }
-    requires fact_2 { Heads n head.now next.now }
-    requires fact_3 { Stage n best.old seg.old }
-    requires fact_4 { (root ≤ n) × (k < length order.old) }
+    requires bounded { Bounded n ends.now }
+    requires heads { Heads n head.now next.now }
+    requires stage { Stage n best.old seg.old }
+    requires root_ok { root ≤ n }
+    requires room { k < length order.old }
     ensures { Sprouted n head.now next.now ends.now
         (growing best.old seg.old order.old)
         (growing best.new seg.new order.new) k root result }
@@ -48,12 +43,12 @@ fn sprout(
         order[k] = m as u64;
         return root;
     }
-    let r = first_far(best, n, root);
-    if r < n {
-        best[r] = 0;
-        search::relax(next, ends, best, seg, n, head[r] as usize, 0);
-        order[k] = r as u64;
-    }
+    let Some(r) = first_far(best, n, root) else {
+        return n;
+    };
+    best[r] = 0;
+    search::relax(next, ends, best, seg, n, head[r] as usize, 0);
+    order[k] = r as u64;
     r
 }
 
@@ -77,9 +72,7 @@ pub fn plant(
     nearest::clear(best, n);
     nearest::clear(seg, n * 2);
     let mut root = 1;
-    let mut k = 0;
-    while k + 1 < n {
+    for k in 0..n - 1 {
         root = sprout(head, next, ends, best, seg, order, n, k, root);
-        k += 1;
     }
 }
