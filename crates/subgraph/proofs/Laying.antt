@@ -10,7 +10,7 @@ use mathlib.Core.Option.{Option, none, some, some-injective, some-ne-none, none-
 use lib.ListN.{length, get_or, length-append}
 use Rattle.network.specs.Standing.{Line}
 use Rattle.network.specs.Tree.{Tree, grow, marks, tree, tree_lines, lines1}
-use Rattle.network.specs.Subgraph.{only, numbers}
+use Rattle.network.specs.Subgraph.{numbers}
 use Rattle.network.proofs.Subgraph.{in_only, nos_is_in, of_tree_lines}
 use Rattle.network.proofs.Count.{unique}
 use Rattle.network.proofs.Flow.{ends_in}

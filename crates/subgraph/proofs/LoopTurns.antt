@@ -25,7 +25,7 @@ use Rattle.chains.specs.Link.{RoomChains, Fits, Joined, Wider}
 use Rattle.chains.specs.Listed.{Listed}
 use Rattle.chains.proofs.Halves.{line_from, line_to}
 use Rattle.chains.proofs.Joining.{bounded_fits}
-use Rattle.search.specs.Front.{RoomPath, Two, Held, Pathed, Written}
+use Rattle.search.specs.Front.{Two, Held, Pathed, Written}
 use Rattle.subgraph.specs.Drawn.{TreeDrawn}
 use Rattle.subgraph.specs.LoopTurn.{Taking, Takes, Turning, turning, Took, Reached, Queue, empty, next_is, Going}
 use Rattle.subgraph.proofs.Only.{in_first, in_more, in_cases}
@@ -272,18 +272,6 @@ module _ (n : ℕ) (lines : List Line) (close : List ℕ) where
     pub next_taking : {q : ℕ} {ends : List ℕ} → Listed lines n q ends → (x : Next)
         → Taking lines g.sub x.c n q (get_or close i 0) ends head next
     next_taking li x = record { listed = li; drawn = g.drawn; is_line = x.is_line; not_yet = x.not_yet; its = sym x.number }
-
-    pub next_takes : {q : ℕ} {ends best seg out : List ℕ} → Listed lines n q ends → Bounded n ends → RoomPath n best seg out → Next
-        → Takes n (get_or close i 0) ends head next best seg out
-    next_takes {q = q} li b room x = record {
-      bounded = b;
-      room = room;
-      q = q;
-      lines = lines;
-      sub = g.sub;
-      c = x.c;
-      taking = next_taking li x;
-    }
 
     pub going_next : {a z : Turning} {count : ℕ} (x : Next) → Took lines g.sub x.c n a z count
         → Going n (i + 1) lines close z.head z.next

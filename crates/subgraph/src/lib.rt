@@ -9,8 +9,8 @@ ghost use Rattle.subgraph.specs.LoopTurn.{turning, Takes, Taken};
 
 // The line by which a mark of this key came in joins, unless the mark is a root. The answer is the count of lines that joined.
 fn lay_mark(ends: &[u64], head: &mut [u64], next: &mut [u64], n: usize, key: u64) -> usize
-    requires fact_1 { Bounded n ends.now }
-    requires fact_2 { RoomChains n head.old next.old }
+    requires bounded { Bounded n ends.now }
+    requires room { RoomChains n head.old next.old }
     ensures { Laid ends.now head.old next.old head.new next.new key result }
 {
     if key == 0 {
@@ -35,10 +35,8 @@ pub fn lay_tree(
 {
     chains::zero(head, n);
     let mut count = 0;
-    let mut k = 0;
-    while k + 1 < n {
-        count += lay_mark(ends, head, next, n, best[order[k] as usize]);
-        k += 1;
+    for mark in order[..n - 1].iter() {
+        count += lay_mark(ends, head, next, n, best[*mark as usize]);
     }
     count
 }
