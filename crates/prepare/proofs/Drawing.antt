@@ -1,6 +1,7 @@
 -- The book is drawn line by line, from the last to the first. Assumes nothing.
 use Prim.Native.Nat.{ℕ, suc, ◌+◌, ◌*◌, ◌-◌, ◌≤◌, ◌<◌}
 use native.Mathlib.Omega.{arith}
+use native.Mathlib.Numerals.{add-one}
 use native.Mathlib.Decide.{ℕ_discrete}
 use mathlib.Core.Path.{◌≡◌, refl, sym, ◌∙◌, ap, subst}
 use mathlib.Core.Logic.{◌⊎◌, inl, inr}
@@ -14,7 +15,7 @@ use lib.Dec.{lit<}
 use Rattle.book.specs.Limits.{most_length}
 use Rattle.book.specs.Line.{line_words, from_field, to_field, difference_field, length_field, standing_field}
 use Rattle.book.specs.Line.{from_at, to_at, length_at, standing_at, entry_at, line_count}
-use Rattle.book.proofs.Places.{line_there, entry_field, entry_whole}
+use Rattle.book.proofs.Places.{line_there, entry_field}
 use Rattle.network.specs.Standing.{Line, standing}
 use Rattle.network.specs.Field.{HasLine, line_at, stands_from}
 use Rattle.network.proofs.Standing.{rising_standing, stands_all, stands_none, stands_not, stands_here}
@@ -22,11 +23,11 @@ use Rattle.laws.specs.Tests.{eq_z}
 use Rattle.laws.specs.Range.{Between}
 use Rattle.book.specs.Good.{GoodLine}
 use Rattle.chains.specs.Chains.{Half, fore, aft, mark_of, metres_of, Bounded, Told, Drawn, InOrder, Sound, AllSound, halves, number_limit}
-use Rattle.chains.specs.Link.{RoomChains, Fits, Joined, Wider}
+use Rattle.chains.specs.Link.{RoomChains, Joined, Wider}
 use Rattle.chains.proofs.Halves.{half_no, told_mark}
 use Rattle.chains.proofs.Joining.{join_draws, draws_none}
 use Rattle.chains.proofs.Order.{join_order, order_none}
-use Rattle.prepare.specs.Drawn.{Entry, end_of, drawing, Drew, withdrawn, drawn, RoomDraw, BookDrawn}
+use Rattle.prepare.specs.Drawn.{end_of, drawing, Drew, withdrawn, drawn, RoomDraw, BookDrawn}
 
 -- ---- a line of the book
 
@@ -301,55 +302,10 @@ module _ (n : ℕ) (ls : List ℤ) (j : ℕ) (ends head next ends₀ head₀ nex
   good_at : GoodLine (n - 1) ls (j - 1)
   good_at = room₀.good (j - 1) (omega arith)
 
-  pub entry_asked : Entry n j (part_at ls (j - 1)) ends head next
-  entry_asked = record {
-    whole = rw (part_is ls (j - 1)) (entry_whole ls (j - 1) (omega arith));
-    some_mark = room₀.some_mark;
-    few_marks = room₀.few_marks;
-    good = rw (part_is ls (j - 1)) (good_entry (n - 1) ls (j - 1) good_at);
-    number_ok = omega (arith, room₀.few);
-    ends_at = d.bounded.ends_at;
-    chains = room;
-  }
-
-  pub draw_turn : (ends' head' next' : List ℕ) → Drew j (part_at ls (j - 1)) (drawing ends head next) (drawing ends' head' next')
+  pub draw_turn : (ends' head' next' : List ℕ) → Drew (j - 1 + 1) (part_at ls (j - 1)) (drawing ends head next) (drawing ends' head' next')
       → DrawingAt n ls (j - 1) ends' head' next'
   draw_turn ends' head' next' dr =
       draw_next n ls (j - 1) ends head next ends' head' next' (omega arith) room₀.few room₀.few_marks room₀.some_mark room good_at
       (subst (λ (k : ℕ). DrawingAt n ls k ends head next) back_one d)
-      (subst (λ (k : ℕ). Drew k (entry_at ls (j - 1)) (drawing ends head next) (drawing ends' head' next')) back_one
+      (subst (λ (k : ℕ). Drew k (entry_at ls (j - 1)) (drawing ends head next) (drawing ends' head' next')) (add-one (j - 1))
       (rw (part_is ls (j - 1)) at dr))
-
--- ---- one line, by the numbers that were read
-
-module _ {n number : ℕ} {e : List ℤ} {ends head next : List ℕ} (en : Entry n number e ends head next) (f t l : ℕ)
-    (p : f ≡ nat_abs (from_at e 0)) (q : t ≡ nat_abs (to_at e 0)) (r : l ≡ nat_abs (length_at e 0)) where
-  pub entry_short : (f < n) × (t < n) × (l ≤ most_length)
-  entry_short = let g = en.good in
-      (omega (arith, g.from.high, en.some_mark), omega (arith, g.to.high, en.some_mark), omega (arith, g.long.high))
-
-  pub entry_fits : Fits n (set (set ends (number * 2) (l * halves + t)) (number * 2 + 1) (l * halves + f)) number
-  entry_fits = record {
-    number_ok = en.number_ok;
-    ends_at = simp length-set en.ends_at;
-    from_ok = omega (
-      arith,
-      entry_short,
-      get_or-set_same (set ends (number * 2) (l * halves + t)) (number * 2 + 1) (l * halves + f) 0
-          (simp length-set (omega (arith, en.ends_at, en.number_ok))),
-      en.few_marks,
-    );
-    to_ok = omega (
-      arith,
-      entry_short,
-      get_or-set_other (set ends (number * 2) (l * halves + t)) (number * 2 + 1) (number * 2) (l * halves + f) 0 (λ z. omega arith)
-          ∙ get_or-set_same ends (number * 2) (l * halves + t) 0 (omega (arith, en.ends_at, en.number_ok)),
-      en.few_marks,
-    );
-  }
-
-  pub drew_is : {head' next' : List ℕ} → eq_z (standing_at e 0) (pos 0) ≡ false
-      → Joined (set (set ends (number * 2) (l * halves + t)) (number * 2 + 1) (l * halves + f)) head next head' next' number
-      → Drew number e (drawing ends head next)
-      (drawing (set (set ends (number * 2) (l * halves + t)) (number * 2 + 1) (l * halves + f)) head' next')
-  drew_is st jn = drawn st (rw (p, q, r)) jn

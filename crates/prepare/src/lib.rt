@@ -41,11 +41,9 @@ fn draw_book(lines: &[i64], ends: &mut [u64], head: &mut [u64], next: &mut [u64]
 {
     chains::zero(ends, chains::HALVES as usize);
     chains::zero(head, n);
-    let mut j = lines.len() / Line::WORDS;
-    while 0 < j {
-        let at = (j - 1) * Line::WORDS;
-        draw_line(&lines[at..at + Line::WORDS], ends, head, next, n, j);
-        j -= 1;
+    for i in (0..lines.len() / Line::WORDS).rev() {
+        let at = i * Line::WORDS;
+        draw_line(&lines[at..at + Line::WORDS], ends, head, next, n, i + 1);
     }
 }
 
