@@ -268,11 +268,6 @@ module _ (n : ℕ) (lines : List Line) (close : List ℕ) where
               queue = q;
             }
 
-    -- its turn has what it asks for
-    pub next_taking : {q : ℕ} {ends : List ℕ} → Listed lines n q ends → (x : Next)
-        → Taking lines g.sub x.c n q (get_or close i 0) ends head next
-    next_taking li x = record { listed = li; drawn = g.drawn; is_line = x.is_line; not_yet = x.not_yet; its = sym x.number }
-
     pub going_next : {a z : Turning} {count : ℕ} (x : Next) → Took lines g.sub x.c n a z count
         → Going n (i + 1) lines close z.head z.next
     going_next x t = record {

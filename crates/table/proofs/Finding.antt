@@ -22,7 +22,7 @@ use Rattle.loops.proofs.Table.{codes_length}
 use Rattle.network.specs.Codes.{codes}
 use Rattle.chains.specs.Listed.{Listed}
 use Rattle.prepare.specs.Prepared.{BookPlanted}
-use Rattle.table.specs.Ordered.{Orders, Started}
+use Rattle.table.specs.Ordered.{Started}
 use Rattle.table.specs.Filled.{RoomTable, RoomWork, found_in, Ready, Fills, Filled}
 use Rattle.table.specs.declared.Found.{Found}
 
@@ -46,26 +46,6 @@ module _ (k : Book) (ls : List ℤ) (g : GoodLines k ls) where
   listed_of {ends = ends} p = subst (λ (q : ℕ). Listed (standing ls) (k.marks + 1) (q + 1) ends) lines_are p.listed
 
   module _ {ends head next best seg order close : List ℕ} (w : RoomWork ends head next best seg order close) where
-    -- after the book is planted, in tables that kept their lengths
-    pub orders_of : {ends' head' next' best' order' : List ℕ} → BookPlanted (k.marks + 1) ls ends' head' next' best' order'
-        → length head' ≡ length head → length next' ≡ length next → length best' ≡ length best → length order' ≡ length order
-        → Orders (k.marks + 1) (k.lines + 1) ends' head' next' best' order' close
-    orders_of p lh ln lb lo = record {
-      some_mark = omega arith;
-      few_marks = omega (arith, g.few_marks);
-      some_line = omega arith;
-      few_lines = omega (arith, g.good.few);
-      bounded = p.bounded;
-      below = p.below;
-      chains = record { heads = omega (arith, w.book.by_mark.0, g.few_marks); nexts = omega (arith, w.book.by_half.1) };
-      bests = omega (arith, w.book.by_mark, g.few_marks);
-      orders = omega (arith, w.book.by_mark, g.few_marks);
-      closes = omega (arith, w.by_loop, g.good.few);
-      lines = standing ls;
-      listed = listed_of p;
-      holding = p.holding;
-    }
-
     -- and after the closing lines are in their order
     module _ {ends' head₁ next₁ best' order' head' next' close' : List ℕ} {found : Found}
         (p : BookPlanted (k.marks + 1) ls ends' head₁ next₁ best' order')

@@ -42,15 +42,13 @@ fn fill(
         runs.new }
 {
     let mut at = 0;
-    let mut i = 0;
-    while i < count {
-        let number = close[i] as usize;
+    for (i, closing) in close[..count].iter().enumerate() {
+        let number = *closing as usize;
         starts[i] = at as u64;
         runs[at] = (number * 2) as u16;
         at = at
             + 1
             + subgraph::take_loop(ends, head, next, best, seg, &mut runs[at + 1..], n, number);
-        i += 1;
     }
     starts[count] = at as u64;
 }
@@ -69,11 +67,11 @@ fn find_in(
     starts: &mut [u64],
     runs: &mut [u16],
 ) -> Found
-    requires fact_1 { GoodLines book lines.now }
-    requires fact_2 { RoomTable starts.old runs.old }
-    requires fact_3 { RoomWork ends.old head.old next.old best.old seg.old order.old close.old }
-    ensures fact_1 { result ≡ found_in book.marks lines.now }
-    ensures fact_2 { Table (loops_of book.marks lines.now) starts.new runs.new result.count }
+    requires good { GoodLines book lines.now }
+    requires room { RoomTable starts.old runs.old }
+    requires work { RoomWork ends.old head.old next.old best.old seg.old order.old close.old }
+    ensures found { result ≡ found_in book.marks lines.now }
+    ensures table { Table (loops_of book.marks lines.now) starts.new runs.new result.count }
 {
     let n = book.marks + 1;
     let q = book.lines + 1;
