@@ -1,14 +1,13 @@
 -- Laws of `offer` and `relax`. Assumes nothing.
-use Prim.Native.Nat.{ℕ, ◌+◌, ◌*◌, ◌≤◌, ◌<◌}
+use Prim.Native.Nat.{ℕ, ◌+◌, ◌≤◌, ◌<◌}
 use native.Mathlib.Omega.{arith}
 use native.Mathlib.Decide.{ℕ_discrete}
 use mathlib.Core.Path.{◌≡◌, refl, sym, ◌∙◌, ap, subst}
 use mathlib.Core.Logic.{◌⊎◌, inl, inr}
 use mathlib.Core.List.{List}
-use lib.ListN.{length, get_or, set, length-set}
+use lib.ListN.{get_or, length-set}
 use lib.Seq.{get_or-set_same, get_or-set_other}
-use Rattle.nearest.specs.Heap.{far, leaf_limit}
-use Rattle.nearest.proofs.Tournament.{cleared}
+use Rattle.nearest.specs.Heap.{far}
 use Rattle.chains.specs.Chains.{mark_of, sum_of, On, here, later}
 use Rattle.chains.proofs.Halves.{on_zero, on_split}
 use Rattle.search.specs.Front.{Keys, keys, Stage, Offered, kept, fell, Moved, still, moved, Relaxed}
@@ -114,23 +113,3 @@ module _ (n : ℕ) (next ends best seg b₁ s₁ b₂ s₂ : List ℕ) (first ba
           → (On next (get_or next i 0) j) ⊎ (get_or b₂ (mark_of ends j) 0 ≤ base + sum_of ends j)
       go j (inl o) = hit j (on_split o)
       go j (inr h) = inr (omega (arith, h, offered_le n b₁ s₁ b₂ s₂ (mark_of ends i) (base + sum_of ends i) x.stage lt y (mark_of ends j)))
-
--- ---- stages of a search
-
-pub stage_start : (n r : ℕ) (best seg : List ℕ) → n ≤ leaf_limit → r < n → n ≤ length best → 2 * n ≤ length seg
-    → ((i : ℕ) → i < n → get_or best i 0 ≡ far)
-    → ((i : ℕ) → i < 2 * n → get_or seg i 0 ≡ far) → Stage n (set best r 0) seg
-stage_start n r best seg few ok lb ls fb fs = record {
-  heap = cleared seg n few (omega arith) ls fs;
-  places = simp length-set lb;
-  over = λ m h. go m h (ℕ_discrete m r);
-  tops = λ m h. top m h (ℕ_discrete m r);
-}
-  where
-    top : (m : ℕ) → m < n → Dec (m ≡ r) → get_or (set best r 0) m 0 ≤ far
-    top m h (yes e) = omega (arith, ap (λ (z : ℕ). get_or (set best r 0) z 0) e, get_or-set_same best r 0 0 (omega arith))
-    top m h (no e) = omega (arith, get_or-set_other best r m 0 0 e, fb m h)
-
-    go : (m : ℕ) → m < n → Dec (m ≡ r) → get_or (set best r 0) m 0 ≤ get_or seg (n + m) 0
-    go m h (yes e) = omega (arith, ap (λ (z : ℕ). get_or (set best r 0) z 0) e, get_or-set_same best r 0 0 (omega arith))
-    go m h (no e) = omega (arith, get_or-set_other best r m 0 0 e, fb m h, fs (n + m) (omega arith))

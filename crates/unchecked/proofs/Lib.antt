@@ -2,4 +2,3 @@ pub mod Following
 pub mod Marking
 pub mod Listing
 pub mod Checking
-pub mod Planted

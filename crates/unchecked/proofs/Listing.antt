@@ -44,10 +44,6 @@ pub record Writing (ends marked : List ℕ) (q : ℕ) (out₀ out : List ℕ) (c
   pub places : sets out c (open_from ends marked number (q - number)) ≡ sets out₀ 0 (open_from ends marked 1 (q - 1))
   pub count : c + length (open_from ends marked number (q - number)) ≡ length (open_from ends marked 1 (q - 1))
 
--- at the start nothing is written
-pub writing_start : (ends marked : List ℕ) (q : ℕ) (out : List ℕ) → Writing ends marked q out out 0 1
-writing_start ends marked q out = record { places = refl; count = omega arith }
-
 module _ {ends marked : List ℕ} {q : ℕ} {out₀ out : List ℕ} {c number : ℕ} (w : Writing ends marked q out₀ out c number) where
   module _ (lt : number < q) where
     -- an open line's number is written

@@ -17,7 +17,7 @@ use Rattle.network.proofs.Subgraph.{or_right}
 use Rattle.loops.specs.Crossed.{on_way, differ, crosses}
 use Rattle.loops.proofs.Ways.{differ_turn, same_differ}
 use Rattle.chains.specs.Chains.{fore, aft, mark_of, number_limit}
-use Rattle.unchecked.specs.Ways.{checked_mark, is_marked, IsMark, TreeHeld, mark_limit, Climbed, Follows, Followed}
+use Rattle.unchecked.specs.Ways.{checked_mark, is_marked, IsMark, TreeHeld, Climbed, Follows, Followed}
 use Rattle.unchecked.proofs.Following.{held_mark, distance_at, Step, step_at, meet}
 
 -- ---- one mark more
@@ -79,9 +79,6 @@ follows_turn p =
     record { marks = p.marks; n = p.n; bests = p.bests; lines = p.lines; held = p.held; u_is = p.v_is; v_is = p.u_is }
 
 module _ {ends best marked : List ℕ} {u v : ℕ} (p : Follows ends best marked u v) where
-  pub u_low : u < mark_limit
-  u_low = omega (arith, p.u_is.1, p.bests)
-
   -- where the ways meet nothing is left to mark
   pub followed_met : get_or best u 0 ≡ get_or best v 0 → Followed ends best marked marked u v
   followed_met e n lines t iu iv j = rw (same_differ _ _ (meet n lines ends best t u v iu iv e j), or-false)

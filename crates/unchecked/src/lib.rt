@@ -74,8 +74,9 @@ fn check_loop(ends: &[u64; HALVES], best: &[u64; MARKS], marked: &mut [u64; NUMB
 
 // The line of this number stands, and neither of its ends came in by it: it closes a loop.
 fn closes(ends: &[u64], best: &[u64], number: usize) -> bool
-    requires fact_1 { number * 2 + 1 < length ends.now }
-    requires fact_2 { (mark_of ends.now (number * 2) < length best.now) × (mark_of ends.now (number * 2 + 1) < length best.now) }
+    requires halves { number * 2 + 1 < length ends.now }
+    requires to_known { mark_of ends.now (number * 2) < length best.now }
+    requires from_known { mark_of ends.now (number * 2 + 1) < length best.now }
     ensures { result ≡ closes_at ends.now best.now number }
 {
     let e = ends[number * 2];
@@ -98,8 +99,8 @@ fn check_line(
     number: usize,
     q: usize,
 )
-    requires fact_1 { Closes ends.now best.now marked.old q }
-    requires fact_2 { number < q }
+    requires closes { Closes ends.now best.now marked.old q }
+    requires a_number { number < q }
     ensures passed { Passed ends.now best.now marked.old marked.new number }
     ensures marked_len_unchanged { length marked.new ≡ length marked.old }
 {
@@ -115,17 +116,15 @@ fn check_lines(ends: &[u64; HALVES], best: &[u64; MARKS], marked: &mut [u64; NUM
     ensures { LinesChecked ends.now best.now marked.new q }
 {
     chains::zero(marked, NUMBERS);
-    let mut number = 1;
-    while number < q {
+    for number in 1..q {
         check_line(ends, best, marked, number, q);
-        number += 1;
     }
 }
 
 // The line of this number stands and is not marked.
 fn is_open(ends: &[u64], marked: &[u64], number: usize) -> bool
-    requires fact_1 { number * 2 < length ends.now }
-    requires fact_2 { number < length marked.now }
+    requires halves { number * 2 < length ends.now }
+    requires marks { number < length marked.now }
     ensures { result ≡ is_open ends.now marked.now number }
 {
     if ends[number * 2] == 0 {
@@ -140,13 +139,11 @@ fn list_open(ends: &[u64], marked: &[u64], out: &mut [u64], q: usize) -> usize
     ensures { Put (open_from ends.now marked.now 1 (q - 1)) out.old out.new result }
 {
     let mut c = 0;
-    let mut number = 1;
-    while number < q {
+    for number in 1..q {
         if is_open(ends, marked, number) {
             out[c] = number as u64;
             c += 1;
         }
-        number += 1;
     }
     c
 }
