@@ -40,10 +40,10 @@ pub record CountedTo (rows : List ℕ) (n : ℕ) (ends : List ℕ) (i : ℕ) : T
 -- row i is counted: first its first mark, then its last
 module _ (rows ends : List ℕ) (i n : ℕ) (few : length rows ≤ most_lines) (between : Between rows n)
     (h : i < length rows) (t : CountedTo rows n ends i) (first : ℕ) (is_first : first ≡ first_of (get_or rows i 0)) where
-  pub first_asked : (first < length ends) × (get_or ends first 0 ≤ 2 * most_lines)
-  first_asked =
+  pub first_few : get_or ends first 0 ≤ 2 * most_lines
+  first_few =
       let b : first < length ends = omega (arith, (between i h).0, t.as_long) in
-      (b, omega (arith, t.counted first b, ends_few first rows))
+      omega (arith, t.counted first b, ends_few first rows)
 
   module _ (one : List ℕ) (is_one : one ≡ one_more ends first) (last : ℕ) (is_last : last ≡ last_of (get_or rows i 0)) where
     one_length : length one ≡ length ends
@@ -54,13 +54,13 @@ module _ (rows ends : List ℕ) (i n : ℕ) (few : length rows ≤ most_lines) (
         ap (λ (l : List ℕ). get_or l m 0) is_one ∙ one_more_lem ends first m (omega (arith, one_length))
         ∙ ap (λ (f : ℕ). bit (eqb f m) + get_or ends m 0) is_first
 
-    pub last_asked : (last < length one) × (get_or one last 0 ≤ 2 * most_lines)
+    pub last_few : get_or one last 0 ≤ 2 * most_lines
     unfolding row_ends
-    last_asked =
+    last_few =
         let b : last < length one = omega (arith, (between i h).1, one_length, t.as_long) in
         let k : last < length ends = omega (arith, one_length) in
         let s = ap (row_ends last) (drop-cons rows i 0 h) in
-        (b, omega (arith, at_one last b, t.counted last k, ends_few last rows))
+        omega (arith, at_one last b, t.counted last k, ends_few last rows)
 
     module _ (both : List ℕ) (is_both : both ≡ one_more one last) where
       both_length : length both ≡ length one

@@ -50,7 +50,7 @@ module _ {b : ℕ} {rows₀ runs₀ : List ℕ} {c₀ : Counts} {rows runs : Lis
 module _ {b : ℕ} {rows₀ runs₀ : List ℕ} {c₀ : Counts} {rows runs : List ℕ} {c : Counts} (g : AllGoing b rows₀ runs₀ c₀ rows runs c)
     (rows' runs' : List ℕ) (c' : Counts) (f : Stepped b c rows runs rows' runs' c') where
   -- a step was made
-  pub going_next : (c.links ≡ c'.links → ⊥) → AllGoing b rows₀ runs₀ c₀ rows' runs' c'
+  pub going_next : c'.links < c.links → AllGoing b rows₀ runs₀ c₀ rows' runs' c'
   unfolding steps
   going_next d = record { of = λ lines s₀ st t. one lines s₀ (g.of lines s₀ st t) }
     where
@@ -72,19 +72,7 @@ module _ {b : ℕ} {rows₀ runs₀ : List ℕ} {c₀ : Counts} {rows runs : Lis
             leads = one_more n ∙ x.leads;
           }
           go (inr none) =
-              absurd (d (x.tabled.links_are ∙ ap (λ (z : Sketch). length z.links) (sym (none_made b x.sketch none))
-              ∙ sym u.links_are))
-
-  -- and the links are one fewer
-  pub fewer : StageIn b rows₀ runs₀ c₀ → (c.links ≡ c'.links → ⊥) → c'.links < c.links
-  fewer e d = let x = stage_in g e in go x (f x.lines x.sketch x.stage x.tabled) (step_is b x.sketch x.stage.rises)
-    where
-      go : (x : StageIn b rows runs c) → Tabled (step b x.sketch) rows' runs' c'
-          → Next b x.sketch (step b x.sketch) ⊎ NoneLeft b x.sketch → c'.links < c.links
-      go x u (inl n) = omega (arith, one_less n, x.tabled.links_are, u.links_are)
-      go x u (inr none) =
-          absurd (d (x.tabled.links_are ∙ ap (λ (z : Sketch). length z.links) (sym (none_made b x.sketch none))
-          ∙ sym u.links_are))
+              absurd (omega (arith, x.tabled.links_are, u.links_are, ap (λ (z : Sketch). length z.links) (none_made b x.sketch none)))
 
   -- none was
   pub going_end : c.links ≡ c'.links → StepsTaken b c₀ rows₀ runs₀ rows' runs' c'

@@ -6,7 +6,7 @@ use mathlib.Core.List.{List, [], ◌∷◌, ◌++◌, map, append_assoc, append-
 use lib.ListN.{length, length-append, length-map}
 use Rattle.book.specs.Limits.{most_lines}
 use Rattle.links.specs.Link.{Link, lower_first}
-use Rattle.links.specs.Sketch.{Sketch, sketch, finished}
+use Rattle.links.specs.Sketch.{Sketch, finished}
 use Rattle.joins.specs.Tables.{Holds, LinkAt, Becomes}
 use Rattle.joins.specs.Step.{Tabled, SketchIn, Finished}
 use Rattle.joins.specs.declared.Counts.{Counts}

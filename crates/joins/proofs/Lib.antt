@@ -1,6 +1,5 @@
 pub mod Sums
 pub mod Turned
-pub mod Behind
 pub mod Lowest
 pub mod Counted
 pub mod Codes

@@ -6,10 +6,14 @@ use mathlib.Core.Logic.{◌⊎◌, inl, inr}
 use mathlib.Core.Bool.{true, false}
 use mathlib.Core.List.Memᴰ
 use mathlib.Core.List.{List, [], ◌∷◌, ◌++◌, map, append_assoc, append-nil, Memᴰ}
-use lib.IntN.{ℤ, pos, nat_abs}
+use lib.IntN.{ℤ, pos, negsuc, nat_abs}
 use lib.ListN.{length, set, length-append, length-map}
 use lib.Seq.{set_at}
+use borrow.Author.Tests.{eq-eqb, ne_eqb}
+use mir.Syntax.{w64}
+use mir.Val.{of_z}
 use Rattle.laws.specs.Tests.{eq_z}
+use Rattle.laws.specs.Range.{Between}
 use Rattle.book.specs.Line.{from_at, to_at, standing_at}
 use Rattle.book.specs.Good.{GoodLines}
 use Rattle.book.specs.declared.Book.{Book}
@@ -63,14 +67,28 @@ own_append : (ls : List Line) (l : Line) → map own_link (ls ++ (l ∷ [])) ≡
 own_append [] l = refl
 own_append (x ∷ ls) l = ap (λ (r : List Link). own_link x ∷ r) (own_append ls l)
 
+-- whether a line is withdrawn, by the bits of its field
+withdrawn : (z : ℤ) → Between 0 1 z → of_z w64 z ≡ 0 → eq_z z (pos 0) ≡ true
+unfolding eq_z
+withdrawn (pos n) b e = eq-eqb n 0 e
+withdrawn (negsuc n) b e = let p = b.is in cc
+
+not_withdrawn : (z : ℤ) → (of_z w64 z ≡ 0 → ⊥) → eq_z z (pos 0) ≡ false
+unfolding eq_z
+not_withdrawn (pos n) d = ne_eqb n 0 d
+not_withdrawn (negsuc n) d = refl
+
 module _ (k : Book) (lines : List ℤ) (g : GoodLines k lines) (i links : ℕ) (h : i < k.lines) {rows runs : List ℕ}
     (t : BegunTo lines i links rows runs) where
+  abbrev good : Place lines k.marks k.lines i
+  good = place_of_lem lines k.marks k.lines i g.good h
+
   -- a withdrawn line is passed over
-  pub begun_not : eq_z (standing_at lines i) (pos 0) ≡ true → BegunTo lines (i + 1) links rows runs
+  pub begun_not : of_z w64 (standing_at lines i) ≡ 0 → BegunTo lines (i + 1) links rows runs
   begun_not e = record {
     own = t.own;
     are = t.are
-        ∙ ap (λ (l : List Line). t.own ++ l) (sym (stands_not lines i (place_of_lem lines k.marks k.lines i g.good h).whole e));
+        ∙ ap (λ (l : List Line). t.own ++ l) (sym (stands_not lines i good.whole (withdrawn (standing_at lines i) good.good.standing e)));
     count = t.count;
     held = t.held;
     codes_are = t.codes_are;
@@ -78,9 +96,6 @@ module _ (k : Book) (lines : List ℤ) (g : GoodLines k lines) (i links : ℕ) (
 
   abbrev its : Line
   its = line_here lines i
-
-  abbrev good : Place lines k.marks k.lines i
-  good = place_of_lem lines k.marks k.lines i g.good h
 
   small_own : Small (own_link its)
   small_own = record {
@@ -90,7 +105,7 @@ module _ (k : Book) (lines : List ℤ) (g : GoodLines k lines) (i links : ℕ) (
   }
 
   -- a standing line gets its link
-  module _ (e : eq_z (standing_at lines i) (pos 0) ≡ false) (from to row code : ℕ) (is_from : from ≡ nat_abs (from_at lines i))
+  module _ (e : of_z w64 (standing_at lines i) ≡ 0 → ⊥) (from to row code : ℕ) (is_from : from ≡ nat_abs (from_at lines i))
       (is_to : to ≡ nat_abs (to_at lines i)) (is_row : row ≡ row_of from to 1)
       (is_code : code ≡ (i + 1) * 2) (rows_fit : links < length rows)
       (Runs-Fit : links < length runs) where
@@ -135,7 +150,8 @@ module _ (k : Book) (lines : List ℤ) (g : GoodLines k lines) (i links : ℕ) (
     pub begun_next : BegunTo lines (i + 1) (links + 1) (set rows links row) (set runs links code)
     begun_next = record {
       own = t.own ++ (its ∷ []);
-      are = t.are ∙ ap (λ (l : List Line). t.own ++ l) (stands_here lines i good.whole good.good.standing e)
+      are = t.are ∙ ap (λ (l : List Line). t.own ++ l) (stands_here lines i good.whole good.good.standing
+          (not_withdrawn (standing_at lines i) e))
           ∙ sym (append_assoc t.own (its ∷ []) (stands_from lines (i + 1)));
       count = length-append t.own (its ∷ []) ∙ omega (arith, t.count);
       held = record {

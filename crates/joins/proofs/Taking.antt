@@ -9,7 +9,8 @@ use mathlib.Core.List.{List, [], ◌∷◌, ◌++◌, append_assoc, append-nil, 
 use lib.ListN.{length, take, get_or, length-append, length-map}
 use lib.Seq.{take_at}
 use borrow.Rule.Slice.PartMut.{mid_of}
-use Rattle.laws.specs.Scan.{first_bad}
+use Rattle.std.specs.Prelude.{Option, Some, IsSome}
+use Rattle.std.specs.List.{position}
 use Rattle.book.specs.Limits.{most_lines}
 use Rattle.links.specs.Link.{Link, read_from, read_to, joined, begun}
 use Rattle.links.specs.Ends.{ends_at, has_end, TwoEnds}
@@ -95,34 +96,35 @@ module _ (m : ℕ) {s : Sketch} {rows runs : List ℕ} {c : Counts} (t : Tabled 
   abbrev f : FirstOf (has_end m) s.links
   f = first_end
 
+  spur_place : position (row_has_end m) (take c.links rows) ≡ Some (length f.before)
+  spur_place =
+      place_of_lem (has_end m) (row_has_end m) (λ x k. has_end_of x k m) f.before f.its f.after
+      (λ y i. links_small t y (subst (Memᴰ y) (sym f.links_are) i)) f.none_before f.holds (take c.links rows)
+      (link_rows t ∙ ap rows_of f.links_are)
+
+  -- there is such a row
+  pub spur_there : (found : Option ℕ) → found ≡ position (row_has_end m) (take c.links rows) → IsSome found
+  spur_there found e = rw (e ∙ spur_place)
+
   -- where it is found
-  module _ (r : ℕ) (found : r ≡ first_bad (λ i. row_has_end m (get_or (take c.links rows) i 0)) (length (take c.links rows))) where
-    spur_found : r ≡ suc (length f.before)
-    spur_found =
-        found ∙ place_of_lem (has_end m) (row_has_end m) (λ x k. has_end_of x k m) f.before f.its f.after
-        (λ y i. links_small t y (subst (Memᴰ y) (sym f.links_are) i)) f.none_before f.holds (take c.links rows)
-        (link_rows t ∙ ap rows_of f.links_are)
-
-    pub spur_there : 0 < r
-    spur_there = omega (arith, spur_found)
-
-    at_spur : length f.before ≡ r - 1
-    at_spur = omega (arith, spur_found)
+  module _ (i : ℕ) (found : Option ℕ) (is_found : found ≡ position (row_has_end m) (take c.links rows)) (at : found ≡ Some i) where
+    at_spur : length f.before ≡ i
+    at_spur = let p = sym spur_place ∙ sym is_found ∙ at in cc
 
     around : Holds (f.before ++ f.its ∷ (f.after ++ (s.spurs ++ s.loops))) rows runs
     around = held_around t f.before f.its f.after f.links_are
 
-    pub spur_asked : length rows ≤ most_lines → LinkAt (r - 1) rows runs
-    spur_asked few = link_at f.before f.its (f.after ++ (s.spurs ++ s.loops)) rows runs (r - 1) at_spur around few
+    pub spur_asked : length rows ≤ most_lines → LinkAt i rows runs
+    spur_asked few = link_at f.before f.its (f.after ++ (s.spurs ++ s.loops)) rows runs i at_spur around few
 
     -- read from its mark
-    module _ (rows₁ runs₁ : List ℕ) (b : Becomes (λ x. read_from m x) (r - 1) rows runs rows₁ runs₁) where
+    module _ (rows₁ runs₁ : List ℕ) (b : Becomes (λ x. read_from m x) i rows runs rows₁ runs₁) where
       read : Holds (f.before ++ ((read_from m f.its ∷ (f.after ++ s.spurs)) ++ s.loops)) rows₁ runs₁
       read =
           held_spurs t f.before f.its f.after f.links_are (read_from m f.its)
           (b f.before f.its (f.after ++ (s.spurs ++ s.loops)) at_spur around)
 
-      up_to : r - 1 + suc (length (f.after ++ s.spurs)) ≡ c.links + c.spurs
+      up_to : i + suc (length (f.after ++ s.spurs)) ≡ c.links + c.spurs
       up_to =
           omega (
             arith,
@@ -132,13 +134,13 @@ module _ (m : ℕ) {s : Sketch} {rows runs : List ℕ} {c : Counts} (t : Tabled 
             length-append f.after s.spurs,
           )
 
-      pub spur_moves : length rows₁ ≤ most_lines → Behind (r - 1) (c.links + c.spurs) rows₁ runs₁
+      pub spur_moves : length rows₁ ≤ most_lines → Behind i (c.links + c.spurs) rows₁ runs₁
       spur_moves few =
-          is_behind f.before (read_from m f.its) (f.after ++ s.spurs) s.loops rows₁ runs₁ (r - 1) (c.links + c.spurs)
+          is_behind f.before (read_from m f.its) (f.after ++ s.spurs) s.loops rows₁ runs₁ i (c.links + c.spurs)
           at_spur up_to read few
 
       -- and moved behind the spurs
-      pub spur_taken : (rows₂ runs₂ : List ℕ) → GoesBehind (r - 1) (c.links + c.spurs) rows₁ runs₁ rows₂ runs₂
+      pub spur_taken : (rows₂ runs₂ : List ℕ) → GoesBehind i (c.links + c.spurs) rows₁ runs₁ rows₂ runs₂
           → Tabled (spur_off m s) rows₂ runs₂ (record { links = c.links - 1; spurs = c.spurs + 1; loops = c.loops })
       spur_taken rows₂ runs₂ g =
           subst (λ (z : Sketch). Tabled z rows₂ runs₂ (record { links = c.links - 1; spurs = c.spurs + 1; loops = c.loops }))
@@ -218,54 +220,56 @@ module _ (m : ℕ) {s : Sketch} {rows runs : List ℕ} {c : Counts} (t : Tabled 
       t.links_are ∙ ap length two.links_are ∙ length-append two.before (two.one ∷ (two.between ++ (two.other ∷ two.after)))
       ∙ omega (arith, length-append two.between (two.other ∷ two.after))
 
-  module _ (r : ℕ) (found : r ≡ first_bad (λ i. row_has_end m (get_or (take c.links rows) i 0)) (length (take c.links rows))) where
-    one_found : r ≡ suc (length two.before)
-    one_found =
-        found
-        ∙ place_of_lem (has_end m) (row_has_end m) (λ x k. has_end_of x k m) two.before two.one (two.between ++ (two.other ∷ two.after))
-        (λ y i. links_small t y (subst (Memᴰ y) (sym two.links_are) i)) two.none_before two.one_there (take c.links rows)
-        (link_rows t ∙ ap rows_of two.links_are)
+  one_place : position (row_has_end m) (take c.links rows) ≡ Some (length two.before)
+  one_place =
+      place_of_lem (has_end m) (row_has_end m) (λ x k. has_end_of x k m) two.before two.one (two.between ++ (two.other ∷ two.after))
+      (λ y i. links_small t y (subst (Memᴰ y) (sym two.links_are) i)) two.none_before two.one_there (take c.links rows)
+      (link_rows t ∙ ap rows_of two.links_are)
 
-    at_one : length two.before ≡ r - 1
-    at_one = omega (arith, one_found)
+  pub one_there : (found : Option ℕ) → found ≡ position (row_has_end m) (take c.links rows) → IsSome found
+  one_there found e = rw (e ∙ one_place)
 
-    pub one_there : 0 < r
-    one_there = omega (arith, one_found)
+  module _ (i : ℕ) (found : Option ℕ) (is_found : found ≡ position (row_has_end m) (take c.links rows)) (at : found ≡ Some i) where
+    at_one : length two.before ≡ i
+    at_one = let p = sym one_place ∙ sym is_found ∙ at in cc
 
-    pub one_before : r ≤ c.links
-    one_before = omega (arith, one_found, count)
+    -- the rows behind the first
+    abbrev behind : List ℕ
+    behind = mid_of (i + 1) (c.links - (i + 1)) rows
 
-    -- the second, among the rows behind the first
-    module _ (q : ℕ) (next : q ≡ first_bad (λ i. row_has_end m (get_or (mid_of (r - 1 + 1) (c.links - (r - 1 + 1)) rows) i 0))
-        (length (mid_of (r - 1 + 1) (c.links - (r - 1 + 1)) rows))) where
-      rows_next : mid_of (r - 1 + 1) (c.links - (r - 1 + 1)) rows ≡ rows_of (two.between ++ (two.other ∷ two.after))
-      rows_next =
-          mid_at (rows_of (two.before ++ (two.one ∷ []))) (rows_of (two.between ++ (two.other ∷ two.after)))
-          (rows_of s.spurs ++ (rows_of s.loops ++ t.held.rows_behind)) rows
-          (rows_four t ∙ rw (
-            two.links_are,
-            rows_append two.before (two.one ∷ []),
-            rows_append two.before (two.one ∷ (two.between ++ (two.other ∷ two.after))),
-          ) (simp append_assoc))
-          (r - 1 + 1) (c.links - (r - 1 + 1))
-          (length-map (two.before ++ (two.one ∷ [])) link_row ∙ length-append two.before (two.one ∷ []) ∙ omega (arith, at_one))
-          (length-map (two.between ++ (two.other ∷ two.after)) link_row ∙ length-append two.between (two.other ∷ two.after)
-          ∙ omega (arith, at_one, count))
+    rows_next : behind ≡ rows_of (two.between ++ (two.other ∷ two.after))
+    rows_next =
+        mid_at (rows_of (two.before ++ (two.one ∷ []))) (rows_of (two.between ++ (two.other ∷ two.after)))
+        (rows_of s.spurs ++ (rows_of s.loops ++ t.held.rows_behind)) rows
+        (rows_four t ∙ rw (
+          two.links_are,
+          rows_append two.before (two.one ∷ []),
+          rows_append two.before (two.one ∷ (two.between ++ (two.other ∷ two.after))),
+        ) (simp append_assoc))
+        (i + 1) (c.links - (i + 1))
+        (length-map (two.before ++ (two.one ∷ [])) link_row ∙ length-append two.before (two.one ∷ []) ∙ omega (arith, at_one))
+        (length-map (two.between ++ (two.other ∷ two.after)) link_row ∙ length-append two.between (two.other ∷ two.after)
+        ∙ omega (arith, at_one, count))
 
-      other_found : q ≡ suc (length two.between)
-      other_found =
-          next ∙ place_of_lem (has_end m) (row_has_end m) (λ x k. has_end_of x k m) two.between two.other two.after
-          (λ y i. links_small t y (subst (Memᴰ y) (sym two.links_are) (Memᴰ.append_right two.before (Memᴰ.tail i))))
-          two.none_between two.other_there (mid_of (r - 1 + 1) (c.links - (r - 1 + 1)) rows) rows_next
+    other_place : position (row_has_end m) behind ≡ Some (length two.between)
+    other_place =
+        place_of_lem (has_end m) (row_has_end m) (λ x k. has_end_of x k m) two.between two.other two.after
+        (λ y i. links_small t y (subst (Memᴰ y) (sym two.links_are) (Memᴰ.append_right two.before (Memᴰ.tail i))))
+        two.none_between two.other_there behind rows_next
 
-      pub other_before : r - 1 + q < c.links
-      other_before = omega (arith, other_found, at_one, count)
+    pub other_there : (next : Option ℕ) → next ≡ position (row_has_end m) behind → IsSome next
+    other_there next e = rw (e ∙ other_place)
 
-      pub one_asked : length rows ≤ most_lines → LinkAt (r - 1) rows runs
-      one_asked few = link_at two.before two.one (two.between ++ (two.other ∷ rest)) rows runs (r - 1) at_one merge_around few
+    -- the second, among them
+    module _ (q : ℕ) (next : Option ℕ) (is_next : next ≡ position (row_has_end m) behind) (there : next ≡ Some q) where
+      other_found : q ≡ length two.between
+      other_found = let p = sym there ∙ is_next ∙ other_place in cc
+
+      pub one_asked : length rows ≤ most_lines → LinkAt i rows runs
+      one_asked few = link_at two.before two.one (two.between ++ (two.other ∷ rest)) rows runs i at_one merge_around few
 
       -- the first is read to the mark
-      module _ (rows₁ runs₁ : List ℕ) (b : Becomes (λ x. read_to m x) (r - 1) rows runs rows₁ runs₁) where
+      module _ (rows₁ runs₁ : List ℕ) (b : Becomes (λ x. read_to m x) i rows runs rows₁ runs₁) where
         abbrev one : Link
         one = read_to m two.one
 
@@ -280,14 +284,14 @@ module _ (m : ℕ) {s : Sketch} {rows runs : List ℕ} {c : Counts} (t : Tabled 
             subst (λ (l : List Link). Holds l rows₁ runs₁) (sym (append_assoc two.before (one ∷ two.between) (two.other ∷ rest)))
             (b two.before two.one (two.between ++ (two.other ∷ rest)) at_one merge_around)
 
-        at_other : length before_other ≡ r - 1 + q
+        at_other : length before_other ≡ i + 1 + q
         at_other = length-append two.before (one ∷ two.between) ∙ omega (arith, other_found, at_one)
 
-        pub other_asked : length rows₁ ≤ most_lines → LinkAt (r - 1 + q) rows₁ runs₁
-        other_asked few = link_at before_other two.other rest rows₁ runs₁ (r - 1 + q) at_other read_one few
+        pub other_asked : length rows₁ ≤ most_lines → LinkAt (i + 1 + q) rows₁ runs₁
+        other_asked few = link_at before_other two.other rest rows₁ runs₁ (i + 1 + q) at_other read_one few
 
         -- and the second from it
-        module _ (rows₂ runs₂ : List ℕ) (d : Becomes (λ x. read_from m x) (r - 1 + q) rows₁ runs₁ rows₂ runs₂) where
+        module _ (rows₂ runs₂ : List ℕ) (d : Becomes (λ x. read_from m x) (i + 1 + q) rows₁ runs₁ rows₂ runs₂) where
           read_both : Holds (two.before ++ (one ∷ (two.between ++ (other ∷ rest)))) rows₂ runs₂
           read_both =
               subst (λ (l : List Link). Holds l rows₂ runs₂) (append_assoc two.before (one ∷ two.between) (other ∷ rest))
@@ -296,10 +300,10 @@ module _ (m : ℕ) {s : Sketch} {rows runs : List ℕ} {c : Counts} (t : Tabled 
           abbrev all : ℕ
           all = c.links + c.spurs + c.loops
 
-          to_other : r - 1 + suc (length two.between) ≡ r - 1 + q
+          to_other : i + suc (length two.between) ≡ i + 1 + q
           to_other = omega (arith, other_found)
 
-          to_end : r - 1 + q + suc (length rest) ≡ all
+          to_end : i + 1 + q + suc (length rest) ≡ all
           to_end =
               omega (
                 arith,
@@ -313,12 +317,12 @@ module _ (m : ℕ) {s : Sketch} {rows runs : List ℕ} {c : Counts} (t : Tabled 
               )
 
           pub both_asked : length rows₂ ≤ most_lines → length runs₂ ≤ most_lines
-              → Two (r - 1) (r - 1 + q) (c.links + c.spurs + c.loops) rows₂ runs₂
+              → Two i (i + 1 + q) (c.links + c.spurs + c.loops) rows₂ runs₂
           both_asked few few_runs =
-              are_two two.before one two.between other rest rows₂ runs₂ (r - 1) (r - 1 + q) all at_one to_other to_end
+              are_two two.before one two.between other rest rows₂ runs₂ i (i + 1 + q) all at_one to_other to_end
               read_both few few_runs
 
-          pub merged : (rows₃ runs₃ : List ℕ) → BecomeOne (r - 1) (r - 1 + q) (c.links + c.spurs + c.loops) rows₂ runs₂ rows₃ runs₃
+          pub merged : (rows₃ runs₃ : List ℕ) → BecomeOne i (i + 1 + q) (c.links + c.spurs + c.loops) rows₂ runs₂ rows₃ runs₃
               → Tabled (sketch (merged_at m s.links) s.spurs s.loops) rows₃ runs₃
               (record { links = c.links - 1; spurs = c.spurs; loops = c.loops })
           merged rows₃ runs₃ g =

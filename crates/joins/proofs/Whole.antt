@@ -1,10 +1,12 @@
 -- From the own links by the steps to the sketch. Assumes nothing.
-use Prim.Native.Nat.{ℕ, ◌≤◌}
-use mathlib.Core.Path.{◌≡◌, sym, ap, ap₂, subst}
+use Prim.Native.Nat.{ℕ, ◌+◌, ◌-◌, ◌≤◌, ◌<◌}
+use native.Mathlib.Omega.{arith}
+use lib.Seq.{length-take-le}
+use mathlib.Core.Path.{◌≡◌, sym, ap₂, subst}
 use mathlib.Core.List.{List}
 use lib.IntN.{ℤ}
-use lib.ListN.{length, length-map}
-use Rattle.book.specs.Limits.{most_lines}
+use lib.ListN.{length, take, length-map}
+use Rattle.book.specs.Limits.{most_marks, most_lines}
 use Rattle.book.specs.Good.{GoodLines}
 use Rattle.book.specs.declared.Book.{Book}
 use Rattle.network.specs.Standing.{standing}
@@ -16,6 +18,12 @@ use Rattle.links.proofs.Stages.{stage_start}
 use Rattle.joins.specs.Step.{Tabled, Room, StageIn, StepsTaken, SketchIn, Finished}
 use Rattle.joins.specs.declared.Counts.{Counts}
 use Rattle.joins.proofs.Taking.{rows_enough}
+
+-- the places lent for the ends of the marks: one more than there are marks
+pub ends_for : (k : Book) (lines : List ℤ) → GoodLines k lines → (ends : List ℕ) → most_marks < length ends
+    → length (take (k.marks + 1) ends) - 1 ≡ k.marks
+ends_for k lines g ends h =
+    omega (arith, length-take-le (k.marks + 1) ends (omega (arith, g.few_marks)))
 
 module _ (k : Book) (lines : List ℤ) (g : GoodLines k lines) {rows runs : List ℕ} {c : Counts}
     (t : Tabled (start_of (standing lines)) rows runs c) where
@@ -32,9 +40,6 @@ module _ (k : Book) (lines : List ℤ) (g : GoodLines k lines) {rows runs : List
     stage = stage_at n e;
     tabled = t;
   }
-
-  pub enough : length rows ≤ most_lines → Room rows c
-  enough few = record { few = few; enough = rows_enough t }
 
   -- the steps, and each link from its lower junction
   module _ (n : ℕ) (e : n ≡ k.marks) (rows₁ runs₁ : List ℕ) (c₁ : Counts) (taken : StepsTaken n c rows runs rows₁ runs₁ c₁) where

@@ -32,34 +32,28 @@ pub struct Counts {
 
 // Steps until none is left.
 fn take_steps(rows: &mut [u64], runs: &mut [u16], ends: &mut [u64], begun: Counts) -> Counts
-    requires fact_1 { Room rows.old begun }
-    requires fact_2 { length runs.old ≤ most_lines }
-    requires fact_3 { 0 < length ends.old }
-    requires fact_4 { StageIn (length ends.old - 1) rows.old runs.old begun }
+    requires room { Room rows.old begun }
+    requires few { length runs.old ≤ most_lines }
+    requires some_mark { 0 < length ends.old }
+    requires stage { StageIn (length ends.old - 1) rows.old runs.old begun }
     ensures { StepsTaken (length ends.old - 1) begun rows.old runs.old
         rows.new runs.new result }
 {
     let mut counts = begun;
-    loop {
-        let next = step::step(rows, runs, ends, counts);
-        if counts.links == next.links {
-            return next;
-        }
+    while let Some(next) = step::step(rows, runs, ends, counts) {
         counts = next;
     }
+    counts
 }
 
 // "each from its lower junction to its higher"
 fn finish(rows: &mut [u64], runs: &mut [u16], counts: Counts)
-    requires fact_1 { Room rows.old counts }
-    requires fact_2 { SketchIn rows.old runs.old counts }
+    requires room { Room rows.old counts }
+    requires sketch { SketchIn rows.old runs.old counts }
     ensures { Finished counts rows.old runs.old rows.new runs.new }
 {
-    let links = counts.links;
-    let mut i = 0;
-    while i < links {
+    for i in 0..counts.links {
         link::lower_first(rows, runs, i);
-        i += 1;
     }
 }
 
@@ -71,10 +65,10 @@ fn sketch_in(
     runs: &mut [u16],
     ends: &mut [u64],
 ) -> Counts
-    requires fact_1 { GoodLines book lines.now }
-    requires fact_2 { length rows.old ≡ most_lines }
-    requires fact_3 { length runs.old ≡ most_lines }
-    requires fact_4 { most_marks < length ends.old }
+    requires good { GoodLines book lines.now }
+    requires rows_fit { length rows.old ≡ most_lines }
+    requires runs_fit { length runs.old ≡ most_lines }
+    requires ends_fit { most_marks < length ends.old }
     ensures { Tabled (sketch_of book.marks (standing lines.now)) rows.new runs.new result }
 {
     let n = book.marks + 1;

@@ -50,8 +50,8 @@ pub(crate) fn lower_first(rows: &mut [u64], runs: &mut [u16], i: usize)
 
 // The link begins with its lowest line, positive.
 pub(crate) fn begin(rows: &[u64], runs: &mut [u16], i: usize)
-    requires fact_1 { LinkAt i rows.now runs.old }
-    requires fact_2 { 0 < count_of (get_or rows.now i 0) }
+    requires there { LinkAt i rows.now runs.old }
+    requires some_line { 0 < count_of (get_or rows.now i 0) }
     ensures { Becomes (λ x. begun x) i rows.now runs.old rows.now runs.new }
 {
     let at = row::lines(&rows[..i]);
@@ -67,6 +67,6 @@ pub(crate) fn move_behind(rows: &mut [u64], runs: &mut [u16], i: usize, end: usi
     let at = row::lines(&rows[..i]);
     let count = row::count(rows[i]);
     let after = at + row::lines(&rows[i..end]);
-    row::first_to_end(&mut rows[i..end]);
-    run::begin_at(&mut runs[at..after], count);
+    rows[i..end].rotate_left(1);
+    runs[at..after].rotate_left(count);
 }

@@ -2,13 +2,14 @@
 ghost use Rattle.std.specs.Prelude.{◌≡◌, ◌<◌, ◌≤◌, length};
 ghost use Rattle.book.specs.Limits.{most_lines};
 ghost use Rattle.joins.specs.Row.{row_limit, row_of, first_of, last_of, count_of, row_has_end, row_closes, row_lines};
-ghost use Rattle.joins.specs.Code.{rotated};
 
 // More than any mark, and more than any count of lines.
 const LIMIT: u64 = 1024;
 
 pub(crate) fn new(first: usize, last: usize, count: usize) -> u64
-    requires { (first < row_limit) × (last < row_limit) × (count < row_limit) }
+    requires first_fits { first < row_limit }
+    requires last_fits { last < row_limit }
+    requires count_fits { count < row_limit }
     ensures { result ≡ row_of first last count }
 {
     ((first as u64) * LIMIT + last as u64) * LIMIT + count as u64
@@ -33,17 +34,15 @@ pub fn count(row: u64) -> usize
 }
 
 // Whether the link has an end at mark m.
+#[tactic(auto, unfolding(crate::specs::Row::row_has_end))]
 pub(crate) fn has_end(row: u64, m: usize) -> bool
     ensures { result ≡ row_has_end m row }
 {
-    if first(row) == m {
-        true
-    } else {
-        last(row) == m
-    }
+    first(row) == m || last(row) == m
 }
 
 // Whether the link is from a mark to itself.
+#[tactic(auto, unfolding(crate::specs::Row::row_closes))]
 pub(crate) fn closes(row: u64) -> bool
     ensures { result ≡ row_closes row }
 {
@@ -55,26 +54,5 @@ pub fn lines(rows: &[u64]) -> usize
     requires { length rows.now ≤ most_lines }
     ensures { result ≡ row_lines rows.now }
 {
-    let mut sum = 0;
-    let mut i = 0;
-    while i < rows.len() {
-        sum += count(rows[i]);
-        i += 1;
-    }
-    sum
-}
-
-// The first row goes behind the others.
-pub(crate) fn first_to_end(rows: &mut [u64])
-    requires { 0 < length rows.old }
-    ensures { rows.new ≡ rotated 1 rows.old }
-{
-    let row = rows[0];
-    let last = rows.len() - 1;
-    let mut i = 0;
-    while i < last {
-        rows[i] = rows[i + 1];
-        i += 1;
-    }
-    rows[last] = row;
+    rows.iter().map(|&row| count(row)).sum()
 }

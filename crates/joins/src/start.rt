@@ -12,24 +12,20 @@ use book::line::Line;
 
 // The own links of the standing lines, by rising number.
 pub(crate) fn own_links(book: Book, lines: &[i64], rows: &mut [u64], runs: &mut [u16]) -> Counts
-    requires fact_1 { GoodLines book lines.now }
-    requires fact_2 { most_lines ≤ length rows.old }
-    requires fact_3 { most_lines ≤ length runs.old }
+    requires good { GoodLines book lines.now }
+    requires rows_fit { most_lines ≤ length rows.old }
+    requires runs_fit { most_lines ≤ length runs.old }
     ensures { Tabled (start_of (standing lines.now)) rows.new runs.new result }
 {
     let b = book.marks;
     let n = book.lines;
     let mut links = 0;
-    let mut i = 0;
-    while i < n {
-        if signed::same(lines[i * Line::WORDS + Line::STANDING], 0) {
-            i += 1;
-        } else {
+    for i in 0..n {
+        if lines[i * Line::WORDS + Line::STANDING] != 0 {
             let from = fields::from_mark(lines, b, n, i);
             let to = fields::to_mark(lines, b, n, i);
-            i += 1;
             rows[links] = row::new(from, to, 1);
-            runs[links] = (i * 2) as u16;
+            runs[links] = ((i + 1) * 2) as u16;
             links += 1;
         }
     }

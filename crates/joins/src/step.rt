@@ -1,33 +1,33 @@
 // "each step takes the first there is"
-ghost use Rattle.std.specs.Prelude.{◌-◌, ◌≤◌, ◌<◌, length};
+ghost use Rattle.std.specs.Prelude.{◌-◌, ◌≤◌, ◌<◌, length, unwrap_or, IfSome};
 ghost use Rattle.book.specs.Limits.{most_lines};
 ghost use Rattle.joins.specs.Step.{Room, StageIn, Stepped};
 
 use crate::{Counts, ends, merge, off};
 
-// The spur of lowest mark, else the self-closing loop of lowest line, else the merge at the lowest mark. Where there is none the counts
-// stay.
-pub(crate) fn step(rows: &mut [u64], runs: &mut [u16], ends: &mut [u64], counts: Counts) -> Counts
-    requires fact_1 { Room rows.old counts }
-    requires fact_2 { length runs.old ≤ most_lines }
-    requires fact_3 { 0 < length ends.old }
-    requires fact_4 { StageIn (length ends.old - 1) rows.old runs.old counts }
-    ensures { Stepped (length ends.old - 1) counts rows.old runs.old
-        rows.new runs.new result }
+// The spur of lowest mark, else the self-closing loop of lowest line, else the merge at the lowest mark; or there is none.
+pub(crate) fn step(
+    rows: &mut [u64],
+    runs: &mut [u16],
+    ends: &mut [u64],
+    counts: Counts,
+) -> Option<Counts>
+    requires room { Room rows.old counts }
+    requires few { length runs.old ≤ most_lines }
+    requires some_mark { 0 < length ends.old }
+    requires stage { StageIn (length ends.old - 1) rows.old runs.old counts }
+    ensures stepped { Stepped (length ends.old - 1) counts rows.old runs.old
+        rows.new runs.new (unwrap_or result counts) }
+    ensures fewer { IfSome result (λ next. next.links < counts.links) }
 {
     let links = counts.links;
     ends::count(&rows[..links], ends);
-    let spur = ends::lowest_with(&ends[1..], 1);
-    if 0 < spur {
-        return off::spur(rows, runs, spur, counts);
+    if let Some(mark) = ends::lowest_with(ends, 1) {
+        return Some(off::spur(rows, runs, mark, counts));
     }
-    let closed = ends::closed_link(&rows[..links]);
-    if 0 < closed {
-        return off::closed(rows, runs, closed - 1, counts);
+    if let Some(i) = ends::closed_link(&rows[..links]) {
+        return Some(off::closed(rows, runs, i, counts));
     }
-    let mark = ends::lowest_with(&ends[1..], 2);
-    if 0 < mark {
-        return merge::at(rows, runs, mark, counts);
-    }
-    counts
+    let mark = ends::lowest_with(ends, 2)?;
+    Some(merge::at(rows, runs, mark, counts))
 }

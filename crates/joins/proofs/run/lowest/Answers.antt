@@ -1,21 +1,15 @@
-use Prim.Native.Nat.{◌+◌}
-use native.Mathlib.Omega.{arith}
-use Rattle.joins.proofs.Lowest.{LowestTo, lowest_start, lowest_lower, lowest_not, lowest_end}
+use Rattle.joins.proofs.Lowest.{lowest_start, lowest_lower, lowest_not, lowest_end}
 use Rattle.joins.proofs.run.lowest.Goals as goal
-use Rattle.joins.proofs.run.lowest.Goals.{then-run-i, else-run-i}
+use Rattle.joins.proofs.run.lowest.Goals.{then-code-run, else-code-run}
 
 pub loop-i-init : goal.loop-i-init
-loop-i-init c = (omega arith, omega arith, lowest_start _)
+loop-i-init c = lowest_start _ c.requires
 
 pub loop-i-preserved : goal.loop-i-preserved
-loop-i-preserved c =
-    let t = c.loop-i.invariant.2 in
-    let now : LowestTo c.args.run.now c.if-run-i.k (c.loop-i.i + 1) =
-    elim c.if-run-i.branch [
-      | then-run-i w ↦ rw w.k-is (lowest_lower _ _ _ t w.if-run-i.true)
-      | else-run-i w ↦ rw w.k-is (lowest_not _ _ _ t w.if-run-i.false)
-    ] in
-    (omega arith, now.is_there, now)
+loop-i-preserved c = elim c.if-code-run.branch [
+  | then-code-run w ↦ rw w.k-is (lowest_lower _ _ _ c.loop-i-test.true c.loop-i.invariant w.if-code-run.true)
+  | else-code-run w ↦ rw w.k-is (lowest_not _ _ _ c.loop-i-test.true c.loop-i.invariant w.if-code-run.false)
+]
 
 pub returns : goal.returns
-returns c = lowest_end _ _ _ (omega arith) c.loop-i.invariant.2
+returns c = lowest_end _ _ _ c.loop-i-test.false c.loop-i.invariant
