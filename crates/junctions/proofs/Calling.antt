@@ -8,7 +8,7 @@ use mathlib.Core.List.Memᴰ
 use mathlib.Core.List.{Memᴰ}
 use lib.IntN.{ℤ}
 use lib.ListN.{length, take, drop, length-append, length-map, length-drop}
-use lib.Seq.{take_at, drop_at, take_all}
+use lib.Seq.{length-take-le, take_at, drop_at, take_all}
 use borrow.Author.Tests.{ltb-false}
 use borrow.Rule.Slice.PartMut.{mid_of}
 use Rattle.book.specs.Limits.{most_lines}
@@ -19,7 +19,7 @@ use Rattle.network.specs.Standing.{standing}
 use Rattle.network.specs.Codes.{codes}
 use Rattle.network.proofs.Standing.{few_standing}
 use Rattle.book.proofs.Places.{count_of_lem}
-use Rattle.loops.specs.Row.{listed, listings}
+use Rattle.loops.specs.Row.{listings}
 use Rattle.loops.proofs.Sounding.{lines_sound, line_limits}
 use Rattle.links.specs.Link.{Link}
 use Rattle.links.specs.Sketch.{Sketch, in_all, run_of, sketch_of}
@@ -231,22 +231,42 @@ module _ {ls : List ℤ} {rows runs : List ℕ} {c : Counts} (e : SomeSketch ls 
     listed = links_in e.held;
   }
 
-  pub spurs_asked : (a : ℕ) → a ≡ length (codes_in e.sketch.links)
-      → SomeIn ls (mid_of c.links (c.links + c.spurs - c.links) rows) (mid_of a (length runs - a) runs)
-  spurs_asked a is_a = record {
-    few = omega (arith, ap length (spurs_in e.held a is_a).rows_are, spurs_count e.held, enough e.held, e.rows_few);
-    links = e.sketch.spurs;
-    listed = spurs_in e.held a is_a;
-  }
+  -- the links are written, and their runs end before place a
+  module _ (out out' : List ℤ) (a : ℕ) (links_wrote : (xs : List Link) → ListIn ls xs (take c.links rows) runs → Wrote xs out out' a) where
+    is_a : a ≡ length (codes_in e.sketch.links)
+    is_a = (links_wrote e.sketch.links (links_in e.held)).after_is
 
-  pub loops_asked : (a : ℕ) → a ≡ length (codes_in e.sketch.links) → (b : ℕ) → b ≡ length (codes_in e.sketch.spurs)
-      → SomeIn ls (mid_of (c.links + c.spurs) (c.links + c.spurs + c.loops - (c.links + c.spurs)) rows)
-      (mid_of (a + b) (length runs - (a + b)) runs)
-  loops_asked a is_a b is_b = record {
-    few = omega (arith, ap length (loops_in e.held a is_a b is_b).rows_are, loops_count e.held, enough e.held, e.rows_few);
-    links = e.sketch.loops;
-    listed = loops_in e.held a is_a b is_b;
-  }
+    pub links_stop : a ≤ length runs
+    links_stop = links_end e.held a is_a
+
+    pub spurs_asked : SomeIn ls (mid_of c.links (c.links + c.spurs - c.links) rows) (mid_of a (length runs - a) runs)
+    spurs_asked = record {
+      few = omega (arith, ap length (spurs_in e.held a is_a).rows_are, spurs_count e.held, enough e.held, e.rows_few);
+      links = e.sketch.spurs;
+      listed = spurs_in e.held a is_a;
+    }
+
+    -- and so are the spurs
+    module _ (out₁ out₁' : List ℤ) (b : ℕ)
+        (spurs_wrote : (xs : List Link)
+        → ListIn ls xs (mid_of c.links (c.links + c.spurs - c.links) rows) (mid_of a (length runs - a) runs) → Wrote xs out₁ out₁' b) where
+      is_b : b ≡ length (codes_in e.sketch.spurs)
+      is_b = (spurs_wrote e.sketch.spurs (spurs_in e.held a is_a)).after_is
+
+      pub spurs_stop : a + b ≤ length runs
+      spurs_stop = spurs_end e.held a is_a b is_b
+
+      pub loops_asked : SomeIn ls (mid_of (c.links + c.spurs) (c.links + c.spurs + c.loops - (c.links + c.spurs)) rows)
+          (mid_of (a + b) (length runs - (a + b)) runs)
+      loops_asked = record {
+        few = omega (arith, ap length (loops_in e.held a is_a b is_b).rows_are, loops_count e.held, enough e.held, e.rows_few);
+        links = e.sketch.loops;
+        listed = loops_in e.held a is_a b is_b;
+      }
+
+  -- the runs have so many lines
+  pub run_there : (n : ℕ) → n ≡ row_lines (take (c.links + c.spurs + c.loops) rows) → n ≡ length (take n runs)
+  run_there n is_n = sym (length-take-le n runs (omega (arith, is_n, lines_all e.held, run_fits e.held)))
 
 -- ---- room, where no output is too short
 

@@ -20,10 +20,11 @@ pub(crate) fn is_short(out: &[i64], count: usize) -> bool
 
 // The numbers of one link.
 fn write_entry(lines: &[i64], r: u64, run: &[u16], out: &mut [i64])
-    requires fact_1 { Measured lines.now }
-    requires fact_2 { LinesIn lines.now run.now }
-    requires fact_3 { length out.old ≡ entry_words }
-    requires fact_4 { (first_of r < row_limit) × (last_of r < row_limit) }
+    requires measured { Measured lines.now }
+    requires lines_in { LinesIn lines.now run.now }
+    requires room { length out.old ≡ entry_words }
+    requires first_fits { first_of r < row_limit }
+    requires last_fits { last_of r < row_limit }
     ensures { out.new ≡ entry_by lines.now r run.now }
 {
     out[ENTRY_FIRST] = signed::signed_count(row::first(r));
@@ -35,25 +36,23 @@ fn write_entry(lines: &[i64], r: u64, run: &[u16], out: &mut [i64])
 
 // The numbers of the links, from place 0 of out on; their runs stand from place 0 of runs on. The answer is how many lines they have.
 pub(crate) fn write(lines: &[i64], rows: &[u64], runs: &[u16], out: &mut [i64]) -> usize
-    requires fact_1 { Measured lines.now }
-    requires fact_2 { SomeIn lines.now rows.now runs.now }
-    requires fact_3 { length rows.now * entry_words ≤ length out.old }
+    requires measured { Measured lines.now }
+    requires some_links { SomeIn lines.now rows.now runs.now }
+    requires room { length rows.now * entry_words ≤ length out.old }
     ensures { (xs : List Link) → ListIn lines.now xs rows.now runs.now
         → Wrote xs out.old out.new result }
 {
     let mut at = 0;
-    let mut i = 0;
-    while i < rows.len() {
-        let to = at + row::count(rows[i]);
+    for (i, &r) in rows.iter().enumerate() {
+        let to = at + row::count(r);
         let place = i * ENTRY_WORDS;
         write_entry(
             lines,
-            rows[i],
+            r,
             &runs[at..to],
             &mut out[place..place + ENTRY_WORDS],
         );
         at = to;
-        i += 1;
     }
     at
 }

@@ -96,6 +96,7 @@ pub fn sketch_good(
 }
 
 // Whether one of the outputs is too short.
+#[tactic(auto, unfolding(crate::specs::Entries::short_by))]
 fn any_short(
     found: Counts,
     n: usize,
@@ -104,19 +105,15 @@ fn any_short(
     loops: &[i64],
     run: &[i64],
 ) -> bool
-    requires { (found.links ≤ most_lines) × (found.spurs ≤ most_lines) × (found.loops ≤ most_lines) }
+    requires few_links { found.links ≤ most_lines }
+    requires few_spurs { found.spurs ≤ most_lines }
+    requires few_loops { found.loops ≤ most_lines }
     ensures { result ≡ short_by found n (lists links.now spurs.now loops.now run.now) }
 {
-    if entries::is_short(links, found.links) {
-        return true;
-    }
-    if entries::is_short(spurs, found.spurs) {
-        return true;
-    }
-    if entries::is_short(loops, found.loops) {
-        return true;
-    }
-    run.len() < n
+    entries::is_short(links, found.links)
+        || entries::is_short(spurs, found.spurs)
+        || entries::is_short(loops, found.loops)
+        || run.len() < n
 }
 
 // The three lists and the run of n lines.
@@ -131,10 +128,10 @@ fn write_all(
     loops: &mut [i64],
     run: &mut [i64],
 )
-    requires fact_1 { Measured lines.now }
-    requires fact_2 { SomeSketch lines.now rows.now runs.now found }
-    requires fact_3 { n ≡ lines_by rows.now found }
-    requires fact_4 { Roomy found n (lists links.old spurs.old loops.old run.old) }
+    requires measured { Measured lines.now }
+    requires some_sketch { SomeSketch lines.now rows.now runs.now found }
+    requires so_many { n ≡ lines_by rows.now found }
+    requires room { Roomy found n (lists links.old spurs.old loops.old run.old) }
     ensures { (s : Sketch) → SketchOver lines.now s rows.now runs.now found
         → lists links.new spurs.new loops.new run.new
         ≡ all_in_first_places (lists_of s) (lists links.old spurs.old loops.old run.old) }

@@ -26,7 +26,7 @@ any-short-requires : tie.Need-any_short-requires
 any-short-requires c κs =
     let after-lines : tie.After-lines-n = search in
     let k = few (entry_of after-lines) in
-    (omega (arith, k), omega (arith, k), omega (arith, k))
+    (omega (arith, k), (omega (arith, k), omega (arith, k)))
 
 returns : tie.Need-returns-then-any_short
 returns c = λ s o.
