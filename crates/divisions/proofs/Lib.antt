@@ -1,3 +1,4 @@
 pub mod Weighing
 pub mod Rounding
 pub mod Quotients
+pub mod Doublings

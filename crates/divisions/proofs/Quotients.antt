@@ -2,7 +2,7 @@
 use Prim.Native.Nat.{ℕ, ◌/◌, ◌%◌}
 use native.Mathlib.Nat.{div-add-mod', div-eq_of_lt-le}
 use native.Mathlib.Omega.{arith}
-use mathlib.Core.Path.{◌≡◌, sym, ◌∙◌}
+use mathlib.Core.Path.{◌≡◌, sym}
 use Rattle.divisions.specs.Quotient.{Quotient}
 
 pub quotient_is : (a d q r : ℕ) → Quotient a d q r → q ≡ a / d
@@ -12,6 +12,3 @@ pub remainder_is : (a d q r : ℕ) → Quotient a d q r → r ≡ a % d
 remainder_is a d q r x =
     let e = rw (sym (quotient_is a d q r x)) at (div-add-mod' a d) in
     omega (arith, x.whole)
-
-pub same_whole : {a b d q r : ℕ} → a ≡ b → Quotient a d q r → Quotient b d q r
-same_whole e x = record { whole = sym e ∙ x.whole; less = x.less }

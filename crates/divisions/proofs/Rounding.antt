@@ -1,6 +1,6 @@
 -- "to the nearest whole number, halves toward zero": what the definition picks, and that only one number is it.
 -- Assumes nothing.
-use Prim.Native.Nat.{ℕ, zero, suc, ◌+◌, ◌*◌, ◌/◌, ◌%◌, ◌≤◌, ◌<◌, zero-le}
+use Prim.Native.Nat.{ℕ, zero, suc, ◌*◌, ◌/◌, ◌%◌, ◌≤◌, ◌<◌, zero-le}
 use native.Mathlib.Nat.{div-add-mod', mod-lt, mul-le-mul_left, mul-le-mul_right, mul_comm, mul_assoc, mul-one, zero-div, zero-mod}
 use native.Mathlib.Nat.{eq-zero-or-pos}
 use native.Mathlib.Omega.{arith}
@@ -82,13 +82,6 @@ nearest_le a d h =
         let k : suc a * d ≤ q * d = mul-le-mul_right d l in
         let j : a ≤ a * d = rw (mul-one a) at (mul-le-mul_left {m = 1} {n = d} a h) in
         omega arith))
-
--- rounded up: the quotient was smaller
-pub up_fits : (a d : ℕ) → 0 < d → d < 2 * (a % d) → a / d + 1 ≤ a
-up_fits a d h l =
-    let e = div-add-mod' a d in
-    let k : a / d ≤ a / d * d = rw (mul-one (a / d)) at (mul-le-mul_left {m = 1} {n = d} (a / d) h) in
-    omega arith
 
 of_size : (g : ℤ) (d : ℕ) → nearest_size (nat_abs g) d ≡ 0 → nearest g d ≡ pos 0
 unfolding nearest

@@ -37,9 +37,9 @@ pub fn move_by(g: i64, d: usize) -> i64
 
 // The same of sizes: the one division of the moves. Its remainder decides whether it is rounded up.
 fn nearest_size(a: usize, d: usize) -> usize
-    requires fact_1 { 0 < d }
-    requires fact_2 { d < 2 ^ 62 }
-    requires fact_3 { a < 2 ^ 63 }
+    requires some { 0 < d }
+    requires d_in { d < 2 ^ 62 }
+    requires a_in { a < 2 ^ 63 }
     ensures { result ≡ nearest_size a d }
 {
     let divided = quotient::divide(a, d);

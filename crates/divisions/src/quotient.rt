@@ -11,9 +11,9 @@ pub(crate) struct Divided {
 
 // a divided by d: first by four times d, then two bits follow. A quotient of two bits, as most moves of late sweeps have, is had at once.
 pub(crate) fn divide(a: usize, d: usize) -> Divided
-    requires fact_1 { 0 < d }
-    requires fact_2 { a < 2 ^ 63 }
-    requires fact_3 { d < 2 ^ 63 }
+    requires some { 0 < d }
+    requires a_in { a < 2 ^ 63 }
+    requires d_in { d < 2 ^ 63 }
     ensures { Quotient a d result.quotient result.remainder }
 {
     let above = if a >> 2 < d {
@@ -24,13 +24,15 @@ pub(crate) fn divide(a: usize, d: usize) -> Divided
     } else {
         by_fours(a, 4 * d)
     };
-    two_bits(above, d)
+    next_bits::<2>(above, d)
 }
 
 // The same, four bits at a time: up to eight at once, and more by dividing by 256 times d first. So the time is in the bits of the
 // quotient.
 fn by_fours(a: usize, d: usize) -> Divided
-    requires { (0 < d) × ((a < 2 ^ 63) × (d < 2 ^ 63)) }
+    requires some { 0 < d }
+    requires a_in { a < 2 ^ 63 }
+    requires d_in { d < 2 ^ 63 }
     ensures { Quotient a d result.quotient result.remainder }
 {
     if a >> 4 < d {
@@ -39,14 +41,17 @@ fn by_fours(a: usize, d: usize) -> Divided
     let above = if a >> 8 < d {
         at_most_four(a, 16 * d)
     } else {
-        four_bits(by_fours(a, 256 * d), 16 * d)
+        next_bits::<4>(by_fours(a, 256 * d), 16 * d)
     };
-    four_bits(above, d)
+    next_bits::<4>(above, d)
 }
 
 // The same of a quotient of at most four bits.
 fn at_most_four(a: usize, d: usize) -> Divided
-    requires { (0 < d) × ((a < 2 ^ 63) × ((d < 2 ^ 63) × (a < 16 * d))) }
+    requires some { 0 < d }
+    requires a_in { a < 2 ^ 63 }
+    requires d_in { d < 2 ^ 63 }
+    requires few { a < 16 * d }
     ensures { Quotient a d result.quotient result.remainder }
 {
     let none = Divided {
@@ -54,26 +59,23 @@ fn at_most_four(a: usize, d: usize) -> Divided
         remainder: a,
     };
     if a >> 2 < d {
-        two_bits(none, d)
+        next_bits::<2>(none, d)
     } else {
-        four_bits(none, d)
+        next_bits::<4>(none, d)
     }
 }
 
-// From the division by sixteen times d to that by d.
-fn four_bits(above: Divided, d: usize) -> Divided
-    requires { (Coarse 16 d above.quotient above.remainder) × (d < 2 ^ 61) }
-    ensures { Quotient (whole_of 16 d above.quotient above.remainder) d result.quotient result.remainder }
+// From the division by d doubled so many times to that by d: a bit of the quotient comes with each doubling that is taken back.
+fn next_bits<const BITS: usize>(above: Divided, d: usize) -> Divided
+    requires coarse { Coarse (2 ^ BITS) d above.quotient above.remainder }
+    requires doubled { 2 ^ BITS * d < 2 ^ 65 }
+    ensures { Quotient (whole_of (2 ^ BITS) d above.quotient above.remainder) d result.quotient result.remainder }
 {
-    two_bits(two_bits(above, 4 * d), d)
-}
-
-// From the division by four times d to that by d.
-fn two_bits(above: Divided, d: usize) -> Divided
-    requires { (Coarse 4 d above.quotient above.remainder) × (d < 2 ^ 63) }
-    ensures { Quotient (whole_of 4 d above.quotient above.remainder) d result.quotient result.remainder }
-{
-    next_bit(next_bit(above, 2 * d), d)
+    let mut divided = above;
+    for doublings in (0..BITS).rev() {
+        divided = next_bit(divided, d << doublings);
+    }
+    divided
 }
 
 // From the division by twice d to that by d: the quotient is doubled, and d subtracted once where the remainder has room for it.
