@@ -1,13 +1,11 @@
 -- A half of a line by the book's numbers, and in range; its weight is that of its line.
 -- Assumes nothing.
-use Prim.Native.Nat.{ℕ, zero, suc, ◌+◌, ◌%◌, ◌≤◌, ◌<◌, zero-le}
-use native.Mathlib.Nat.{div-le_of_le-mul, eq-or-lt_of_le}
+use Prim.Native.Nat.{ℕ, zero, suc, ◌%◌, ◌≤◌, ◌<◌}
+use native.Mathlib.Nat.{div-le_of_le-mul}
 use native.Mathlib.Omega.{arith}
 use mathlib.Core.Path.{◌≡◌, refl, sym, ◌∙◌}
-use mathlib.Core.Logic.{⊎_elim}
 use mathlib.Core.List.{List}
-use lib.ListN.{length, get_or, set, length-set}
-use lib.Seq.{get_or-set_same, get_or-set_other}
+use lib.ListN.{get_or, set}
 use lib.IntN.{ℤ, pos, nat_abs, neg_ℤ}
 use Rattle.book.specs.Limits.{most_difference, least_length}
 use Rattle.book.specs.Line.{from_at, to_at, difference_at, length_at}
@@ -60,19 +58,6 @@ range_set cols b c o w r h ho hr hw = record {
   other_in = set_all (λ (x : ℕ). x < b) cols.other c o 0 ho h.other_in;
   rise_in = set_all (λ (x : ℤ). nat_abs x ≤ most_difference) cols.rise c r (pos 0) hr h.rise_in;
   weight_in = set_all (λ (x : ℕ). x ≤ most_weight) cols.weight c w 0 hw h.weight_in;
-}
-
--- ---- the weights of the lines, one after another
-
-pub weights_none : (lines : List ℤ) (weights : List ℕ) → WeightsOf lines 0 weights
-weights_none lines weights = record { room = zero-le; each = λ j l. absurd (omega arith) }
-
-pub weights_next : (lines : List ℤ) (i w : ℕ) (weights : List ℕ) → i < length weights → w ≡ weight_of (nat_abs (length_at lines i))
-    → WeightsOf lines i weights → WeightsOf lines (i + 1) (set weights i w)
-weights_next lines i w weights l e h = record {
-  room = simp length-set (omega arith);
-  each = λ j s. ⊎_elim (λ (q : j ≡ i). rw (q, get_or-set_same weights i w 0 l) e)
-      (λ (p : j < i). rw (get_or-set_other weights i j w 0 (λ q. omega arith)) (h.each j p)) (eq-or-lt_of_le (omega arith));
 }
 
 -- the weight of either half of a line

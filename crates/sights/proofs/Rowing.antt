@@ -7,7 +7,9 @@ use native.Mathlib.Omega.{arith}
 use mathlib.Core.Path.{◌≡◌, refl, sym, ◌∙◌, ap, subst}
 use mathlib.Core.Logic.{⊎_elim}
 use mathlib.Core.List.{List}
-use lib.ListN.{length, get_or, set}
+use lib.ListN.{length, get_or, set, take, drop}
+use Rattle.std.proofs.Common.{sum, drop-cons, ◌^◌, ◌*◌}
+use Rattle.std.proofs.lemmas.List.Sums.{sum_by-cons}
 use lib.Seq.{get_or-set_same, get_or-set_other}
 use Rattle.divisions.specs.Weight.{most_weight}
 use Rattle.sights.specs.Sights.{Sight, weights}
@@ -20,19 +22,26 @@ unfolding weights seen weighed
 weighed_is cols a zero = refl
 weighed_is cols a (suc k) = ap (λ (x : ℕ). get_or cols.weight a 0 + x) (weighed_is cols (suc a) k)
 
--- one turn of that sum, and its end
-pub weighed_turn : (weight : List ℕ) (a e j s : ℕ) → j < e → s + weighed weight j (e - j) ≡ weighed weight a (e - a)
-    → s + get_or weight j 0 + weighed weight (j + 1) (e - (j + 1)) ≡ weighed weight a (e - a)
+-- they are those of the row's part of the column, and few and small enough for their sum
+pub weighed_sum : (weight : List ℕ) (a k : ℕ) → a + k ≤ length weight → sum (take k (drop a weight)) ≡ weighed weight a k
 unfolding weighed
-weighed_turn weight a e j s l inv =
-    let k : e - j ≡ suc (e - (j + 1)) = omega arith in
-    let i : s + weighed weight j (suc (e - (j + 1))) ≡ weighed weight a (e - a) = rw k at inv in
-    rw (add-one j) (omega (arith, rw (add-one j) at i))
+weighed_sum weight a zero l = refl
+weighed_sum weight a (suc k) l =
+    let h : a < length weight = omega arith in
+    rw (drop-cons weight a 0, sum_by-cons (λ (x : ℕ). x) (get_or weight a 0) (take k (drop (suc a) weight)))
+    (ap (λ (x : ℕ). get_or weight a 0 + x) (weighed_sum weight (suc a) k (omega arith)))
 
-pub weighed_end : (weight : List ℕ) (a e j s : ℕ) → e ≤ j → s + weighed weight j (e - j) ≡ weighed weight a (e - a)
-    → s ≡ weighed weight a (e - a)
+weighed_most : (weight : List ℕ) (a k : ℕ) → ((j : ℕ) → get_or weight j 0 ≤ most_weight)
+    → weighed weight a k ≤ k * most_weight
 unfolding weighed
-weighed_end weight a e j s l inv = let k : e - j ≡ 0 = omega arith in omega (arith, rw k at inv)
+weighed_most weight a zero s = omega arith
+weighed_most weight a (suc k) s = omega (arith, s a, weighed_most weight (suc a) k s)
+
+pub row_sum : (weight : List ℕ) (a e : ℕ) → Weighable weight a e
+    → (sum (take (e - a) (drop a weight)) ≡ weighed weight a (e - a)) × (sum (take (e - a) (drop a weight)) < 2 ^ 64)
+row_sum weight a e w =
+    let s = weighed_sum weight a (e - a) (omega (arith, w.long, w.span.order)) in
+    (s, rw s (omega (arith, weighed_most weight a (e - a) w.small, w.span.few)))
 
 module _ (sights : ℕ → List Sight) where
   pub taken_more : (v : ℕ) → taken sights (suc v) ≡ taken sights v + length (sights (suc v))

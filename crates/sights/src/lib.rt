@@ -2,7 +2,7 @@
 
 #![tactic(auto)]
 
-ghost use Rattle.std.specs.Prelude.{◌≡◌, ◌+◌, ◌-◌, ◌≤◌, ◌<◌, length, nat_abs};
+ghost use Rattle.std.specs.Prelude.{◌≡◌, ◌+◌, ◌-◌, ◌≤◌, ◌<◌, ◌^◌, length, nat_abs, sum};
 ghost use Rattle.book.specs.Limits.{most_difference};
 ghost use Rattle.book.specs.Line.{length_at};
 ghost use Rattle.book.specs.Good.{Lines};
@@ -17,25 +17,27 @@ ghost use Rattle.sights.specs.Halves.{sight_at, HalfHere, WeightsOf};
 
 use book::Book;
 use book::line::Line;
+use fields::{difference_of, from_mark, to_mark};
 
 // Half h as it is seen from the mark that it leaves: the place of the mark that it leads to, and the rise from there.
 fn other_of(lines: &[i64], b: usize, n: usize, h: usize) -> usize
     requires { HalfHere lines.now b n h }
     ensures { (result ≡ (sight_at lines.now h).other - 1) × (result < b) }
 {
-    let at = (h / 2 - 1) * Line::WORDS;
-    if h % 2 == 0 {
-        signed::index(lines[at + Line::TO]) - 1
+    let i = h / 2 - 1;
+    let mark = if h % 2 == 0 {
+        to_mark(lines, b, n, i)
     } else {
-        signed::index(lines[at + Line::FROM]) - 1
-    }
+        from_mark(lines, b, n, i)
+    };
+    mark - 1
 }
 
 fn rise_of(lines: &[i64], b: usize, n: usize, h: usize) -> i64
     requires { HalfHere lines.now b n h }
     ensures { (result ≡ (sight_at lines.now h).rise) × (nat_abs result ≤ most_difference) }
 {
-    let d = lines[(h / 2 - 1) * Line::WORDS + Line::DIFFERENCE];
+    let d = difference_of(lines, b, n, h / 2 - 1);
     if h % 2 == 0 { signed::sub(0, d) } else { d }
 }
 
@@ -49,14 +51,12 @@ fn weight_of(lines: &[i64], b: usize, n: usize, i: usize) -> usize
 
 // The weight of each line: a line is seen from both its marks, and its weight costs a division, so it is worked out here, once.
 fn weigh_lines(lines: &[i64], weights: &mut [usize], b: usize, n: usize)
-    requires fact_1 { Lines lines.now b n }
-    requires fact_2 { n ≤ length weights.old }
+    requires good { Lines lines.now b n }
+    requires room { n ≤ length weights.old }
     ensures { WeightsOf lines.now n weights.new }
 {
-    let mut i = 0;
-    while i < n {
+    for i in 0..n {
         weights[i] = weight_of(lines, b, n, i);
-        i += 1;
     }
 }
 
@@ -72,13 +72,13 @@ fn write_half(
     c: usize,
     h: usize,
 )
-    requires fact_1 { HalfHere lines.now b n h }
-    requires fact_2 { WeightsOf lines.now n weights.now }
-    requires fact_3 { RoomUpto (columns other.old rise.old weight.old) (c + 1) }
-    requires fact_4 { InRange (columns other.old rise.old weight.old) b }
-    ensures fact_1 { Written (columns other.old rise.old weight.old)
+    requires half { HalfHere lines.now b n h }
+    requires weighed { WeightsOf lines.now n weights.now }
+    requires room { RoomUpto (columns other.old rise.old weight.old) (c + 1) }
+    requires in_range { InRange (columns other.old rise.old weight.old) b }
+    ensures written { Written (columns other.old rise.old weight.old)
         (columns other.new rise.new weight.new) c (sight_at lines.now h) }
-    ensures fact_2 { InRange (columns other.new rise.new weight.new) b }
+    ensures in_range { InRange (columns other.new rise.new weight.new) b }
 {
     other[c] = other_of(lines, b, n, h);
     rise[c] = rise_of(lines, b, n, h);
@@ -99,13 +99,14 @@ fn write_chain(
     m: usize,
     a: usize,
 ) -> usize
-    requires fact_1 { Lines lines.now b n }
-    requires fact_2 { InOrder (standing lines.now) (b + 1) head.now next.now }
-    requires fact_3 { (m ≤ b) × WeightsOf lines.now n weights.now }
-    requires fact_4 { InRange (columns other.old rise.old weight.old) b }
-    requires fact_5 { RoomUpto (columns other.old rise.old weight.old) (a + length (sights_of (standing lines.now) m)) }
-    ensures fact_1 { result ≡ a + length (sights_of (standing lines.now) m) }
-    ensures fact_2 { Filled (columns other.old rise.old weight.old)
+    requires good { Lines lines.now b n }
+    requires in_order { InOrder (standing lines.now) (b + 1) head.now next.now }
+    requires mark { m ≤ b }
+    requires weighed { WeightsOf lines.now n weights.now }
+    requires in_range { InRange (columns other.old rise.old weight.old) b }
+    requires room { RoomUpto (columns other.old rise.old weight.old) (a + length (sights_of (standing lines.now) m)) }
+    ensures after { result ≡ a + length (sights_of (standing lines.now) m) }
+    ensures filled { Filled (columns other.old rise.old weight.old)
         (columns other.new rise.new weight.new) b a (sights_of (standing lines.now) m) }
 {
     let mut c = a;
@@ -118,18 +119,12 @@ fn write_chain(
     c
 }
 
-// The sum of the weights from place a to place e.
-fn total_of(weight: &[usize], a: usize, e: usize) -> usize
-    requires { Weighable weight.now a e }
-    ensures { result ≡ weighed weight.now a (e - a) }
+// The sum of the weights at a mark.
+fn total_of(weights: &[usize]) -> usize
+    requires { sum weights.now < 2 ^ 64 }
+    ensures { result ≡ sum weights.now }
 {
-    let mut sum = 0;
-    let mut j = a;
-    while j < e {
-        sum += weight[j];
-        j += 1;
-    }
-    sum
+    weights.iter().sum()
 }
 
 // The table of the n lines of a book of b marks, row by row.
@@ -157,8 +152,7 @@ pub fn write_rows(
     let mut weights = [0; Book::MAX_LINES];
     weigh_lines(lines, &mut weights, b, n);
     let mut c = 0;
-    let mut v = 0;
-    while v < b {
+    for v in 0..b {
         first[v] = c;
         let e = write_chain(
             lines,
@@ -173,9 +167,8 @@ pub fn write_rows(
             v + 1,
             c,
         );
-        total[v] = total_of(weight, c, e);
+        total[v] = total_of(&weight[c..e]);
         c = e;
-        v += 1;
     }
     first[b] = c;
 }

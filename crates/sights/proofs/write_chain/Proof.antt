@@ -42,8 +42,8 @@ loop-holds c =
       refl,
       record {
         rest = _;
-        leads = leads_all _ _ _ s.requires.0 _ s.requires.1.0 p.0.0;
-        filling = filling_start _ _ _ _ p.1.0 p.1.1;
+        leads = leads_all _ _ _ s.requires.0 _ s.requires.1.0 p.0;
+        filling = filling_start _ _ _ _ p.1.1.0 p.1.1.1;
       },
     )
 
@@ -52,7 +52,7 @@ write-half-requires c κs =
     let i : tie.In-loop-h invariant-loop decreases-loop = search in
     let s = start_of i.before in
     let t = turn i in
-    (half_here _ _ _ s.requires.0 s.args.m t.some_line t.inside, (s.requires.1.1.0.1, (t.room, t.filling.range)))
+    (half_here _ _ _ s.requires.0 s.args.m t.some_line t.inside, (s.requires.1.1.1.0, (t.room, t.filling.range)))
 
 add-c : tie.Need-overflow_add-c invariant-loop decreases-loop
 add-c c =
@@ -95,7 +95,7 @@ write_chain_spec =
     decreases-loop
     (λ c. search rules)  -- offset_bounds-head-m
     (λ c. let s : tie.Start invariant-loop decreases-loop = search in
-    omega (arith, s.requires.1.0.heads, s.requires.1.1.0.0))  -- bounds-head-m
+    omega (arith, s.requires.1.0.heads, s.requires.1.1.0))  -- bounds-head-m
     loop-holds
     write-half-requires
     add-c
