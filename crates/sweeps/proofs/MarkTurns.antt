@@ -7,7 +7,7 @@ use native.Mathlib.Omega.{arith}
 use mathlib.Core.Path.{◌≡◌, sym, ◌∙◌, ap}
 use mathlib.Core.Logic.{⊎_elim}
 use mathlib.Core.List.{List}
-use mathlib.Core.Bool.{true, false}
+use mathlib.Core.Bool.{Bool, true, false, not}
 use lib.ListN.{get_or, set, length-set}
 use lib.IntN.{ℤ, pos, nat_abs, ◌+ℤ◌}
 use Rattle.laws.specs.Tests.{eq_z}
@@ -19,7 +19,9 @@ use Rattle.fields.specs.Heights.{height, Working}
 use Rattle.sights.specs.Sights.{Sight, weights, pull}
 use Rattle.sights.specs.Table.{Columns, seen, rows, Ends, Table}
 use Rattle.divisions.specs.Nearest.{nearest}
-use Rattle.sweeps.specs.Sweeps.{move_of, Swept, still, moved, placed, visited}
+use Rattle.sweeps.specs.Sweeps.{move_of, Swept, placed, visited}
+use Rattle.sweeps.specs.MarkTurns.{swept}
+use Rattle.std.specs.Prelude.{Ok}
 use Rattle.fields.proofs.Setting.{set_all, place}
 use Rattle.divisions.proofs.Rounding.{nearest_le, nearest_size_lem, nearest_none}
 use Rattle.sweeps.proofs.Best.{no_weight}
@@ -111,8 +113,7 @@ module _ (ss : List Sight) (hs : List ℤ) (v : ℕ) (d z : ℤ) (ed : d ≡ mov
   pub visit_outside : work_height_out z ≡ true → Swept.outside (v + 1) ≡ visited ss hs (suc v)
   visit_outside o = sym (visit_placed ∙ rw (o, add-one v))
 
-  pub visit_still : work_height_out z ≡ false → eq_z d (pos 0) ≡ true → still (set hs v z) ≡ visited ss hs (suc v)
-  visit_still o s = sym (visit_placed ∙ rw (o, s, place v))
-
-  pub visit_moved : work_height_out z ≡ false → eq_z d (pos 0) ≡ false → moved (set hs v z) ≡ visited ss hs (suc v)
-  visit_moved o s = sym (visit_placed ∙ rw (o, s, place v))
+  pub visit_within : work_height_out z ≡ false → (same : Bool) → same ≡ eq_z d (pos 0)
+      → swept (Ok (not same)) (set hs v z) ≡ visited ss hs (suc v)
+  visit_within o true e = sym (visit_placed ∙ rw (o, sym e, place v))
+  visit_within o false e = sym (visit_placed ∙ rw (o, sym e, place v))

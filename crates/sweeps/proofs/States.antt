@@ -2,56 +2,16 @@
 -- Assumes nothing.
 use Prim.Native.Nat.{ℕ, zero, suc, ◌+◌, ◌-◌, ◌≤◌, ◌<◌}
 use native.Mathlib.Numerals.{add-one}
+use native.Mathlib.Nat.{zero-add, suc-add}
 use native.Mathlib.Omega.{arith}
-use mathlib.Core.Path.{◌≡◌, refl, sym, ◌∙◌, ap}
-use mathlib.Core.Bool.{Bool, true, false, true≢false}
+use mathlib.Core.Path.{◌≡◌, refl, sym, ◌∙◌, ap, subst}
+use mathlib.Core.Bool.{Bool, true, false}
 use mathlib.Core.List.{List}
-use lib.ListN.{get_or}
 use lib.IntN.{ℤ}
 use Rattle.sights.specs.Sights.{Sight}
 use Rattle.sights.specs.Table.{Sighted}
-use Rattle.sweeps.specs.Sweeps.{Swept, still, moved, has_moved, visited, visit, sweep, Settled, settled, unsettled, onward}
+use Rattle.sweeps.specs.Sweeps.{Swept, still, moved, visit, sweep, Settled, settled, unsettled, onward}
 use Rattle.sweeps.specs.Sweeps.{settle_from, max_sweeps, settle}
-use Rattle.sweeps.specs.MarkTurns.{flags, swept, moved_turn, joined_turn, outside_turn}
-use Rattle.fields.proofs.Setting.{place}
-use Rattle.sweeps.specs.declared.Turn.{Turn}
-use Rattle.sweeps.specs.declared.Turn.TheVariants as turn
-
-moved_joined : (r : Turn) (hs : List ℤ) → swept (moved_turn r) hs ≡ has_moved (swept r hs)
-moved_joined turn.Still hs = refl
-moved_joined turn.Moved hs = refl
-moved_joined (turn.Outside m) hs = refl
-
-module _ (ss : List Sight) (hs : List ℤ) (m : ℕ) where
-  joined_free : (s r : Turn) (gs : List ℤ) → outside_turn s ≡ false → swept r gs ≡ visited ss hs m
-      → swept (joined_turn s r) gs ≡ visit false ss m (swept s hs)
-  joined_free turn.Still r gs o e = e
-  joined_free turn.Moved r gs o e = moved_joined r gs ∙ ap has_moved e
-  joined_free (turn.Outside k) r gs o e = absurd (true≢false o)
-
-  outside_same : (f : Bool) (s : Turn) → outside_turn s ≡ true → swept s hs ≡ visit f ss m (swept s hs)
-  outside_same true s o = refl
-  outside_same false turn.Still o = absurd (true≢false (sym o))
-  outside_same false turn.Moved o = absurd (true≢false (sym o))
-  outside_same false (turn.Outside k) o = refl
-
--- the turn of the mark at place v, of the flag f that it is held
-module _ (held : List Bool) (ss : List Sight) (hs : List ℤ) (v : ℕ) (s : Turn) where
-  flag : flags held (suc v) ≡ get_or held v false
-  flag = ap (λ (i : ℕ). get_or held i false) (place v)
-
-  pub turn_held : get_or held v false ≡ true → swept s hs ≡ visit (flags held (suc v)) ss (suc v) (swept s hs)
-  turn_held e = sym (ap (λ (f : Bool). visit f ss (suc v) (swept s hs)) (flag ∙ e))
-
-  pub turn_outside : outside_turn s ≡ true → swept s hs ≡ visit (flags held (suc v)) ss (suc v) (swept s hs)
-  turn_outside o = outside_same ss hs (suc v) (flags held (suc v)) s o
-
-  pub turn_free : get_or held v false ≡ false → outside_turn s ≡ false → (r t : Turn) (gs : List ℤ) → t ≡ joined_turn s r
-      → swept r gs ≡ visited ss hs (suc v)
-      → swept t gs ≡ visit (flags held (suc v)) ss (suc v) (swept s hs)
-  turn_free e o r t gs et h =
-      ap (λ (x : Turn). swept x gs) et ∙ joined_free ss hs (suc v) s r gs o h
-      ∙ sym (ap (λ (f : Bool). visit f ss (suc v) (swept s hs)) (flag ∙ e))
 
 module _ (sights : ℕ → List Sight) (is_held : ℕ → Bool) where
   -- a sweep, one mark more
@@ -63,6 +23,26 @@ module _ (sights : ℕ → List Sight) (is_held : ℕ → Bool) where
       → t ≡ visit (is_held (suc v)) (sights (suc v)) (suc v) s → t ≡ sweep sights is_held hs (v + 1)
   unfolding sweep
   sweep_turn hs v s t e f = rw add-one (f ∙ ap (visit (is_held (suc v)) (sights (suc v)) (suc v)) e)
+
+  -- nothing follows a height outside
+  sweep_over : (hs : List ℤ) (m v k : ℕ) → Swept.outside m ≡ sweep sights is_held hs v
+      → Swept.outside m ≡ sweep sights is_held hs (k + v)
+  unfolding sweep
+  sweep_over hs m v zero e = rw (zero-add v) e
+  sweep_over hs m v (suc k) e =
+      let u = suc (k + v) in
+      rw (suc-add k v) (passed (is_held u) (sights u) u ∙ ap (visit (is_held u) (sights u) u) (sweep_over hs m v k e))
+    where
+      passed : (f : Bool) (ss : List Sight) (u : ℕ) → Swept.outside m ≡ visit f ss u (Swept.outside m)
+      passed true ss u = refl
+      passed false ss u = refl
+
+  pub sweep_outside : (hs : List ℤ) (m v b : ℕ) (s : Swept) → v < b → s ≡ sweep sights is_held hs v
+      → Swept.outside m ≡ visit (is_held (suc v)) (sights (suc v)) (suc v) s → Swept.outside m ≡ sweep sights is_held hs b
+  sweep_outside hs m v b s l e f =
+      let k : b - (v + 1) + (v + 1) ≡ b = omega arith in
+      subst (λ (u : ℕ). Swept.outside m ≡ sweep sights is_held hs u) k
+      (sweep_over hs m (v + 1) (b - (v + 1)) (sweep_turn hs v s (Swept.outside m) e f))
 
   -- the sweeps: n have been, and what is left of them from hs on ends as all do
   module _ (b : ℕ) where

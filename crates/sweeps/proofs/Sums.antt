@@ -14,7 +14,6 @@ use Rattle.book.specs.Limits.{most_height, most_difference}
 use Rattle.fields.specs.Heights.{Working}
 use Rattle.sights.specs.Sights.{pull}
 use Rattle.sights.specs.Table.{Columns, seen, Ends}
-use Rattle.sights.proofs.Filling.{room_less}
 use Rattle.sweeps.specs.MarkTurns.{term_at}
 
 -- the most that a line adds to g: its weight, times how far the height given from the other end can be from the present one
@@ -23,10 +22,6 @@ most_apart = 2 * most_height + most_difference
 
 abbrev pub most_term : ℕ
 most_term = most_weight * most_apart
-
--- fewer places
-pub shorter : {cols : Columns} {b e k : ℕ} → Ends cols b e → k ≤ e → Ends cols b k
-shorter h l = record { room = room_less h.room l; range = h.range }
 
 module _ (cols : Columns) (hs : List ℤ) (z : ℤ) where
   -- the first of the lines left

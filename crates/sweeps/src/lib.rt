@@ -10,7 +10,7 @@ ghost use Rattle.chains.specs.Chains.{InOrder};
 ghost use Rattle.fields.specs.Heights.{Working};
 ghost use Rattle.sights.specs.Sights.{sights_of, pull};
 ghost use Rattle.sights.specs.Table.{columns, seen, rows, Ends, Span, Table};
-ghost use Rattle.sweeps.specs.MarkTurns.{term_at, flags, swept, ended_at, joined_turn, moved_turn, outside_turn};
+ghost use Rattle.sweeps.specs.MarkTurns.{term_at, flags, swept, ended_at};
 ghost use Rattle.sweeps.specs.Sweeps.{move_of, visited, visit, sweep, settle};
 
 use book::Book;
@@ -24,21 +24,32 @@ const ENDS: usize = Book::MAX_LINES * 2;
 // "the 10,000th sweep still moved a mark"
 const MAX_SWEEPS: usize = 10_000;
 
-// How a sweep stands after a mark's turn: nothing has moved, a mark has moved, or the height of this mark is outside its limit.
-#[derive(Clone, Copy)]
-pub enum Turn {
-    Still,
-    Moved,
-    Outside(usize),
+// The height of this mark went outside its limit.
+#[derive(Drop)]
+struct Outside {
+    mark: usize,
 }
 
-// How the sweeps end: settled after so many, the height of this mark outside its limit, or the last sweep still moved a mark.
+// Why the sweeps end before one of them moves nothing: the height of this mark is outside its limit, or the last sweep still moved a mark.
 #[derive(Drop)]
-pub enum End {
-    Settled(usize),
+pub enum Unsettled {
     Outside(usize),
-    Unsettled,
+    StillMoving,
 }
+
+impl From<Outside> for Unsettled {
+    ghost use Rattle.std.specs.Prelude.{◌≡◌};
+    ghost use Rattle.sweeps.specs.declared.Unsettled.{Unsettled};
+
+    ghost from_gives = { λ o e. e ≡ Unsettled.Outside o.mark };
+
+    fn from(o: Outside) -> Unsettled {
+        Unsettled::Outside(o.mark)
+    }
+}
+
+// How the sweeps end: settled after so many, or why not.
+pub type End = Result<usize, Unsettled>;
 
 // What the line at place j adds to the g of a mark that stands at z.
 fn term(
@@ -50,9 +61,9 @@ fn term(
     z: i64,
     j: usize,
 ) -> i64
-    requires fact_1 { Ends (columns other.now rise.now weight.now) b (j + 1) }
-    requires fact_2 { Working h.now b }
-    requires fact_3 { nat_abs z ≤ most_height }
+    requires ends { Ends (columns other.now rise.now weight.now) b (j + 1) }
+    requires working { Working h.now b }
+    requires height { nat_abs z ≤ most_height }
     ensures { result ≡ term_at (columns other.now rise.now weight.now) h.now z j }
 {
     let given = signed::add(h[other[j]], rise[j]);
@@ -70,18 +81,16 @@ fn pull_of(
     a: usize,
     e: usize,
 ) -> i64
-    requires fact_1 { Ends (columns other.now rise.now weight.now) b e }
-    requires fact_2 { Working h.now b }
-    requires fact_3 { nat_abs z ≤ most_height }
-    requires fact_4 { Span a e }
+    requires ends { Ends (columns other.now rise.now weight.now) b e }
+    requires working { Working h.now b }
+    requires height { nat_abs z ≤ most_height }
+    requires span { Span a e }
     ensures { result ≡ pull h.now z
         (seen (columns other.now rise.now weight.now) a (e - a)) }
 {
-    let mut g = 0i64;
-    let mut j = a;
-    while j < e {
+    let mut g = 0;
+    for j in a..e {
         g = signed::add(g, term(other, rise, weight, h, b, z, j));
-        j += 1;
     }
     g
 }
@@ -97,9 +106,9 @@ fn move_of(
     b: usize,
     v: usize,
 ) -> i64
-    requires fact_1 { Table first.now (columns other.now rise.now weight.now) total.now b }
-    requires fact_2 { Working h.now b }
-    requires fact_3 { v < b }
+    requires table { Table first.now (columns other.now rise.now weight.now) total.now b }
+    requires working { Working h.now b }
+    requires place { v < b }
     ensures { (result ≡ move_of
         (rows first.now (columns other.now rise.now weight.now) (suc v))
         h.now (suc v)) × (nat_abs result < 2 ^ 62 + 2 ^ 61) }
@@ -108,7 +117,7 @@ fn move_of(
     divisions::move_by(g, total[v])
 }
 
-// The mark at place v is visited.
+// The mark at place v is visited: whether it moved.
 fn visit(
     first: &[usize],
     other: &[usize],
@@ -118,10 +127,10 @@ fn visit(
     h: &mut [i64],
     b: usize,
     v: usize,
-) -> Turn
-    requires fact_1 { Table first.now (columns other.now rise.now weight.now) total.now b }
-    requires fact_2 { Working h.old b }
-    requires fact_3 { v < b }
+) -> Result<bool, Outside>
+    requires table { Table first.now (columns other.now rise.now weight.now) total.now b }
+    requires working { Working h.old b }
+    requires place { v < b }
     ensures { (swept result h.new ≡ visited
         (rows first.now (columns other.now rise.now weight.now) (suc v))
         h.old (suc v)) × Working h.new b }
@@ -129,49 +138,14 @@ fn visit(
     let d = move_of(first, other, rise, weight, total, h, b, v);
     let made = Height::in_work(signed::add(h[v], d));
     let MadeHeight::Good(height) = made else {
-        return Turn::Outside(v + 1);
+        return Err(Outside { mark: v + 1 });
     };
     let z = height.micrometres;
     h[v] = z;
-    if signed::same(d, 0) {
-        Turn::Still
-    } else {
-        Turn::Moved
-    }
+    Ok(!signed::same(d, 0))
 }
 
-// What a visit found, after what the sweep had found before it.
-fn joined(s: Turn, r: Turn) -> Turn
-    ensures { result ≡ joined_turn s r }
-{
-    match s {
-        Turn::Still => r,
-        Turn::Moved => has_moved(r),
-        Turn::Outside(m) => Turn::Outside(m),
-    }
-}
-
-fn has_moved(r: Turn) -> Turn
-    ensures { result ≡ moved_turn r }
-{
-    match r {
-        Turn::Still => Turn::Moved,
-        Turn::Moved => Turn::Moved,
-        Turn::Outside(m) => Turn::Outside(m),
-    }
-}
-
-fn is_outside(s: Turn) -> bool
-    ensures { result ≡ outside_turn s }
-{
-    match s {
-        Turn::Still => false,
-        Turn::Moved => false,
-        Turn::Outside(_) => true,
-    }
-}
-
-// The turn of the mark at place v in a sweep that stands at s: a held mark is passed over, and nothing follows a height outside.
+// The turn of the mark at place v in a sweep that has moved a mark or not: whether it has now. A held mark is passed over.
 fn take_turn(
     first: &[usize],
     other: &[usize],
@@ -182,26 +156,24 @@ fn take_turn(
     h: &mut [i64],
     b: usize,
     v: usize,
-    s: Turn,
-) -> Turn
-    requires fact_1 { Table first.now (columns other.now rise.now weight.now) total.now b }
-    requires fact_2 { Working h.old b }
-    requires fact_3 { v < b }
-    requires fact_4 { b ≤ length held.now }
+    moved: bool,
+) -> Result<bool, Outside>
+    requires table { Table first.now (columns other.now rise.now weight.now) total.now b }
+    requires working { Working h.old b }
+    requires place { v < b }
+    requires flagged { b ≤ length held.now }
     ensures { (swept result h.new ≡ visit (flags held.now (suc v))
         (rows first.now (columns other.now rise.now weight.now) (suc v)) (suc v)
-        (swept s h.old)) × Working h.new b }
+        (swept (Ok moved) h.old)) × Working h.new b }
 {
     if held[v] {
-        return s;
+        return Ok(moved);
     }
-    if is_outside(s) {
-        return s;
-    }
-    joined(s, visit(first, other, rise, weight, total, h, b, v))
+    let here = visit(first, other, rise, weight, total, h, b, v)?;
+    Ok(moved || here)
 }
 
-// A sweep visits the free marks of b marks by number; so many marks are left.
+// A sweep visits the free marks of b marks by number: whether it moves one.
 fn sweep(
     first: &[usize],
     other: &[usize],
@@ -211,21 +183,19 @@ fn sweep(
     held: &[bool],
     h: &mut [i64],
     b: usize,
-) -> Turn
-    requires fact_1 { Table first.now (columns other.now rise.now weight.now) total.now b }
-    requires fact_2 { Working h.old b }
-    requires fact_3 { b ≤ length held.now }
+) -> Result<bool, Outside>
+    requires table { Table first.now (columns other.now rise.now weight.now) total.now b }
+    requires working { Working h.old b }
+    requires flagged { b ≤ length held.now }
     ensures { (swept result h.new ≡ sweep
         (rows first.now (columns other.now rise.now weight.now))
         (flags held.now) h.old b) × Working h.new b }
 {
-    let mut s = Turn::Still;
-    let mut left = b;
-    while 0 < left {
-        s = take_turn(first, other, rise, weight, total, held, h, b, b - left, s);
-        left -= 1;
+    let mut moved = false;
+    for v in 0..b {
+        moved = take_turn(first, other, rise, weight, total, held, h, b, v, moved)?;
     }
-    s
+    Ok(moved)
 }
 
 // Sweeps until one moves nothing, or a height is outside, or the last sweep that is allowed still moved a mark.
@@ -239,24 +209,20 @@ fn settle(
     h: &mut [i64],
     b: usize,
 ) -> End
-    requires fact_1 { Table first.now (columns other.now rise.now weight.now) total.now b }
-    requires fact_2 { Working h.old b }
-    requires fact_3 { b ≤ length held.now }
+    requires table { Table first.now (columns other.now rise.now weight.now) total.now b }
+    requires working { Working h.old b }
+    requires flagged { b ≤ length held.now }
     ensures { ended_at result h.new ≡ settle
         (rows first.now (columns other.now rise.now weight.now))
         (flags held.now) b h.old }
 {
-    let mut n = 0;
-    while n < MAX_SWEEPS {
-        let s = sweep(first, other, rise, weight, total, held, h, b);
-        match s {
-            Turn::Still => return End::Settled(n + 1),
-            Turn::Outside(m) => return End::Outside(m),
-            Turn::Moved => {}
+    for n in 0..MAX_SWEEPS {
+        let moved = sweep(first, other, rise, weight, total, held, h, b)?;
+        if !moved {
+            return Ok(n + 1);
         }
-        n += 1;
     }
-    End::Unsettled
+    Err(Unsettled::StillMoving)
 }
 
 // The sweeps over the n lines of a drawn book of b marks, from the heights h on.
