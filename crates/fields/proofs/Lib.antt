@@ -2,3 +2,4 @@ pub mod Setting
 pub mod Readback
 pub mod Stands
 pub mod Fair
+pub mod Named
