@@ -1,26 +1,16 @@
--- Arrays that are filled place by place: roots at the beginning, and the heights at the start.
+-- The heights at the start, one mark after another.
 -- Assumes nothing.
 use Prim.Native.Nat.{ℕ, zero, suc, ◌+◌, ◌-◌, ◌≤◌, ◌<◌}
-use native.Mathlib.Nat.{eq-or-lt_of_le, add-zero}
+use native.Mathlib.Nat.{add-zero}
 use native.Mathlib.Omega.{arith}
 use mathlib.Core.Path.{◌≡◌, refl, ◌∙◌, ap}
-use mathlib.Core.Logic.{⊎_elim}
 use mathlib.Core.List.{List}
-use lib.ListN.{length, get_or, set}
-use lib.Seq.{get_or-set_same, get_or-set_other}
+use lib.ListN.{length, get_or}
 use lib.IntN.{ℤ, pos}
 use Rattle.network.specs.Standing.{standing}
 use Rattle.network.specs.Tree.{tree}
 use Rattle.fields.specs.Heights.{height}
 use Rattle.start.specs.Start.{held_height, rooted_by, start_of, heights_from, start, start_heights}
-
--- one place more
-pub fill_next : {A : Type 0} (d : A) (f : ℕ → A) (l : List A) (v : ℕ) (x : A) → v < length l → x ≡ f v
-    → ((u : ℕ) → u < v → get_or l u d ≡ f u) → (u : ℕ) → u < v + 1 → get_or (set l v x) u d ≡ f u
-fill_next d f l v x h e g u s =
-    let q : u ≤ v = omega arith in
-    ⊎_elim (λ (p : u ≡ v). rw (p, get_or-set_same l v x d h) e) (λ (p : u < v). rw (get_or-set_other l v u x d (λ r. omega arith)) (g u p))
-    (eq-or-lt_of_le q)
 
 -- the heights of k marks from m on
 length_from : (f : ℕ → ℤ) (m k : ℕ) → length (heights_from f m k) ≡ k

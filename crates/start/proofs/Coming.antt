@@ -3,16 +3,16 @@
 use Prim.Native.Nat.{ℕ, zero, suc, ◌+◌, ◌*◌, ◌-◌, ◌≤◌, ◌<◌, zero-le}
 use native.Mathlib.Numerals.{add-one}
 use native.Mathlib.Omega.{arith}
-use mathlib.Core.Path.{◌≡◌, refl, sym, ◌∙◌, ap, subst}
+use mathlib.Core.Path.{◌≡◌, refl, sym, ◌∙◌, ap}
 use mathlib.Core.Bool.{Bool, true, false}
 use mathlib.Core.List.{List}
 use lib.Dec.{eqb}
 use lib.ListN.{length, get_or, set, length-set}
 use lib.Seq.{get_or-set_same, get_or-set_other}
-use lib.IntN.{ℤ, pos, nat_abs, ◌+ℤ◌, ◌-ℤ◌}
-use borrow.Author.Tests.{eqb-true, eqb-false, eq-eqb, ne_eqb}
+use lib.IntN.{ℤ, pos, nat_abs, ◌-ℤ◌}
+use borrow.Author.Tests.{eqb-true, eqb-false, ne_eqb}
 use Rattle.book.specs.Good.{Lines}
-use Rattle.laws.proofs.Size.{size_add, size_sub}
+use Rattle.laws.proofs.Size.{size_sub}
 use Rattle.book.specs.Limits.{most_difference}
 use Rattle.book.specs.Line.{from_at, to_at, difference_at}
 use Rattle.chains.specs.Chains.{line_in}
@@ -21,50 +21,26 @@ use Rattle.start.specs.Along.{Growth, side_of, came_in, rooting, spots, Spotted,
 use Rattle.fields.proofs.Setting.{set_all}
 
 module _ (lines : List ℤ) (root : List ℕ) (over : List ℤ) (b k m : ℕ) (spotted : Spotted root over b k) where
-  pub come_root : (j : ℕ) → j ≡ 0 → 0 < m → m ≤ b → Spot (came_in (spots root over) lines m j) b (k + 1) m (pos 0)
-  come_root zero e l u = record { is = refl; mark = (l, u); size = zero-le }
-  come_root (suc j) e l u = absurd (omega arith)
-
-  by_side : (j : ℕ) → 0 < j → (t : Bool) → eqb (nat_abs (to_at lines (j - 1))) m ≡ t
-      → side_of t (up (spots root over (nat_abs (from_at lines (j - 1)))) (difference_at lines (j - 1)))
-      (down (spots root over (nat_abs (to_at lines (j - 1)))) (difference_at lines (j - 1)))
-      ≡ came_in (spots root over) lines m j
-  by_side zero l t e = absurd (omega arith)
-  by_side (suc i) l t e =
-      let p : suc i - 1 ≡ i = omega arith in
-      let e' : eqb (nat_abs (to_at lines i)) m ≡ t = subst (λ (x : ℕ). eqb (nat_abs (to_at lines x)) m ≡ t) p e in
-      ap (λ (x : ℕ). side_of t (up (spots root over (nat_abs (from_at lines x))) (difference_at lines x))
-      (down (spots root over (nat_abs (to_at lines x))) (difference_at lines x))) p
-      ∙ ap (λ (s : Bool). side_of s (up (spots root over (nat_abs (from_at lines i))) (difference_at lines i))
-      (down (spots root over (nat_abs (to_at lines i))) (difference_at lines i))) (sym e')
+  by_side : (i : ℕ) (t : Bool) → eqb (nat_abs (to_at lines i)) m ≡ t
+      → side_of t (up (spots root over (nat_abs (from_at lines i))) (difference_at lines i))
+      (down (spots root over (nat_abs (to_at lines i))) (difference_at lines i))
+      ≡ came_in (spots root over) lines m (suc i)
+  by_side i t e =
+      ap (λ (s : Bool). side_of s (up (spots root over (nat_abs (from_at lines i))) (difference_at lines i))
+      (down (spots root over (nat_abs (to_at lines i))) (difference_at lines i))) (sym e)
 
   bigger : (x : ℕ) (z : ℤ) → nat_abs z ≤ x + most_difference → x ≤ k * most_difference → nat_abs z ≤ (k + 1) * most_difference
   bigger x z h l = omega arith
 
-  -- over the line from its from
-  pub come_up : (j from : ℕ) (d o : ℤ) → 0 < j → nat_abs (to_at lines (j - 1)) ≡ m → from ≡ nat_abs (from_at lines (j - 1)) → 0 < from
-      → from ≤ b
-      → d ≡ difference_at lines (j - 1) → nat_abs d ≤ most_difference → o ≡ get_or over (from - 1) (pos 0) +ℤ d
-      → Spot (came_in (spots root over) lines m j) b (k + 1) (get_or root (from - 1) 0) o
-  come_up j from d o l et ef fl fu ed hd eo = record {
-    is =
-        ap (λ (x : ℤ). rooted (get_or root (from - 1) 0) x) (eo ∙ ap (λ (x : ℤ). get_or over (from - 1) (pos 0) +ℤ x) ed)
-        ∙ ap (λ (x : ℕ). up (spots root over x) (difference_at lines (j - 1))) ef
-        ∙ by_side j l true (eq-eqb (nat_abs (to_at lines (j - 1))) m et);
-    mark = spotted.marks (from - 1) (omega arith);
-    size = rw eo (bigger (nat_abs (get_or over (from - 1) (pos 0))) (get_or over (from - 1) (pos 0) +ℤ d)
-        (omega (arith, size_add (get_or over (from - 1) (pos 0)) d)) (spotted.size (from - 1)));
-  }
-
   -- over the line from its to
-  pub come_down : (j to : ℕ) (d o : ℤ) → 0 < j → (to ≡ m → ⊥) → to ≡ nat_abs (to_at lines (j - 1)) → 0 < to → to ≤ b
-      → d ≡ difference_at lines (j - 1) → nat_abs d ≤ most_difference → o ≡ get_or over (to - 1) (pos 0) -ℤ d
-      → Spot (came_in (spots root over) lines m j) b (k + 1) (get_or root (to - 1) 0) o
-  come_down j to d o l nt et tl tu ed hd eo = record {
+  pub come_down : (i to : ℕ) (d o : ℤ) → (to ≡ m → ⊥) → to ≡ nat_abs (to_at lines i) → 0 < to → to ≤ b
+      → d ≡ difference_at lines i → nat_abs d ≤ most_difference → o ≡ get_or over (to - 1) (pos 0) -ℤ d
+      → Spot (came_in (spots root over) lines m (suc i)) b (k + 1) (get_or root (to - 1) 0) o
+  come_down i to d o nt et tl tu ed hd eo = record {
     is =
         ap (λ (x : ℤ). rooted (get_or root (to - 1) 0) x) (eo ∙ ap (λ (x : ℤ). get_or over (to - 1) (pos 0) -ℤ x) ed)
-        ∙ ap (λ (x : ℕ). down (spots root over x) (difference_at lines (j - 1))) et
-        ∙ by_side j l false (ne_eqb (nat_abs (to_at lines (j - 1))) m (λ e. nt (et ∙ e)));
+        ∙ ap (λ (x : ℕ). down (spots root over x) (difference_at lines i)) et
+        ∙ by_side i false (ne_eqb (nat_abs (to_at lines i)) m (λ e. nt (et ∙ e)));
     mark = spotted.marks (to - 1) (omega arith);
     size = rw eo (bigger (nat_abs (get_or over (to - 1) (pos 0))) (get_or over (to - 1) (pos 0) -ℤ d)
         (omega (arith, size_sub (get_or over (to - 1) (pos 0)) d)) (spotted.size (to - 1)));

@@ -1,6 +1,6 @@
 -- Held entries, taken from the last to the first, give each mark the height of the entry that names it first.
 -- Assumes nothing.
-use Prim.Native.Nat.{ℕ, zero, suc, ◌+◌, ◌*◌, ◌≤◌, ◌<◌, zero-le}
+use Prim.Native.Nat.{ℕ, suc, ◌+◌, ◌*◌, ◌≤◌, ◌<◌, zero-le}
 use native.Mathlib.Omega.{arith}
 use mathlib.Core.Path.{◌≡◌, refl, sym, ◌∙◌, ap}
 use mathlib.Core.Bool.{Bool, true, false, cond}
@@ -59,15 +59,7 @@ module _ (held : List ℤ) where
       size = set_all (λ (x : ℤ). nat_abs x ≤ most_held_height) own v z (pos 0) (rw ez p.good.height) g.size;
     }
 
-  -- after the last entry, and before the first
-  pub held_all : (flags : List Bool) (own : List ℤ) (b i : ℕ) → i ≤ 0 → Given (held_from held i) flags own b most_held_height
-      → Given (held_height held) flags own b most_held_height
-  held_all flags own b zero l g = g
-  held_all flags own b (suc i) l g = absurd (omega arith)
-
-  pub held_place : (b h i : ℕ) → HeldEntries held b h → i < h → HeldPlace held b i
-  held_place b h i e l = record { whole = omega (arith, e.whole); good = e.each i l }
-
+  -- after the last entry
   past : {b : ℕ} (h : ℕ) → HeldEntries held b h → length held ≤ 2 * h
   past h e = omega (arith, e.whole)
 

@@ -1,2 +1,3 @@
 pub mod Start
 pub mod Along
+pub mod By

@@ -3,10 +3,13 @@
 
 #![tactic(auto)]
 
-ghost use Rattle.std.specs.Prelude.{◌≡◌, cond, ◌+◌, ◌≤◌, ◌<◌, length};
+ghost use Rattle.std.specs.Prelude.{◌≡◌, ℕ, cond, ◌+◌, ◌≤◌, ◌<◌, length};
 ghost use Rattle.book.specs.Limits.{most_marks, most_held_height};
 ghost use Rattle.book.specs.Good.{Lines, HeldEntries};
 ghost use Rattle.laws.specs.Scan.{first_bad};
+ghost use Rattle.fields.specs.Named.{some_mark};
+ghost use Rattle.chains.specs.Chains.{line_in};
+ghost use Rattle.start.specs.By.{number_of};
 ghost use Rattle.start.specs.Along.{Growth, came_in, rooting, spots, Spotted, Spot, Placing, Given, held_from, HeldPlace};
 ghost use Rattle.start.specs.Along.{roots_from, most_root, gives, HeldIn, Known, Seeded};
 ghost use Rattle.start.specs.Along.{Rooting, Based, unheld, start_at, Begun, Blank, Bare, Started, Raised};
@@ -26,7 +29,16 @@ struct Rooted {
     over: i64,
 }
 
-// The place of mark m that comes in by the line of number j, or as a root where j is 0.
+// The place of the line by which mark m comes in, or none for a root: its key in `best` ends with the half.
+fn line_into(best: &[u64], m: usize) -> Option<usize>
+    requires { m < length best.now }
+    ensures { number_of result ≡ line_in best.now m }
+{
+    let number = (best[m] % chains::HALVES / 2) as usize;
+    number.checked_sub(1)
+}
+
+// The place in the tree of mark m that comes in by a line, or as a root.
 fn come_in(
     lines: &[i64],
     root: &[usize],
@@ -35,21 +47,24 @@ fn come_in(
     n: usize,
     k: usize,
     m: usize,
-    j: usize,
+    line: Option<usize>,
 ) -> Rooted
-    requires fact_1 { Lines lines.now b n }
-    requires fact_2 { Spotted root.now over.now b k }
-    requires fact_3 { (0 < m) × (m ≤ b) × (j ≤ n) × (k ≤ most_marks) }
-    ensures { Spot (came_in (spots root.now over.now) lines.now m j) b (k + 1) result.root
+    requires good { Lines lines.now b n }
+    requires spotted { Spotted root.now over.now b k }
+    requires some { 0 < m }
+    requires mark { m ≤ b }
+    requires line { number_of line ≤ n }
+    requires few { k ≤ most_marks }
+    ensures { Spot (came_in (spots root.now over.now) lines.now m (number_of line)) b (k + 1) result.root
         result.over }
 {
-    if j == 0 {
+    let Some(i) = line else {
         return Rooted { root: m, over: 0 };
-    }
-    let d = difference_of(lines, b, n, j - 1);
-    let to = to_mark(lines, b, n, j - 1);
+    };
+    let d = difference_of(lines, b, n, i);
+    let to = to_mark(lines, b, n, i);
     if to == m {
-        let from = from_mark(lines, b, n, j - 1);
+        let from = from_mark(lines, b, n, i);
         return Rooted {
             root: root[from - 1],
             over: signed::add(over[from - 1], d),
@@ -72,16 +87,16 @@ fn enter(
     n: usize,
     k: usize,
 )
-    requires fact_1 { Lines lines.now b n }
-    requires fact_2 { Growth order.now best.now b n }
-    requires fact_3 { Placing (rooting lines.now order.now best.now k) root.old over.old b k }
-    requires fact_4 { (k < b) × (b ≤ most_marks) }
+    requires good { Lines lines.now b n }
+    requires growth { Growth order.now best.now b n }
+    requires placing { Placing (rooting lines.now order.now best.now k) root.old over.old b k }
+    requires place { k < b }
+    requires few { b ≤ most_marks }
     ensures { Placing (rooting lines.now order.now best.now (k + 1)) root.new
         over.new b (k + 1) }
 {
     let m = order[k] as usize;
-    let j = (best[m] % chains::HALVES / 2) as usize;
-    let r = come_in(lines, root, over, b, n, k, m, j);
+    let r = come_in(lines, root, over, b, n, k, m, line_into(best, m));
     let its_root = r.root;
     let its_over = r.over;
     root[m - 1] = its_root;
@@ -98,24 +113,22 @@ fn place_all(
     b: usize,
     n: usize,
 )
-    requires fact_1 { Lines lines.now b n }
-    requires fact_2 { Growth order.now best.now b n }
-    requires fact_3 { Placing (rooting lines.now order.now best.now 0) root.old over.old b 0 }
-    requires fact_4 { b ≤ most_marks }
+    requires good { Lines lines.now b n }
+    requires growth { Growth order.now best.now b n }
+    requires placing { Placing (rooting lines.now order.now best.now 0) root.old over.old b 0 }
+    requires few { b ≤ most_marks }
     ensures { Placing (rooting lines.now order.now best.now b) root.new
         over.new b b }
 {
-    let mut k = 0;
-    while k < b {
+    for k in 0..b {
         enter(lines, order, best, root, over, b, n, k);
-        k += 1;
     }
 }
 
 // The held entry at place i: its mark has its height.
 fn hold(held: &[i64], flags: &mut [bool], own: &mut [i64], b: usize, i: usize)
-    requires fact_1 { HeldPlace held.now b i }
-    requires fact_2 { Given (held_from held.now (i + 1)) flags.old own.old b most_held_height }
+    requires entry { HeldPlace held.now b i }
+    requires given { Given (held_from held.now (i + 1)) flags.old own.old b most_held_height }
     ensures { Given (held_from held.now i) flags.new own.new b most_held_height }
 {
     let at = i * Held::WORDS;
@@ -131,9 +144,7 @@ pub fn hold_all(held: &[i64], flags: &mut [bool], own: &mut [i64], b: usize, h: 
     requires fact_2 { Blank flags.old own.old b }
     ensures { Given (held_height held.now) flags.new own.new b most_held_height }
 {
-    let mut i = h;
-    while 0 < i {
-        i -= 1;
+    for i in (0..h).rev() {
         hold(held, flags, own, b, i);
     }
 }
@@ -149,9 +160,9 @@ fn lift(
     b: usize,
     v: usize,
 )
-    requires fact_1 { v < b }
-    requires fact_2 { Known flags.now own.now root.now over.now b }
-    requires fact_3 { Given (roots_from (spots root.now over.now) (gives flags.now own.now) b (v + 1)) has.old base.old b most_root }
+    requires place { v < b }
+    requires known { Known flags.now own.now root.now over.now b }
+    requires given { Given (roots_from (spots root.now over.now) (gives flags.now own.now) b (v + 1)) has.old base.old b most_root }
     ensures { Given (roots_from (spots root.now over.now) (gives flags.now own.now) b
         v) has.new base.new b most_root }
 {
@@ -173,44 +184,37 @@ fn lift_all(
     base: &mut [i64],
     b: usize,
 )
-    requires fact_1 { Known flags.now own.now root.now over.now b }
-    requires fact_2 { Given (roots_from (spots root.now over.now) (gives flags.now own.now) b b) has.old base.old b most_root }
+    requires known { Known flags.now own.now root.now over.now b }
+    requires given { Given (roots_from (spots root.now over.now) (gives flags.now own.now) b b) has.old base.old b most_root }
     ensures { Given (roots_from (spots root.now over.now) (gives flags.now own.now) b
         0) has.new base.new b most_root }
 {
-    let mut v = b;
-    while 0 < v {
-        v -= 1;
+    for v in (0..b).rev() {
         lift(flags, own, root, over, has, base, b, v);
     }
 }
 
 // Every mark is its own root, before the first enters.
-fn seed(root: &mut [usize], b: usize)
-    requires { length root.old ≡ b }
-    ensures { Seeded root.new b }
+fn seed(root: &mut [usize])
+    ensures { Seeded root.new (length root.old) }
 {
-    let mut v = 0;
-    while v < b {
-        root[v] = v + 1;
-        v += 1;
+    for (v, its_root) in root.iter_mut().enumerate() {
+        *its_root = v + 1;
     }
 }
 
-// The lowest mark whose piece has no held mark, or 0.
-fn first_unheld(root: &[usize], has: &[bool], b: usize) -> usize
-    requires fact_1 { Rooting root.now b }
-    requires fact_2 { length has.now ≡ b }
-    ensures { result ≡ first_bad (unheld root.now has.now) b }
+// The lowest mark whose piece has no held mark.
+fn first_unheld(root: &[usize], has: &[bool], b: usize) -> Option<usize>
+    requires roots { Rooting root.now b }
+    requires all { length has.now ≡ b }
+    ensures { result ≡ some_mark (first_bad (unheld root.now has.now) b) }
 {
-    let mut v = 0;
-    while v < b {
-        if !has[root[v] - 1] {
-            return v + 1;
+    for (v, its_root) in root.iter().enumerate() {
+        if !has[*its_root - 1] {
+            return Some(v + 1);
         }
-        v += 1;
     }
-    0
+    None
 }
 
 // "then every held mark is set to its own"
@@ -230,9 +234,9 @@ fn start_at(
     b: usize,
     v: usize,
 ) -> i64
-    requires fact_1 { v < b }
-    requires fact_2 { Known flags.now own.now root.now over.now b }
-    requires fact_3 { Based base.now b }
+    requires place { v < b }
+    requires known { Known flags.now own.now root.now over.now b }
+    requires based { Based base.now b }
     ensures { result ≡ start_at flags.now own.now root.now over.now base.now v }
 {
     let followed = signed::add(base[root[v] - 1], over[v]);
@@ -249,21 +253,18 @@ fn begin(
     h: &mut [i64],
     b: usize,
 )
-    requires fact_1 { length h.old ≡ b }
-    requires fact_2 { Known flags.now own.now root.now over.now b }
-    requires fact_3 { Based base.now b }
+    requires all { length h.old ≡ b }
+    requires known { Known flags.now own.now root.now over.now b }
+    requires based { Based base.now b }
     ensures { Begun (start_at flags.now own.now root.now over.now base.now)
         h.new b }
 {
-    let mut v = 0;
-    while v < b {
-        let z = start_at(flags, own, root, over, base, b, v);
-        h[v] = z;
-        v += 1;
+    for (v, z) in h.iter_mut().enumerate() {
+        *z = start_at(flags, own, root, over, base, b, v);
     }
 }
 
-// Roots have their heights; the lowest mark of a piece without a held mark, or 0 and the heights at the start.
+// Roots have their heights; the lowest mark of a piece without a held mark, and the heights at the start where there is none.
 fn raise_in(
     flags: &[bool],
     own: &[i64],
@@ -273,19 +274,18 @@ fn raise_in(
     base: &mut [i64],
     z: &mut [i64],
     b: usize,
-) -> usize
-    requires fact_1 { Known flags.now own.now root.now over.now b }
-    requires fact_2 { Blank has.old base.old b }
-    requires fact_3 { length z.old ≡ b }
-    ensures { Raised flags.now own.now root.now over.now z.new b result }
+) -> Option<usize>
+    requires known { Known flags.now own.now root.now over.now b }
+    requires blank { Blank has.old base.old b }
+    requires all { length z.old ≡ b }
+    ensures { (m : ℕ) × (result ≡ some_mark m) × Raised flags.now own.now root.now over.now z.new b m }
 {
     lift_all(flags, own, root, over, has, base, b);
-    let m = first_unheld(root, has, b);
-    if 0 < m {
-        return m;
+    let unheld = first_unheld(root, has, b);
+    if unheld.is_none() {
+        begin(flags, own, root, over, base, z, b);
     }
-    begin(flags, own, root, over, base, z, b);
-    0
+    unheld
 }
 
 fn raise(
@@ -295,10 +295,10 @@ fn raise(
     over: &[i64],
     z: &mut [i64],
     b: usize,
-) -> usize
-    requires fact_1 { Known flags.now own.now root.now over.now b }
-    requires fact_2 { length z.old ≡ b }
-    ensures { Raised flags.now own.now root.now over.now z.new b result }
+) -> Option<usize>
+    requires known { Known flags.now own.now root.now over.now b }
+    requires all { length z.old ≡ b }
+    ensures { (m : ℕ) × (result ≡ some_mark m) × Raised flags.now own.now root.now over.now z.new b m }
 {
     let mut has = [false; MARKS];
     let mut base = [0i64; MARKS];
@@ -317,22 +317,21 @@ fn place_and_raise(
     z: &mut [i64],
     b: usize,
     n: usize,
-) -> usize
-    requires fact_1 { Lines lines.now b n }
-    requires fact_2 { Growth order.now best.now b n }
-    requires fact_3 { HeldIn flags.now own.now b }
-    requires fact_4 { Bare root.old over.old b }
-    requires fact_5 { length z.old ≡ b }
-    ensures { Started (rooting lines.now order.now best.now b) flags.now
-        own.now
-        z.new b result }
+) -> Option<usize>
+    requires good { Lines lines.now b n }
+    requires growth { Growth order.now best.now b n }
+    requires held_in { HeldIn flags.now own.now b }
+    requires bare { Bare root.old over.old b }
+    requires all { length z.old ≡ b }
+    ensures { (m : ℕ) × (result ≡ some_mark m)
+        × Started (rooting lines.now order.now best.now b) flags.now own.now z.new b m }
 {
-    seed(root, b);
+    seed(root);
     place_all(lines, order, best, root, over, b, n);
     raise(flags, own, root, over, z, b)
 }
 
-// The lowest mark of a piece without a held mark, or 0 and the heights at the start in z.
+// The lowest mark of a piece without a held mark, and the heights at the start in z where there is none.
 pub fn start_heights(
     lines: &[i64],
     order: &[u64],
@@ -342,14 +341,13 @@ pub fn start_heights(
     z: &mut [i64],
     b: usize,
     n: usize,
-) -> usize
+) -> Option<usize>
     requires fact_1 { Lines lines.now b n }
     requires fact_2 { Growth order.now best.now b n }
     requires fact_3 { HeldIn flags.now own.now b }
     requires fact_4 { length z.old ≡ b }
-    ensures { Started (rooting lines.now order.now best.now b) flags.now
-        own.now
-        z.new b result }
+    ensures { (m : ℕ) × (result ≡ some_mark m)
+        × Started (rooting lines.now order.now best.now b) flags.now own.now z.new b m }
 {
     let mut root = [0usize; MARKS];
     let mut over = [0i64; MARKS];
