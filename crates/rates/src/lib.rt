@@ -7,6 +7,7 @@ ghost use Rattle.book.specs.Line.{line_words};
 ghost use Rattle.book.specs.Test.{refusal};
 ghost use Rattle.book.specs.Good.{GoodLine, Lines};
 ghost use Rattle.fields.specs.Heights.{Working};
+ghost use Rattle.fields.specs.Named.{some_mark};
 ghost use Rattle.rates.specs.Rates.{quotient, row_of, refused_with, first_high, OfBook, correction_of, line_rate, good_rate};
 
 use book::height::{Height, MadeHeight};
@@ -81,20 +82,17 @@ pub fn refused(refusal: Refusal) -> RateAnswer
     }
 }
 
-// The lowest mark whose lent height is outside its limit, or 0.
-fn first_high(heights: &[i64]) -> usize
-    ensures { result ≡ first_high heights.now }
+// The lowest mark whose lent height is outside its limit.
+fn first_high(heights: &[i64]) -> Option<usize>
+    ensures { result ≡ some_mark (first_high heights.now) }
 {
-    let n = heights.len();
-    let mut i = 0;
-    while i < n {
-        let made = Height::in_work(heights[i]);
+    for (i, height) in heights.iter().enumerate() {
+        let made = Height::in_work(*height);
         if let MadeHeight::Refused(_) = made {
-            return i + 1;
+            return Some(i + 1);
         }
-        i += 1;
     }
-    0
+    None
 }
 
 // Adjusted minus observed difference of a line.
@@ -150,8 +148,7 @@ pub fn good_rate(lines: &[i64], heights: &[i64], book: Book, line: i64) -> RateA
     if signed::outside(line, 1, signed::signed_count(book.lines)) {
         return refuse(8, 0);
     }
-    let high = first_high(heights);
-    if 0 < high {
+    if let Some(high) = first_high(heights) {
         return refuse(13, high);
     }
     line_rate(lines, heights, book.marks, signed::index(line))
