@@ -30,8 +30,9 @@ use Rattle.start.proofs.Starting.{is_some_lem}
 use Rattle.start.proofs.Inside.{start_working}
 use Rattle.start.proofs.Beginning.{start_length, start_height}
 use Rattle.adjust.specs.declared.Adjusted.{Adjusted}
-use Rattle.sweeps.specs.declared.End.{End}
-use Rattle.sweeps.specs.declared.End.TheVariants as end
+use Rattle.std.specs.Prelude.{Result, Ok, Err}
+use Rattle.sweeps.specs.declared.Unsettled.{Unsettled}
+use Rattle.sweeps.specs.declared.Unsettled.TheVariants as why
 
 -- the same marks held, the same sweeps
 module _ (f : ℕ → List Sight) (p q : ℕ → Bool) where
@@ -64,16 +65,16 @@ module _ (f : ℕ → List Sight) (p q : ℕ → Bool) where
 answers_of : (a x : Adjusted) (hs : List ℤ) (o : Outcome) → a ≡ x → x ≡ answer_of (answered x hs) → answered a hs ≡ o → Answers a hs o
 answers_of a x hs o e p q = record { is = q; whole = subst (λ (y : Adjusted). y ≡ answer_of (answered y hs)) (sym e) p ∙ ap answer_of q }
 
-end_whole : (e : End) (hs : List ℤ) → end_answer e ≡ answer_of (answered (end_answer e) hs)
-end_whole (end.Settled n) hs = refl
-end_whole (end.Outside m) hs = refl
-end_whole end.Unsettled hs = refl
+end_whole : (e : Result ℕ Unsettled) (hs : List ℤ) → end_answer e ≡ answer_of (answered (end_answer e) hs)
+end_whole (Ok n) hs = refl
+end_whole (Err (why.Outside m)) hs = refl
+end_whole (Err why.StillMoving) hs = refl
 
 -- an end of the sweeps as an answer
-pub end_answer_lem : (e : End) (hs : List ℤ) → answered (end_answer e) hs ≡ ended (ended_at e hs)
-end_answer_lem (end.Settled n) hs = refl
-end_answer_lem (end.Outside m) hs = refl
-end_answer_lem end.Unsettled hs = refl
+pub end_answer_lem : (e : Result ℕ Unsettled) (hs : List ℤ) → answered (end_answer e) hs ≡ ended (ended_at e hs)
+end_answer_lem (Ok n) hs = refl
+end_answer_lem (Err (why.Outside m)) hs = refl
+end_answer_lem (Err why.StillMoving) hs = refl
 
 module _ (lines held : List ℤ) (order best : List ℕ) (b n h : ℕ) (few : b ≤ most_marks) (good : Lines lines b n)
     (helds : HeldEntries held b h)
@@ -147,7 +148,7 @@ module _ (lines held : List ℤ) (order best : List ℕ) (b n h : ℕ) (few : b 
           subst (λ (x : List ℤ). Working x b) (sym begun) (start_working b n h held lines few good helds (sym is_unheld ∙ none_unheld))
 
       -- the sweeps, from the start
-      pub settled_answer : (a : Adjusted) (e : End) (hs : List ℤ) → a ≡ end_answer e
+      pub settled_answer : (a : Adjusted) (e : Result ℕ Unsettled) (hs : List ℤ) → a ≡ end_answer e
           → ended_at e hs ≡ settle (sights_of (standing lines)) (flags flagged) b z → Answers a hs (adjustment b held lines)
       unfolding adjustment
       settled_answer a e hs ea es =

@@ -1,10 +1,10 @@
 -- "adjustment its sweeps": the answer that stands for an outcome, and the outcome that an answer and the heights it leaves stand for.
 -- Assumes nothing.
-use Rattle.std.specs.Prelude.{ℕ, zero, suc, ◌≡◌, List, ℤ}
+use Rattle.std.specs.Prelude.{ℕ, zero, suc, ◌≡◌, List, ℤ, Result, Ok, Err}
 use Rattle.book.specs.Test.{refusal, no_refusal}
 use Rattle.book.specs.declared.Refusal.{Refusal}
-use Rattle.sweeps.specs.declared.End.{End}
-use Rattle.sweeps.specs.declared.End.TheVariants as end
+use Rattle.sweeps.specs.declared.Unsettled.{Unsettled}
+use Rattle.sweeps.specs.declared.Unsettled.TheVariants as why
 use Rattle.adjust.specs.Adjusted.{Outcome, done, refused}
 use Rattle.adjust.specs.declared.Adjusted.{Adjusted}
 
@@ -21,10 +21,10 @@ answer_of (done n hs) = settled_at n
 answer_of (refused number place) = refused_with (refusal number place)
 
 -- 13 with the mark, 12 with 0
-abbrev pub end_answer : End → Adjusted
-end_answer (end.Settled n) = settled_at n
-end_answer (end.Outside m) = refused_with (refusal 13 m)
-end_answer end.Unsettled = refused_with (refusal 12 0)
+abbrev pub end_answer : Result ℕ Unsettled → Adjusted
+end_answer (Ok n) = settled_at n
+end_answer (Err (why.Outside m)) = refused_with (refusal 13 m)
+end_answer (Err why.StillMoving) = refused_with (refusal 12 0)
 
 abbrev pub by_number : ℕ → ℕ → ℕ → List ℤ → Outcome
 by_number zero place sweeps hs = done sweeps hs

@@ -8,15 +8,15 @@ ghost use Rattle.adjust.specs.Planted.{Planted};
 
 use crate::Adjusted;
 use book::Book;
-use sweeps::End;
+use sweeps::{End, Unsettled};
 
 fn answer_of(e: End) -> Adjusted
     ensures { result ≡ end_answer e }
 {
     match e {
-        End::Settled(n) => crate::settled_at(n),
-        End::Outside(m) => crate::refuse(13, m),
-        End::Unsettled => crate::refuse(12, 0),
+        Ok(n) => crate::settled_at(n),
+        Err(Unsettled::Outside(m)) => crate::refuse(13, m),
+        Err(Unsettled::StillMoving) => crate::refuse(12, 0),
     }
 }
 
@@ -33,17 +33,16 @@ pub(crate) fn adjust_along(
     own: &mut [i64],
     z: &mut [i64],
 ) -> Adjusted
-    requires fact_1 { GoodEntries book held.now lines.now }
-    requires fact_2 { Planted lines.now book.marks book.lines head.now next.now best.now order.now }
-    requires fact_3 { Blank flags.old own.old book.marks }
-    requires fact_4 { length z.old ≡ book.marks }
+    requires good { GoodEntries book held.now lines.now }
+    requires planted { Planted lines.now book.marks book.lines head.now next.now best.now order.now }
+    requires blank { Blank flags.old own.old book.marks }
+    requires all { length z.old ≡ book.marks }
     ensures { Answers result z.new (adjustment book.marks held.now lines.now) }
 {
     let b = book.marks;
     let n = book.lines;
     start::hold_all(held, flags, own, b, book.held);
-    let m = start::start_heights(lines, order, best, flags, own, z, b, n);
-    if 0 < m {
+    if let Some(m) = start::start_heights(lines, order, best, flags, own, z, b, n) {
         return crate::refuse(11, m);
     }
     answer_of(sweeps::settle_lines(lines, head, next, flags, z, b, n))
