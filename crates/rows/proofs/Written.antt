@@ -2,7 +2,7 @@
 use Prim.Native.Nat.{ℕ, ◌+◌, ◌*◌, ◌-◌, ◌<◌}
 use native.Mathlib.Omega.{arith}
 use native.Mathlib.Numerals.{add-one}
-use mathlib.Core.Path.{◌≡◌, refl, sym, ◌∙◌, ap, ap₂}
+use mathlib.Core.Path.{◌≡◌, sym, ◌∙◌, ap, ap₂}
 use mathlib.Core.List.{List, [], ◌∷◌, ◌++◌, append_assoc, append-nil}
 use lib.IntN.{ℤ}
 use lib.ListN.{length, get_or, take, drop}
@@ -64,21 +64,3 @@ module _ (k : Book) (lines : List ℤ) (good : GoodLines k lines) {starts runs :
   run_row t =
       ap (row_of t lines) (run_is tb i left) ∙ loop_row k lines good (loop_at (loops_of k.marks lines) i)
       (loop_at_is (loops_of k.marks lines) i left) t
-
--- the first i rows are written, of whatever book the table is
-pub record AllWritten (lines : List ℤ) (starts runs : List ℕ) (count : ℕ) (out₀ : List ℤ) (t : ℕ) (out : List ℤ) (i : ℕ) : Type 0 where
-  pub of : (k : Book) → GoodLines k lines → Table (loops_of k.marks lines) starts runs count
-      → Written t (loops_of k.marks lines) out₀ out i
-
-module _ {lines : List ℤ} {starts runs : List ℕ} {count : ℕ} {out₀ : List ℤ} {t : ℕ} where
-  pub all_written_start : AllWritten lines starts runs count out₀ t out₀ 0
-  unfolding rows
-  all_written_start = record { of = λ k good tb. refl }
-
-  pub all_written_next : {out : List ℤ} {i : ℕ} → i < count → AllWritten lines starts runs count out₀ t out i
-      → (vs : List ℤ) → vs ≡ row_of t lines (take (get_or starts (i + 1) 0 - get_or starts i 0) (drop (get_or starts i 0) runs))
-      → AllWritten lines starts runs count out₀ t (put_mid (i * row_words) (i * row_words + row_words - i * row_words) out vs) (i + 1)
-  all_written_next {out = out} {i = i} lt w vs e = record {
-    of = λ k good tb. written_next t (loops_of k.marks lines) out₀ out vs i (omega (arith, tb.counted)) (w.of k good tb)
-        (e ∙ run_row k lines good tb i lt t);
-  }

@@ -34,8 +34,8 @@ const SQUARE_LIMIT: usize = 2147483648;
 
 // The length of the line that a code runs.
 fn length_by(lines: &[i64], code: usize) -> usize
-    requires fact_1 { Measured lines.now }
-    requires fact_2 { Runs lines.now code }
+    requires measured { Measured lines.now }
+    requires runs { Runs lines.now code }
     ensures { result ≡ length_by lines.now code }
 {
     signed::index(lines[(code / 2 - 1) * Line::WORDS + Line::LENGTH])
@@ -45,17 +45,14 @@ fn length_by(lines: &[i64], code: usize) -> usize
 fn judged_as(metres: usize) -> usize
     ensures { result ≡ judged_as metres }
 {
-    if metres < Line::MIN_JUDGED {
-        return Line::MIN_JUDGED;
-    }
-    metres
+    metres.max(Line::MIN_JUDGED)
 }
 
 // Its tolerance, in a book of tolerance t.
 fn tolerance_by(lines: &[i64], code: usize, t: usize) -> usize
-    requires fact_1 { Measured lines.now }
-    requires fact_2 { Runs lines.now code }
-    requires fact_3 { t ≤ most_tolerance }
+    requires measured { Measured lines.now }
+    requires runs { Runs lines.now code }
+    requires tolerable { t ≤ most_tolerance }
     ensures { (result ≡ tolerance_by t lines.now code) × (result ≤ most_tolerance) }
 {
     class::tolerance(lines[(code / 2 - 1) * Line::WORDS + Line::CLASS], t)
@@ -63,9 +60,9 @@ fn tolerance_by(lines: &[i64], code: usize, t: usize) -> usize
 
 // What it allows there.
 fn allows_by(lines: &[i64], code: usize, t: usize) -> usize
-    requires fact_1 { Measured lines.now }
-    requires fact_2 { Runs lines.now code }
-    requires fact_3 { t ≤ most_tolerance }
+    requires measured { Measured lines.now }
+    requires runs { Runs lines.now code }
+    requires tolerable { t ≤ most_tolerance }
     ensures { (result ≡ allows_by t lines.now code) × (result ≤ most_allowed) }
 {
     let tolerance = tolerance_by(lines, code, t);
@@ -74,15 +71,12 @@ fn allows_by(lines: &[i64], code: usize, t: usize) -> usize
 
 // Its difference, in the sense of the code.
 fn rise_by(lines: &[i64], code: usize) -> i64
-    requires fact_1 { Measured lines.now }
-    requires fact_2 { Runs lines.now code }
+    requires measured { Measured lines.now }
+    requires runs { Runs lines.now code }
     ensures { result ≡ rise_by lines.now code }
 {
     let d = lines[(code / 2 - 1) * Line::WORDS + Line::DIFFERENCE];
-    if code % 2 == 0 {
-        return d;
-    }
-    signed::sub(0, d)
+    if code % 2 == 0 { d } else { -d }
 }
 
 // The length of a run.
@@ -91,29 +85,21 @@ pub fn run_length(lines: &[i64], run: &[u16]) -> usize
     requires fact_2 { LinesIn lines.now run.now }
     ensures { (result ≡ length_of lines.now run.now) × (result ≤ most_lines * most_length) }
 {
-    let mut sum = 0;
-    let mut j = 0;
-    while j < run.len() {
-        sum += length_by(lines, run[j] as usize);
-        j += 1;
-    }
-    sum
+    run.iter()
+        .map(|&code| length_by(lines, usize::from(code)))
+        .sum()
 }
 
 // What the lines of a run allow, in a book of tolerance t.
 fn run_allows(lines: &[i64], run: &[u16], t: usize) -> usize
-    requires fact_1 { Measured lines.now }
-    requires fact_2 { LinesIn lines.now run.now }
-    requires fact_3 { t ≤ most_tolerance }
+    requires measured { Measured lines.now }
+    requires in_book { LinesIn lines.now run.now }
+    requires tolerable { t ≤ most_tolerance }
     ensures { (result ≡ allows_of t lines.now run.now) × (result ≤ most_lines * most_allowed) }
 {
-    let mut sum = 0;
-    let mut j = 0;
-    while j < run.len() {
-        sum += allows_by(lines, run[j] as usize, t);
-        j += 1;
-    }
-    sum
+    run.iter()
+        .map(|&code| allows_by(lines, usize::from(code), t))
+        .sum()
 }
 
 // The rise of a run.
@@ -122,11 +108,9 @@ pub fn run_rise(lines: &[i64], run: &[u16]) -> i64
     requires fact_2 { LinesIn lines.now run.now }
     ensures { (result ≡ rise_of lines.now run.now) × (nat_abs result ≤ most_lines * most_difference) }
 {
-    let mut sum = 0i64;
-    let mut j = 0;
-    while j < run.len() {
-        sum = signed::add(sum, rise_by(lines, run[j] as usize));
-        j += 1;
+    let mut sum = 0;
+    for &code in run {
+        sum = signed::add(sum, rise_by(lines, usize::from(code)));
     }
     sum
 }
@@ -156,8 +140,8 @@ fn write_row(
     misclosure: i64,
     verdict: i64,
 )
-    requires fact_1 { length out.old ≡ row_words }
-    requires fact_2 { (number < 2 ^ 63) × (count < 2 ^ 63) × (metres < 2 ^ 63) }
+    requires room { length out.old ≡ row_words }
+    requires in_range { (number < 2 ^ 63) × (count < 2 ^ 63) × (metres < 2 ^ 63) }
     ensures { out.new ≡ pos number ∷ pos count ∷ pos metres ∷ misclosure ∷ verdict ∷ [] }
 {
     out[ROW_CLOSING] = signed::signed_count(number);
@@ -180,7 +164,7 @@ pub fn row_of(lines: &[i64], run: &[u16], out: &mut [i64], t: usize)
     let over = verdict(misclosure, run_allows(lines, run, t));
     write_row(
         out,
-        (run[0] / 2) as usize,
+        usize::from(run[0] / 2),
         run.len(),
         metres,
         misclosure,
@@ -204,12 +188,10 @@ pub fn write_rows(
         ≡ report_of book.marks book.tolerance lines.now ++ drop (count * row_words) out.old }
 {
     let t = book.tolerance;
-    let mut i = 0;
-    while i < count {
+    for i in 0..count {
         let at = i * ROW_WORDS;
         let begin = starts[i] as usize;
         let end = starts[i + 1] as usize;
         row_of(lines, &runs[begin..end], &mut out[at..at + ROW_WORDS], t);
-        i += 1;
     }
 }
