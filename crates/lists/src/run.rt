@@ -10,11 +10,8 @@ fn listed_by(code: u16) -> i64
     requires { code < code_limit }
     ensures { result ≡ listed_by code }
 {
-    let number = (code / 2) as i64;
-    if code % 2 == 0 {
-        return number;
-    }
-    signed::sub(0, number)
+    let number = i64::from(code / 2);
+    if code % 2 == 0 { number } else { -number }
 }
 
 // The lines of a run, from place 0 of out on.
@@ -23,10 +20,8 @@ pub fn list_run(run: &[u16], out: &mut [i64])
     requires fact_2 { length run.now ≤ length out.old }
     ensures { out.new ≡ map listed_by run.now ++ drop (length run.now) out.old }
 {
-    let mut i = 0;
-    while i < run.len() {
-        out[i] = listed_by(run[i]);
-        i += 1;
+    for (i, &code) in run.iter().enumerate() {
+        out[i] = listed_by(code);
     }
 }
 

@@ -1,5 +1,5 @@
 // "Say what you are not watching": the not-checked list of a tested book, in tables of its own on the stack.
-ghost use Rattle.std.specs.Prelude.{◌≡◌, map, pos};
+ghost use Rattle.std.specs.Prelude.{◌≡◌, ◌++◌, map, pos, ◌≤◌, length, drop};
 ghost use Rattle.book.specs.Good.{GoodLines};
 ghost use Rattle.lists.specs.Listing.{listing, list_of};
 ghost use Rattle.lists.specs.NotChecked.{unchecked_of};
@@ -7,6 +7,17 @@ ghost use Rattle.lists.specs.Numbers.{Numbers};
 
 use crate::Listed;
 use book::Book;
+
+// The line numbers of a list, from place 0 of out on.
+fn list_numbers(list: &[u64], out: &mut [i64])
+    requires numbers { Numbers list.now }
+    requires room { length list.now ≤ length out.old }
+    ensures { out.new ≡ map pos list.now ++ drop (length list.now) out.old }
+{
+    for (i, &number) in list.iter().enumerate() {
+        out[i] = signed::signed_count(number as usize);
+    }
+}
 
 // Refusal 10, or the list.
 fn write_list(list: &[u64], out: &mut [i64]) -> Listed
@@ -17,11 +28,7 @@ fn write_list(list: &[u64], out: &mut [i64]) -> Listed
     if out.len() < count {
         return crate::refuse(10, 0);
     }
-    let mut i = 0;
-    while i < count {
-        out[i] = signed::signed_count(list[i] as usize);
-        i += 1;
-    }
+    list_numbers(list, out);
     crate::entered(count)
 }
 
