@@ -2,7 +2,7 @@
 -- Assumes nothing.
 use mathlib.Core.Path.{◌≡◌, refl, sym, ◌∙◌, ap}
 use mathlib.Core.Bool.{Bool, true, false}
-use mathlib.Core.List.{List, [], ◌∷◌, ◌++◌}
+use mathlib.Core.List.{List, [], ◌∷◌, ◌++◌, append_assoc}
 use Prim.Native.Nat.{ℕ, suc, ◌+◌, ◌≤◌, ◌<◌}
 use native.Mathlib.Decide.{ℕ_discrete}
 use native.Mathlib.Nat.{add-zero}
@@ -54,6 +54,11 @@ pub ◌then◌ : {l l₁ l₂ : List ℕ} {at r s : ℕ} {a b : List ℕ} → Pu
           (sets_from b (sets l at a) r (at + length a) (λ d. rw (length-sets l at a) (omega arith, omega arith)));
       next_is = omega arith;
     }
+
+-- a text, then a word and what stands after it
+pub and_word : {l l₁ l₂ : List ℕ} {at r s : ℕ} {a : List ℕ} → Put l l₁ at r a → (word said : List ℕ) → Put l₁ l₂ r s (word ++ said)
+    → Put l l₂ at s (a ++ word ++ said)
+and_word {a = a} p word said q = rw (append_assoc a word said) (p then q)
 
 -- a text with no room
 pub no_room : (l : List ℕ) (at : ℕ) (text : List ℕ) → length l ≤ at → Put l l at at text

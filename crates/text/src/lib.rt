@@ -3,7 +3,7 @@
 
 #![tactic(auto)]
 
-ghost use Rattle.std.specs.Prelude.{[], ◌∷◌};
+ghost use Rattle.std.specs.Prelude.{List, [], ◌∷◌, ◌++◌, ℕ};
 ghost use Rattle.text.specs.Number.{last_digit, decimal, signed_text};
 ghost use Rattle.text.specs.Put.{Put};
 ghost use Rattle.text.specs.Report.{head_text, listed_text, verdict_text, loop_text, not_checked_text, refused_text};
@@ -22,16 +22,11 @@ pub fn head_text(
 ) -> usize
     ensures { Put out.old out.new at result (head_text version marks lines pieces loops) }
 {
-    let at = put(out, at, b"LEVEL BOOK ");
-    let at = put_number(out, at, version);
-    let at = put(out, at, b"\nMARKS ");
-    let at = put_number(out, at, marks);
-    let at = put(out, at, b" LINES ");
-    let at = put_number(out, at, lines);
-    let at = put(out, at, b" PIECES ");
-    let at = put_number(out, at, pieces);
-    let at = put(out, at, b" LOOPS ");
-    let at = put_number(out, at, loops);
+    let at = put_after(out, at, b"LEVEL BOOK ", version);
+    let at = put_after(out, at, b"\nMARKS ", marks);
+    let at = put_after(out, at, b" LINES ", lines);
+    let at = put_after(out, at, b" PIECES ", pieces);
+    let at = put_after(out, at, b" LOOPS ", loops);
     put_byte(out, at, b'\n')
 }
 
@@ -47,12 +42,9 @@ pub fn loop_text(
 ) -> usize
     ensures { Put out.old out.new at result (loop_text number length misclosure verdict listing.now) }
 {
-    let at = put(out, at, b"LOOP ");
-    let at = put_number(out, at, number);
-    let at = put(out, at, b" LENGTH ");
-    let at = put_signed(out, at, length);
-    let at = put(out, at, b" MISCLOSURE ");
-    let at = put_signed(out, at, misclosure);
+    let at = put_after(out, at, b"LOOP ", number);
+    let at = put_after(out, at, b" LENGTH ", length);
+    let at = put_after(out, at, b" MISCLOSURE ", misclosure);
     let at = put_verdict(out, at, verdict);
     let at = put_listed(out, at, listing);
     put_byte(out, at, b'\n')
@@ -62,8 +54,7 @@ pub fn loop_text(
 pub fn not_checked_text(out: &mut [u8], at: usize, list: &[i64]) -> usize
     ensures { Put out.old out.new at result (not_checked_text list.now) }
 {
-    let at = put(out, at, b"NOT CHECKED ");
-    let at = put_number(out, at, list.len());
+    let at = put_after(out, at, b"NOT CHECKED ", list.len());
     let at = put_byte(out, at, b':');
     let at = put_listed(out, at, list);
     put_byte(out, at, b'\n')
@@ -73,10 +64,8 @@ pub fn not_checked_text(out: &mut [u8], at: usize, list: &[i64]) -> usize
 pub fn refused_text(out: &mut [u8], at: usize, number: usize, place: usize) -> usize
     ensures { Put out.old out.new at result (refused_text number place) }
 {
-    let at = put(out, at, b"REFUSED ");
-    let at = put_number(out, at, number);
-    let at = put(out, at, b" AT ");
-    let at = put_number(out, at, place);
+    let at = put_after(out, at, b"REFUSED ", number);
+    let at = put_after(out, at, b" AT ", place);
     put_byte(out, at, b'\n')
 }
 
@@ -84,7 +73,7 @@ pub fn refused_text(out: &mut [u8], at: usize, number: usize, place: usize) -> u
 fn put_verdict(out: &mut [u8], at: usize, verdict: i64) -> usize
     ensures { Put out.old out.new at result (verdict_text verdict) }
 {
-    if signed::same(verdict, 0) {
+    if verdict == 0 {
         put(out, at, b" WITHIN:")
     } else {
         put(out, at, b" OVER:")
@@ -96,10 +85,8 @@ pub fn put_listed(out: &mut [u8], at: usize, list: &[i64]) -> usize
     ensures { Put out.old out.new at result (listed_text list.now) }
 {
     let mut next = at;
-    let mut i = 0;
-    while i < list.len() {
-        next = put_line(out, next, list[i]);
-        i += 1;
+    for &line in list {
+        next = put_line(out, next, line);
     }
     next
 }
@@ -108,20 +95,46 @@ pub fn put_listed(out: &mut [u8], at: usize, list: &[i64]) -> usize
 pub fn put_line(out: &mut [u8], at: usize, line: i64) -> usize
     ensures { Put out.old out.new at result (listed_text (line ∷ [])) }
 {
-    let at = put_byte(out, at, b' ');
-    put_signed(out, at, line)
+    put_after(out, at, b" ", line)
 }
 
-// A number with its sign, if it is below 0.
-pub(crate) fn put_signed(out: &mut [u8], at: usize, x: i64) -> usize
-    ensures { Put out.old out.new at result (signed_text x) }
+// A word and the number after it.
+pub(crate) fn put_after<N: Number>(out: &mut [u8], at: usize, word: &[u8], n: N) -> usize
+    ensures { Put out.old out.new at result (word.now ++ N.printed n) }
 {
-    let size = signed::magnitude(x);
-    if x < 0 {
-        let at = put_byte(out, at, b'-');
-        return put_number(out, at, size);
+    let at = put(out, at, word);
+    n.put(out, at)
+}
+
+// A number that is printed: a count, or one that may be below 0.
+pub(crate) trait Number {
+    ghost printed: { Self → List ℕ };
+
+    fn put(self, out: &mut [u8], at: usize) -> usize
+        ensures { Put out.old out.new at result (printed self) };
+}
+
+impl Number for usize {
+    ghost printed = { decimal };
+
+    fn put(self, out: &mut [u8], at: usize) -> usize {
+        put_number(out, at, self)
     }
-    put_number(out, at, size)
+}
+
+impl Number for i64 {
+    ghost printed = { signed_text };
+
+    // Its sign, if it is below 0, then its size.
+    fn put(self, out: &mut [u8], at: usize) -> usize {
+        let size = signed::magnitude(self);
+        let below = self < 0;
+        if below {
+            let at = put_byte(out, at, b'-');
+            return put_number(out, at, size);
+        }
+        put_number(out, at, size)
+    }
 }
 
 // The digits of n: those before the last, then the last.
@@ -147,10 +160,8 @@ pub fn put(out: &mut [u8], at: usize, s: &[u8]) -> usize
     ensures { Put out.old out.new at result s.now }
 {
     let mut next = at;
-    let mut i = 0;
-    while i < s.len() {
-        next = put_byte(out, next, s[i]);
-        i += 1;
+    for &byte in s {
+        next = put_byte(out, next, byte);
     }
     next
 }

@@ -2,7 +2,7 @@
 ghost use Rattle.text.specs.Put.{Put};
 ghost use Rattle.text.specs.Sketch.{sketch_head_text, measured_text, link_text, spur_text, self_closing_text};
 
-use crate::{put, put_byte, put_listed, put_number, put_signed};
+use crate::{put_after, put_byte, put_listed};
 
 // `JUNCTION SKETCH` and `MARKS 16 LINES 20 LINKS 6 SPURS 4 LOOPS 2`
 pub fn head_text(
@@ -16,16 +16,11 @@ pub fn head_text(
 ) -> usize
     ensures { Put out.old out.new at result (sketch_head_text marks lines links spurs loops) }
 {
-    let at = put(out, at, b"JUNCTION SKETCH\nMARKS ");
-    let at = put_number(out, at, marks);
-    let at = put(out, at, b" LINES ");
-    let at = put_number(out, at, lines);
-    let at = put(out, at, b" LINKS ");
-    let at = put_number(out, at, links);
-    let at = put(out, at, b" SPURS ");
-    let at = put_number(out, at, spurs);
-    let at = put(out, at, b" LOOPS ");
-    let at = put_number(out, at, loops);
+    let at = put_after(out, at, b"JUNCTION SKETCH\nMARKS ", marks);
+    let at = put_after(out, at, b" LINES ", lines);
+    let at = put_after(out, at, b" LINKS ", links);
+    let at = put_after(out, at, b" SPURS ", spurs);
+    let at = put_after(out, at, b" LOOPS ", loops);
     put_byte(out, at, b'\n')
 }
 
@@ -41,10 +36,8 @@ pub fn link_text(
 ) -> usize
     ensures { Put out.old out.new at result (link_text first last length difference listing.now) }
 {
-    let at = put(out, at, b"LINK ");
-    let at = put_signed(out, at, first);
-    let at = put_byte(out, at, b' ');
-    let at = put_signed(out, at, last);
+    let at = put_after(out, at, b"LINK ", first);
+    let at = put_after(out, at, b" ", last);
     put_measured(out, at, b" DIFFERENCE ", length, difference, listing)
 }
 
@@ -59,8 +52,7 @@ pub fn spur_text(
 ) -> usize
     ensures { Put out.old out.new at result (spur_text mark length difference listing.now) }
 {
-    let at = put(out, at, b"SPUR ");
-    let at = put_signed(out, at, mark);
+    let at = put_after(out, at, b"SPUR ", mark);
     put_measured(out, at, b" DIFFERENCE ", length, difference, listing)
 }
 
@@ -75,8 +67,7 @@ pub fn loop_text(
 ) -> usize
     ensures { Put out.old out.new at result (self_closing_text mark length misclosure listing.now) }
 {
-    let at = put(out, at, b"LOOP ");
-    let at = put_signed(out, at, mark);
+    let at = put_after(out, at, b"LOOP ", mark);
     put_measured(out, at, b" MISCLOSURE ", length, misclosure, listing)
 }
 
@@ -92,10 +83,8 @@ fn put_measured(
     ensures { Put out.old out.new at result
         (measured_text word.now length difference listing.now) }
 {
-    let at = put(out, at, b" LENGTH ");
-    let at = put_signed(out, at, length);
-    let at = put(out, at, word);
-    let at = put_signed(out, at, difference);
+    let at = put_after(out, at, b" LENGTH ", length);
+    let at = put_after(out, at, word, difference);
     let at = put_byte(out, at, b':');
     let at = put_listed(out, at, listing);
     put_byte(out, at, b'\n')

@@ -5,9 +5,4 @@ use Rattle.text.proofs.not_checked_text.Goals as goal
 
 pub returns : goal.returns
 unfolding bytes not_checked_text
-returns c =
-    c.put-at.ensures
-    then c.put_number-at.ensures
-    then c.put_byte-at.ensures
-    then c.put_listed-at.ensures
-    then c.put_byte.ensures
+returns c = c.put_after-at.ensures then c.put_byte-at.ensures then c.put_listed-at.ensures then c.put_byte.ensures

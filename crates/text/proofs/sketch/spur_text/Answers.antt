@@ -8,6 +8,4 @@ pub returns : goal.returns
 unfolding bytes spur_text
 returns c =
     rw (← (to_z-of_z c.ranges.mark), ← (to_z-of_z c.ranges.length), ← (to_z-of_z c.ranges.difference))
-    (c.put-at.ensures
-    then c.put_signed-at.ensures
-    then c.put_measured.ensures)
+    (c.put_after-at.ensures then c.put_measured.ensures)
