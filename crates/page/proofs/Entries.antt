@@ -1,11 +1,11 @@
 -- The lines of links, one after the other, from the lists that give them. Assumes nothing.
-use Prim.Native.Nat.{ℕ, ◌+◌, ◌-◌, ◌*◌, ◌≤◌, ◌<◌}
+use Prim.Native.Nat.{ℕ, zero, suc, ◌+◌, ◌-◌, ◌*◌, ◌≤◌, ◌<◌}
 use native.Mathlib.Omega.{arith}
 use mathlib.Core.Path.{◌≡◌, refl, sym, ◌∙◌, ap, ap₂, subst}
 use mathlib.Core.List.{List, [], ◌∷◌, ◌++◌, map, append_assoc, append-nil}
 use lib.IntN.{ℤ, pos, nat_abs}
 use lib.ListN.{length, get_or, take, drop, length-drop, length-append, length-map}
-use lib.Seq.{take_at, drop_at, drop-drop, get_or-drop, get_or-take}
+use lib.Seq.{take_at, drop_at, drop-drop}
 use Rattle.loops.specs.Row.{listed, listings}
 use Rattle.links.specs.Link.{Link}
 use Rattle.links.specs.Sketch.{entry_words, entry, entries}
@@ -49,39 +49,49 @@ entry_line_lem kind.TheVariants.Link x = refl
 entry_line_lem kind.TheVariants.Spur x = refl
 entry_line_lem kind.TheVariants.Loop x = refl
 
--- how many lines entry i has
-abbrev pub count_at : List ℤ → ℕ → ℤ
-count_at numbers i = get_or numbers (i * entry_words + 2) (pos 0)
+-- how many lines an entry has
+abbrev pub count_in : List ℤ → ℤ
+count_in e = get_or e 2 (pos 0)
 
--- of the links xs, which the entries from i on are of, there is a first: its entry, its signed lines, and the others
-pub record FirstEntry (xs : List Link) (numbers run : List ℤ) (count i a : ℕ) : Type 0 where
+-- entry i as it is read
+abbrev pub EntryAt : List ℤ → List ℤ → ℕ → Type 0
+EntryAt e numbers i = e ≡ take entry_words (drop (i * entry_words) numbers)
+
+-- the numbers of the entries are read five by five
+pub next_five : (e left numbers : List ℤ) (i : ℕ) → length e ≡ entry_words → e ++ left ≡ drop (i * entry_words) numbers
+    → EntryAt e numbers i × (left ≡ drop ((i + 1) * entry_words) numbers)
+next_five e left numbers i n r =
+    let five : (i + 1) * entry_words ≡ i * entry_words + entry_words = omega arith in (
+      sym (ap (take entry_words) (sym r) ∙ take_at e left entry_words n),
+      sym (ap (λ (k : ℕ). drop k numbers) five ∙ sym (drop-drop entry_words (i * entry_words) numbers)
+          ∙ ap (drop entry_words) (sym r) ∙ drop_at e left entry_words n),
+    )
+
+-- of the links xs, which the entries from i on are of, there is a first: its entry e, its signed lines, and the others
+pub record FirstEntry (xs : List Link) (e numbers run : List ℤ) (count i a : ℕ) : Type 0 where
   pub link : Link
   pub rest : List Link
   pub are : xs ≡ link ∷ rest
-  pub whole : i * entry_words + entry_words ≤ length numbers
-  numbers_are : take entry_words (drop (i * entry_words) numbers) ≡ entry link
-  pub count_is : count_at numbers i ≡ pos (length link.way)
+  entry_is : e ≡ entry link
+  pub count_is : count_in e ≡ pos (length link.way)
   pub ends : a + length link.way ≤ length run
   pub lines_are : take (length link.way) (drop a run) ≡ map listed link.way
   pub others : Entered rest numbers run count (i + 1) (a + length link.way)
 
 pub first_entry : {xs : List Link} {numbers run : List ℤ} {count i a : ℕ} → Entered xs numbers run count i a → i < count
-    → FirstEntry xs numbers run count i a
+    → (e : List ℤ) → EntryAt e numbers i → FirstEntry xs e numbers run count i a
 unfolding entries entry listings
-first_entry {xs = []} w lt = absurd (omega (arith, w.counted))
-first_entry {xs = x ∷ xs} {numbers = numbers} {run = run} {i = i} {a = a} w lt =
+first_entry {xs = []} w lt e is = absurd (omega (arith, w.counted))
+first_entry {xs = x ∷ xs} {numbers = numbers} {run = run} {i = i} {a = a} w lt e is =
     let n : length (map listed x.way) ≡ length x.way = length-map x.way listed in
     let j : i * entry_words + entry_words ≡ (i + 1) * entry_words = omega arith in
-    let e : take entry_words (drop (i * entry_words) numbers) ≡ entry x = first_is (entry x) (entries xs) w.numbers_lie in
+    let its : e ≡ entry x = is ∙ first_is (entry x) (entries xs) w.numbers_lie in
     record {
       link = x;
       rest = xs;
       are = refl;
-      whole = first_ends (entry x) (entries xs) w.numbers_lie;
-      numbers_are = e;
-      count_is = sym (get_or-drop (i * entry_words) numbers 2 (pos 0))
-          ∙ sym (get_or-take entry_words (drop (i * entry_words) numbers) 2 (pos 0) (omega arith))
-          ∙ ap (λ (l : List ℤ). get_or l 2 (pos 0)) e;
+      entry_is = its;
+      count_is = ap count_in its;
       ends = rw n at (first_ends (map listed x.way) (run_by xs) w.lines_lie);
       lines_are = rw n at (first_is (map listed x.way) (run_by xs) w.lines_lie);
       others = record {
@@ -91,6 +101,20 @@ first_entry {xs = x ∷ xs} {numbers = numbers} {run = run} {i = i} {a = a} w lt
             (other_lies (map listed x.way) (run_by xs) w.lines_lie);
       };
     }
+
+-- there are five numbers for each entry that is left
+five_left : {xs : List Link} {numbers run : List ℤ} {count i a : ℕ} → Entered xs numbers run count i a → i < count
+    → entry_words ≤ length (drop (i * entry_words) numbers)
+unfolding entries entry
+five_left {xs = []} w lt = absurd (omega (arith, w.counted))
+five_left {xs = x ∷ xs} {numbers = numbers} {i = i} w lt =
+    omega (arith, first_ends (entry x) (entries xs) w.numbers_lie, length-drop (i * entry_words) numbers)
+
+-- none is left where n would be, and there are no five numbers
+pub none_left : {xs : List Link} {numbers run : List ℤ} {count i a : ℕ} → Entered xs numbers run count i a → (n : ℕ) → i + n ≡ count
+    → (0 < n → length (drop (i * entry_words) numbers) < entry_words) → count ≤ i
+none_left w zero e short = omega arith
+none_left w (suc n) e short = absurd (omega (arith, short (omega arith), five_left w (omega arith)))
 
 -- ---- one entry after the other
 
@@ -109,22 +133,18 @@ module _ {kind : Kind} {xs : List Link} {numbers run : List ℤ} {count : ℕ} {
   left_start w = record { links = xs; entered = w; done = []; put = nothing_put out₀ at; whole = refl; run_left = refl }
 
   module _ {out : List ℕ} {after begin i : ℕ} (w : Left kind xs numbers run count out₀ at a out after begin i) where
-    pub left_next : {out' : List ℕ} {after' : ℕ} (n : ℕ) → i < count → n ≡ nat_abs (count_at numbers i)
-        → Put out out' after after' (entry_line kind
-        (take (i * entry_words + entry_words - i * entry_words) (drop (i * entry_words) numbers))
-        (take (begin + n - begin) (drop begin run)))
+    pub left_next : {out' : List ℕ} {after' : ℕ} (n : ℕ) → i < count → (e : List ℤ) → EntryAt e numbers i
+        → n ≡ nat_abs (count_in e)
+        → Put out out' after after' (entry_line kind e (take (begin + n - begin) (drop begin run)))
         → Left kind xs numbers run count out₀ at a out' after' (begin + n) (i + 1)
     unfolding lines_by listings
-    left_next {out' = out'} {after' = after'} n lt e p =
-        let f = first_entry w.entered lt in
+    left_next {out' = out'} {after' = after'} n lt e is counted p =
+        let f = first_entry w.entered lt e is in
         let x = f.link in
-        let m : length x.way ≡ n = sym (e ∙ ap nat_abs f.count_is) in
-        let five : i * entry_words + entry_words - i * entry_words ≡ entry_words = omega arith in
+        let m : length x.way ≡ n = sym (counted ∙ ap nat_abs f.count_is) in
         let its : begin + n - begin ≡ length x.way = omega arith in
         let line =
-        ap₂ (entry_line kind) (ap (λ (k : ℕ). take k (drop (i * entry_words) numbers)) five ∙ f.numbers_are)
-        (ap (λ (k : ℕ). take k (drop begin run)) its ∙ f.lines_are)
-        ∙ entry_line_lem kind x in
+        ap₂ (entry_line kind) f.entry_is (ap (λ (k : ℕ). take k (drop begin run)) its ∙ f.lines_are) ∙ entry_line_lem kind x in
         record {
           links = f.rest;
           entered = subst (λ (k : ℕ). Entered f.rest numbers run count (i + 1) (begin + k)) m f.others;

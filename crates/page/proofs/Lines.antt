@@ -1,5 +1,5 @@
 -- The lines of the loops, one after the other, from the table of loops. Assumes nothing.
-use Prim.Native.Nat.{ℕ, suc, ◌+◌, ◌-◌, ◌<◌}
+use Prim.Native.Nat.{ℕ, suc, ◌+◌, ◌-◌, ◌≤◌, ◌<◌}
 use native.Mathlib.Omega.{arith}
 use native.Mathlib.Numerals.{add-one}
 use mathlib.Core.Path.{◌≡◌, sym, ◌∙◌, ap, ap₂, subst}
@@ -65,36 +65,33 @@ lines_more t number (l ∷ done) lp =
     ∙ ap (λ (k : ℕ). loop_lines t (suc number) done ++ loop_line t k lp) e)
     ∙ sym (append_assoc (loop_line t number l) (loop_lines t (suc number) done) (loop_line t (number + suc (length done)) lp))
 
--- the lines of the first i loops are put, of whatever book the table is
-pub record AllPut (lines : List ℤ) (starts runs : List ℕ) (count t : ℕ) (out₀ : List ℕ) (at : ℕ) (out : List ℕ) (after i : ℕ) : Type 0 where
-  pub of : (k : Book) → GoodLines k lines → Table (loops_of k.marks lines) starts runs count
-      → Put out₀ out at after (loop_lines t 1 (take i (loops_of k.marks lines)))
+-- the lines of the first i loops are put
+abbrev pub LinesPut : ℕ → List Loop → List ℕ → ℕ → List ℕ → ℕ → ℕ → Type 0
+LinesPut t ls out₀ at out after i = Put out₀ out at after (loop_lines t 1 (take i ls))
 
-module _ {lines : List ℤ} {starts runs : List ℕ} {count t : ℕ} {out₀ : List ℕ} {at : ℕ} where
-  pub all_put_start : AllPut lines starts runs count t out₀ at out₀ at 0
-  unfolding loop_lines
-  all_put_start = record { of = λ k good tb. nothing_put out₀ at }
+pub lines_put_start : (t : ℕ) (ls : List Loop) (out₀ : List ℕ) (at : ℕ) → LinesPut t ls out₀ at out₀ at 0
+unfolding loop_lines
+lines_put_start t ls out₀ at = nothing_put out₀ at
 
-  pub all_put_next : {out out' : List ℕ} {after after' i : ℕ} → i < count → AllPut lines starts runs count t out₀ at out after i
-      → Put out out' after after' (run_line t (i + 1) lines
-      (take (get_or starts (i + 1) 0 - get_or starts i 0) (drop (get_or starts i 0) runs)))
-      → AllPut lines starts runs count t out₀ at out' after' (i + 1)
-  all_put_next {out = out} {out' = out'} {after = after} {after' = after'} {i = i} lt w p = record {
-    of = λ k good tb.
-        let ls = loops_of k.marks lines in
-        let left : i < length (loops_of k.marks lines) = omega (arith, tb.counted) in
-        let more : take (i + 1) ls ≡ take i ls ++ (loop_at ls i ∷ []) = rw (add-one i, loop_is ls i left) (take-suc ls i [] left) in
-        let numbered : i + 1 ≡ 1 + length (take i ls) = omega (arith, length-take-le i ls (omega arith)) in
-        let line =
-        ap (run_line t (i + 1) lines) (run_is tb i left) ∙ line_is k lines good t (i + 1) i left
-        ∙ ap (λ (m : ℕ). loop_line t m (loop_at ls i)) numbered in
-        subst (λ (text : List ℕ). Put out₀ out' at after' text) (sym (ap (loop_lines t 1) more ∙ lines_more t 1 (take i ls) (loop_at ls i)))
-        (w.of k good tb then subst (λ (text : List ℕ). Put out out' after after' text) line p);
-  }
+-- the line of loop i of a good book, whose run is read off the table
+pub lines_put_next : (t : ℕ) {k : Book} {lines : List ℤ} {starts runs : List ℕ} {count : ℕ} {out₀ out out' : List ℕ} {at after after' i : ℕ}
+    → GoodLines k lines → Table (loops_of k.marks lines) starts runs count → i < count
+    → LinesPut t (loops_of k.marks lines) out₀ at out after i
+    → Put out out' after after' (run_line t (i + 1) lines
+    (take (get_or starts (i + 1) 0 - get_or starts i 0) (drop (get_or starts i 0) runs)))
+    → LinesPut t (loops_of k.marks lines) out₀ at out' after' (i + 1)
+lines_put_next t {k} {lines} {out₀ = out₀} {out = out} {out' = out'} {at = at} {after = after} {after' = after'} {i = i} good tb lt w p =
+    let ls = loops_of k.marks lines in
+    let left : i < length (loops_of k.marks lines) = omega (arith, tb.counted) in
+    let more : take (i + 1) ls ≡ take i ls ++ (loop_at ls i ∷ []) = rw (add-one i, loop_is ls i left) (take-suc ls i [] left) in
+    let numbered : i + 1 ≡ 1 + length (take i ls) = omega (arith, length-take-le i ls (omega arith)) in
+    let line =
+    ap (run_line t (i + 1) lines) (run_is tb i left) ∙ line_is k lines good t (i + 1) i left
+    ∙ ap (λ (m : ℕ). loop_line t m (loop_at ls i)) numbered in
+    subst (λ (text : List ℕ). Put out₀ out' at after' text) (sym (ap (loop_lines t 1) more ∙ lines_more t 1 (take i ls) (loop_at ls i)))
+    (w then subst (λ (text : List ℕ). Put out out' after after' text) line p)
 
-  pub all_put_end : {out : List ℕ} {after i : ℕ} → AllPut lines starts runs count t out₀ at out after i → i ≡ count → (k : Book)
-      → GoodLines k lines
-      → Table (loops_of k.marks lines) starts runs count → Put out₀ out at after (loop_lines t 1 (loops_of k.marks lines))
-  all_put_end {out = out} {after = after} {i = i} w e k good tb =
-      subst (λ (l : List Loop). Put out₀ out at after (loop_lines t 1 l))
-      (take_all i (loops_of k.marks lines) (omega (arith, tb.counted))) (w.of k good tb)
+pub lines_put_end : (t : ℕ) (ls : List Loop) {out₀ out : List ℕ} {at after i : ℕ} → length ls ≤ i → LinesPut t ls out₀ at out after i
+    → Put out₀ out at after (loop_lines t 1 ls)
+lines_put_end t ls {out₀} {out} {at} {after} {i} e w =
+    subst (λ (l : List Loop). Put out₀ out at after (loop_lines t 1 l)) (take_all i ls e) w

@@ -1,6 +1,6 @@
 -- Document 01, "Worked network": what "the report program, given this book's file on standard input, prints exactly".
 -- Assumes nothing.
-use Rattle.std.specs.Prelude.{List, [], ◌∷◌, ◌++◌, map, ℕ, suc, ℤ, pos, length}
+use Rattle.std.specs.Prelude.{List, [], ◌∷◌, ◌++◌, map, ℕ, suc, pos, length}
 use Rattle.network.specs.Path.{way_length}
 use Rattle.loops.specs.Loops.{Loop}
 use Rattle.loops.specs.Row.{listed, misclosure, verdict}

@@ -16,9 +16,9 @@ const RUN: usize = Book::MAX_MARKS as usize;
 
 // The line of the loop with this run, under this number of the report.
 fn put_loop(lines: &[i64], run: &[u16], t: usize, number: usize, out: &mut [u8], at: usize) -> usize
-    requires fact_1 { Measured lines.now }
-    requires fact_2 { RunIn lines.now run.now }
-    requires fact_3 { t ≤ most_tolerance }
+    requires measured { Measured lines.now }
+    requires in_book { RunIn lines.now run.now }
+    requires tolerable { t ≤ most_tolerance }
     ensures { Put out.old out.new at result (run_line t number lines.now run.now) }
 {
     let mut row = [0i64; rows::ROW_WORDS];
@@ -47,19 +47,17 @@ pub(crate) fn put_loops(
     out: &mut [u8],
     at: usize,
 ) -> usize
-    requires fact_1 { GoodLines book lines.now }
-    requires fact_2 { Table (loops_of book.marks lines.now) starts.now runs.now count }
+    requires good { GoodLines book lines.now }
+    requires table { Table (loops_of book.marks lines.now) starts.now runs.now count }
     ensures { Put out.old out.new at result
         (loop_lines book.tolerance 1 (loops_of book.marks lines.now)) }
 {
     let t = book.tolerance;
     let mut after = at;
-    let mut i = 0;
-    while i < count {
+    for i in 0..count {
         let begin = starts[i] as usize;
         let end = starts[i + 1] as usize;
-        i += 1;
-        after = put_loop(lines, &runs[begin..end], t, i, out, after);
+        after = put_loop(lines, &runs[begin..end], t, i + 1, out, after);
     }
     after
 }

@@ -62,19 +62,10 @@ fn put_entries(
 {
     let mut after = from.text;
     let mut begin = from.run;
-    let mut i = 0;
-    while i < count {
-        let at = i * junctions::ENTRY_WORDS;
-        let end = begin + signed::index(numbers[at + junctions::ENTRY_COUNT]);
-        after = put_entry(
-            kind,
-            &numbers[at..at + junctions::ENTRY_WORDS],
-            &run[begin..end],
-            out,
-            after,
-        );
+    for entry in numbers.chunks_exact(junctions::ENTRY_WORDS).take(count) {
+        let end = begin + signed::index(entry[junctions::ENTRY_COUNT]);
+        after = put_entry(kind, entry, &run[begin..end], out, after);
         begin = end;
-        i += 1;
     }
     Place {
         text: after,
