@@ -1,2 +1,3 @@
-pub mod Most
+pub mod AllShown
+pub mod Folded
 pub mod Printed

@@ -1,7 +1,8 @@
 -- A case on a program's standard input: 48 bytes of name, some numbers of two bytes each, the last of them the length of its file,
 -- and the file.
 -- Assumes nothing.
-use Rattle.std.specs.Prelude.{ℕ, ◌+◌, ◌-◌, ◌*◌, cond, List, ltb, length, get_or, take, drop}
+use Rattle.std.specs.Prelude.{ℕ, ◌<◌, ◌+◌, ◌-◌, ◌*◌, cond, List, ltb, length, get_or, take, drop, ◌≡◌, Option, MatchOption}
+use Rattle.std.specs.Borrow.{Bor}
 
 -- the number in the bytes at and at + 1, the high one first
 abbrev pub two_at : List ℕ → ℕ → ℕ
@@ -30,3 +31,9 @@ number_of case k = cond (ltb (length case) (head_bytes k + 2)) 0 (two_at case (h
 
 abbrev pub file_of : List ℕ → ℕ → List ℕ
 file_of case numbers = drop (head_bytes numbers) case
+
+-- of what is left of an input the next case is the first whole one, and what follows it stays; there is none where no whole one is left
+unfoldable pub IsNextCase : List ℕ → ℕ → Option (Bor (List ℕ)) → List ℕ → Type 0
+IsNextCase input numbers next rest =
+    let end = after_case input 0 numbers in
+    MatchOption next (end ≡ 0) (λ case. (0 < end) × (case.now ≡ take end input) × (rest ≡ drop end input))
