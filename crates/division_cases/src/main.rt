@@ -7,7 +7,7 @@ ghost use Rattle.std.specs.Prelude.{◌+◌, ◌≤◌, length};
 
 use cases::case;
 use std::io;
-use std::io::{BufWriter, Write};
+use std::io::Write;
 
 const CASE_BYTES: usize = 16;
 
@@ -24,13 +24,7 @@ fn eight(s: &[u8], at: usize) -> usize
 }
 
 fn put_moves(to: &mut impl Write, size: usize, d: usize) -> io::Result<()> {
-    if d == 0 {
-        return Ok(());
-    }
-    if DIVISORS <= d {
-        return Ok(());
-    }
-    if SIZES <= size {
+    if d == 0 || DIVISORS <= d || SIZES <= size {
         return Ok(());
     }
     let up = signed::signed_count(size);
@@ -49,17 +43,18 @@ fn one_case(to: &mut impl Write, size: usize, d: usize) -> io::Result<()> {
 }
 
 fn all_cases(to: &mut impl Write, input: &[u8]) -> io::Result<()> {
-    let mut at = 0;
-    while CASE_BYTES <= input.len() - at {
-        one_case(to, eight(input, at), eight(input, at + 8))?;
-        at += CASE_BYTES;
+    for case in input.chunks_exact(CASE_BYTES) {
+        one_case(to, eight(case, 0), eight(case, 8))?;
     }
     Ok(())
 }
 
 fn main(rt: HostRuntime) -> io::Result<()> {
-    let input = cases::read_input(rt.alloc(), rt.stdin(), 65_536)?;
-    let mut to = BufWriter::new(rt.alloc(), rt.stdout())?;
-    all_cases(&mut to, input.as_slice())?;
-    to.flush()
+    cases::answer(
+        rt.alloc(),
+        rt.stdin(),
+        65_536,
+        rt.stdout(),
+        |to, input| all_cases(to, input),
+    )
 }
