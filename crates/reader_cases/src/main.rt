@@ -6,7 +6,7 @@
 use book::line::Line;
 use cases::case;
 use std::io;
-use std::io::{BufWriter, Write};
+use std::io::Write;
 
 const NUMBERS: usize = 3;
 
@@ -19,14 +19,11 @@ fn run(to: &mut impl Write, file: &[u8], held: &mut [i64], lines: &mut [i64]) ->
     cases::clear(lines);
     let a = file::read(file, held, lines);
     let r = a.refusal;
-    cases::put(to, r.number)?;
-    cases::put(to, r.place)?;
-    cases::put(to, a.version)?;
-    cases::put(to, a.b)?;
-    cases::put(to, a.t)?;
-    cases::put(to, a.h)?;
-    cases::put(to, a.n)?;
-    to.write_all(b" | held")?;
+    write!(
+        to,
+        " | {} {} {} {} {} {} {} | held",
+        r.number, r.place, a.version, a.b, a.t, a.h, a.n
+    )?;
     cases::show_numbers(to, held)?;
     to.write_all(b" | lines")?;
     cases::show_numbers(to, lines)?;
@@ -34,12 +31,10 @@ fn run(to: &mut impl Write, file: &[u8], held: &mut [i64], lines: &mut [i64]) ->
 }
 
 fn one_case(to: &mut impl Write, case: &[u8]) -> io::Result<()> {
-    to.write_all(case::name(case))?;
-    to.write_all(b" |")?;
     let mut held = [0i64; HELD_SPACE];
     let mut lines = [0i64; LINE_SPACE];
-    let h = cases::at_most(case::number(case, 0), HELD_SPACE);
-    let n = cases::at_most(case::number(case, 1), LINE_SPACE);
+    let h = case::number(case, 0).min(HELD_SPACE);
+    let n = case::number(case, 1).min(LINE_SPACE);
     run(
         to,
         case::file(case, NUMBERS),
@@ -48,21 +43,12 @@ fn one_case(to: &mut impl Write, case: &[u8]) -> io::Result<()> {
     )
 }
 
-fn all_cases(to: &mut impl Write, input: &[u8]) -> io::Result<()> {
-    let mut at = 0;
-    loop {
-        let next = case::after(input, at, NUMBERS);
-        if next <= at {
-            return Ok(());
-        }
-        one_case(to, &input[at..next])?;
-        at = next;
-    }
-}
-
 fn main(rt: HostRuntime) -> io::Result<()> {
-    let input = cases::read_input(rt.alloc(), rt.stdin(), 131_072)?;
-    let mut to = BufWriter::new(rt.alloc(), rt.stdout())?;
-    all_cases(&mut to, input.as_slice())?;
-    to.flush()
+    cases::run(
+        rt.alloc(),
+        rt.stdin(),
+        rt.stdout(),
+        NUMBERS,
+        |to, case| one_case(to, case),
+    )
 }
