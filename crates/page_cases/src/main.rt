@@ -2,35 +2,38 @@
 // tests/page_cases.py makes the cases and, on its own, their reports.
 #![tactic(auto)]
 
-use cases::case;
+ghost use Rattle.page.specs.Page.{page_of};
+
+use cases::{Text, case};
 use std::io;
-use std::io::{BufWriter, Write};
+use std::io::Write;
 
 const NUMBERS: usize = 1;
 
-fn one_case(to: &mut impl Write, case: &[u8]) -> io::Result<()> {
-    to.write_all(case::name(case))?;
-    to.write_all(b"\n")?;
-    let mut page = [0u8; 65536];
-    let len = page::write_page(case::file(case, NUMBERS), &mut page[..]);
-    to.write_all(&page[..len])
-}
+// Room for each of the reports.
+const ROOM: usize = 65_536;
 
-fn all_cases(to: &mut impl Write, input: &[u8]) -> io::Result<()> {
-    let mut at = 0;
-    loop {
-        let next = case::after(input, at, NUMBERS);
-        if next <= at {
-            return Ok(());
-        }
-        one_case(to, &input[at..next])?;
-        at = next;
+struct Report;
+
+impl Text for Report {
+    ghost text = { page_of };
+
+    fn put(file: &[u8], out: &mut [u8]) -> usize {
+        page::write_page(file, out)
     }
 }
 
+fn one_case<W: Write>(to: &mut W, case: &[u8]) -> io::Result<()> {
+    to.write_all(b"\n")?;
+    cases::print_text::<Report, _, ROOM>(to, case::file(case, NUMBERS))
+}
+
 fn main(rt: HostRuntime) -> io::Result<()> {
-    let input = cases::read_input(rt.alloc(), rt.stdin(), 131_072)?;
-    let mut to = BufWriter::new(rt.alloc(), rt.stdout())?;
-    all_cases(&mut to, input.as_slice())?;
-    to.flush()
+    cases::run(
+        rt.alloc(),
+        rt.stdin(),
+        rt.stdout(),
+        NUMBERS,
+        |to, case| one_case(to, case),
+    )
 }
