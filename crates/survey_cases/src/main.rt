@@ -7,11 +7,16 @@
 use book::Book;
 use book::held::Held;
 use book::line::Line;
-use cases::case;
+use cases::told::Told;
+use cases::{case, told};
+use std::fmt::Display;
 use std::io;
-use std::io::{BufWriter, Write};
+use std::io::Write;
 
 const NUMBERS: usize = 1;
+
+// The numbers of report that are lent.
+const REPORT_SPACE: usize = 2_600;
 
 // A class that is none in either version.
 const NO_CLASS: i64 = 5;
@@ -24,292 +29,214 @@ const GREATEST: i64 = 9_223_372_036_854_775_807;
 // One micrometre outside the limit of a difference.
 const OUTSIDE: i64 = 100_000_001;
 
-fn put_answer(to: &mut impl Write, a: survey::Answer) -> io::Result<()> {
-    let r = a.refusal;
-    cases::put(to, r.number)?;
-    cases::put(to, r.place)?;
-    cases::put(to, a.rows)?;
-    cases::put(to, a.pieces)?;
-    to.write_all(b" |")
-}
-
-fn put_call(
+fn put(
     to: &mut impl Write,
-    name: &[u8],
+    name: impl Display + Drop,
     a: survey::Answer,
     lines: &[i64],
     report: &[i64],
 ) -> io::Result<()> {
-    to.write_all(name)?;
-    put_answer(to, a)?;
-    cases::show_numbers(to, report)?;
-    to.write_all(b" lines #")?;
-    write!(to, "{}", cases::digest(lines) as u64)?;
-    to.write_all(b"\n")
-}
-
-fn rerun(
-    to: &mut impl Write,
-    name: &[u8],
-    version: i64,
-    b: i64,
-    t: i64,
-    held: &[i64],
-    lines: &mut [i64],
-    report: &mut [i64],
-    line: i64,
-    difference: i64,
-) -> io::Result<()> {
-    let a = survey::rerun(version, b, t, held, lines, report, line, difference);
-    put_call(to, name, a, lines, report)
-}
-
-fn withdraw(
-    to: &mut impl Write,
-    name: &[u8],
-    version: i64,
-    b: i64,
-    t: i64,
-    held: &[i64],
-    lines: &mut [i64],
-    report: &mut [i64],
-    line: i64,
-) -> io::Result<()> {
-    let a = survey::withdraw(version, b, t, held, lines, report, line);
-    put_call(to, name, a, lines, report)
-}
-
-// The line is re-run to a difference of its number in centimetres, and withdrawn.
-fn correct_line(
-    to: &mut impl Write,
-    version: i64,
-    b: i64,
-    t: i64,
-    held: &[i64],
-    lines: &mut [i64],
-    report: &mut [i64],
-    line: usize,
-) -> io::Result<()> {
-    let l = signed::signed_count(line % 65536);
-    rerun(
+    let r = a.refusal;
+    write!(
         to,
-        b"  re-run",
-        version,
-        b,
-        t,
-        held,
-        lines,
-        report,
-        l,
-        signed::signed_count(line % 1000 * 10_000),
+        "{name} {} {} {} {} |",
+        r.number, r.place, a.rows, a.pieces
     )?;
-    withdraw(to, b"  withdrawn", version, b, t, held, lines, report, l)
-}
-
-fn correct_all(
-    to: &mut impl Write,
-    version: i64,
-    b: i64,
-    t: i64,
-    held: &[i64],
-    lines: &mut [i64],
-    report: &mut [i64],
-    n: usize,
-) -> io::Result<()> {
-    let mut line = 0;
-    while line < n {
-        correct_line(to, version, b, t, held, lines, report, line)?;
-        line += 1;
-    }
-    Ok(())
+    cases::show_numbers(to, report)?;
+    writeln!(to, " lines #{}", cases::digest(lines))
 }
 
 fn survey(
     to: &mut impl Write,
-    name: &[u8],
-    version: i64,
-    b: i64,
-    t: i64,
+    name: impl Display + Drop,
+    told: Told,
     held: &[i64],
     lines: &[i64],
     report: &mut [i64],
 ) -> io::Result<()> {
-    let a = survey::survey(version, b, t, held, lines, report);
-    put_call(to, name, a, lines, report)
+    let a = survey::survey(told.version, told.b, told.t, held, lines, report);
+    put(to, name, a, lines, report)
+}
+
+fn rerun(
+    to: &mut impl Write,
+    name: impl Display + Drop,
+    told: Told,
+    line: i64,
+    difference: i64,
+    held: &[i64],
+    lines: &mut [i64],
+    report: &mut [i64],
+) -> io::Result<()> {
+    let a = survey::rerun(
+        told.version,
+        told.b,
+        told.t,
+        held,
+        lines,
+        report,
+        line,
+        difference,
+    );
+    put(to, name, a, lines, report)
+}
+
+fn withdraw(
+    to: &mut impl Write,
+    name: impl Display + Drop,
+    told: Told,
+    line: i64,
+    held: &[i64],
+    lines: &mut [i64],
+    report: &mut [i64],
+) -> io::Result<()> {
+    let a = survey::withdraw(told.version, told.b, told.t, held, lines, report, line);
+    put(to, name, a, lines, report)
+}
+
+// The line is re-run to a difference of its number in centimetres, and withdrawn.
+fn correct(
+    to: &mut impl Write,
+    told: Told,
+    line: usize,
+    held: &[i64],
+    lines: &mut [i64],
+    report: &mut [i64],
+) -> io::Result<()> {
+    let l = signed::signed_count(line % 65536);
+    let difference = signed::signed_count(line % 1000 * 10_000);
+    rerun(to, "  re-run", told, l, difference, held, lines, report)?;
+    withdraw(to, "  withdrawn", told, l, held, lines, report)
 }
 
 // Told as of either version: t and the classes of one version are not the other's.
 fn tell_either(
     to: &mut impl Write,
-    b: i64,
+    told: Told,
     held: &[i64],
     lines: &[i64],
     report: &mut [i64],
 ) -> io::Result<()> {
-    survey(to, b"  version 1, t 0", 1, b, 0, held, lines, report)?;
-    survey(to, b"  version 1, t 1", 1, b, 1, held, lines, report)?;
-    survey(to, b"  version 2, t 0", 2, b, 0, held, lines, report)?;
-    survey(to, b"  version 2, t 1", 2, b, 1, held, lines, report)
+    for (version, t) in [(1, 0), (1, 1), (2, 0), (2, 1)] {
+        survey(
+            to,
+            format_args!("  version {version}, t {t}"),
+            told.of_version(version).with_t(t),
+            held,
+            lines,
+            report,
+        )?;
+    }
+    Ok(())
 }
 
 // Told as of no version: 3 comes before a line of no class.
 fn tell_none(
     to: &mut impl Write,
-    b: i64,
-    t: i64,
+    told: Told,
     held: &[i64],
     lines: &[i64],
     report: &mut [i64],
 ) -> io::Result<()> {
-    survey(to, b"  version 0", 0, b, t, held, lines, report)?;
-    survey(to, b"  version 3", 3, b, t, held, lines, report)?;
-    survey(to, b"  version 255", 255, b, t, held, lines, report)?;
-    survey(to, b"  version -1", -1, b, t, held, lines, report)
+    for (name, version) in [
+        ("  version 0", 0),
+        ("  version 3", 3),
+        ("  version 255", 255),
+        ("  version -1", -1),
+        ("  version 2^32 + 1", LOW_ONE),
+        ("  version 2^63 - 1", GREATEST),
+    ] {
+        survey(to, name, told.of_version(version), held, lines, report)?;
+    }
+    Ok(())
 }
 
 // Nor are these versions; and 3 comes before a new difference outside its limit.
-fn tell_none_again(
+fn correct_none(
     to: &mut impl Write,
-    b: i64,
-    t: i64,
+    told: Told,
     held: &[i64],
     lines: &mut [i64],
     report: &mut [i64],
 ) -> io::Result<()> {
-    survey(
-        to,
-        b"  version 2^32 + 1",
-        LOW_ONE,
-        b,
-        t,
-        held,
-        lines,
-        report,
-    )?;
-    survey(
-        to,
-        b"  version 2^63 - 1",
-        GREATEST,
-        b,
-        t,
-        held,
-        lines,
-        report,
-    )?;
     rerun(
         to,
-        b"  version 3, re-run",
-        3,
-        b,
-        t,
+        "  version 3, re-run",
+        told.of_version(3),
+        1,
+        OUTSIDE,
         held,
         lines,
         report,
-        1,
-        OUTSIDE,
     )?;
     withdraw(
         to,
-        b"  version 0, withdrawn",
-        0,
-        b,
-        t,
+        "  version 0, withdrawn",
+        told.of_version(0),
+        1,
         held,
         lines,
         report,
-        1,
     )
 }
 
 // The book, none of whose lines stands any more, told otherwise than it is: every line is tested, withdrawn or not.
 fn tell_otherwise(
     to: &mut impl Write,
-    version: i64,
-    b: i64,
-    t: i64,
+    told: Told,
     held: &[i64],
     lines: &mut [i64],
     report: &mut [i64],
 ) -> io::Result<()> {
-    tell_either(to, b, held, lines, report)?;
+    tell_either(to, told, held, lines, report)?;
     cases::spoil_last(lines, Line::WORDS, Line::CLASS, NO_CLASS);
-    survey(to, b"  class 5", version, b, t, held, lines, report)?;
-    tell_none(to, b, t, held, lines, report)?;
-    tell_none_again(to, b, t, held, lines, report)
+    survey(to, "  class 5", told, held, lines, report)?;
+    tell_none(to, told, held, lines, report)?;
+    correct_none(to, told, held, lines, report)
 }
 
-fn survey_and_correct(
-    to: &mut impl Write,
-    version: i64,
-    b: i64,
-    t: i64,
-    held: &[i64],
-    lines: &mut [i64],
-    report: &mut [i64],
-    n: usize,
-) -> io::Result<()> {
-    survey(to, b"survey", version, b, t, held, lines, report)?;
-    correct_all(to, version, b, t, held, lines, report, n)?;
-    tell_otherwise(to, version, b, t, held, lines, report)
-}
-
+// Line 0, which is none, is corrected too.
 fn run(
     to: &mut impl Write,
-    file: &[u8],
-    held: &mut [i64],
+    told: Told,
+    n: usize,
+    held: &[i64],
     lines: &mut [i64],
     report: &mut [i64],
 ) -> io::Result<()> {
-    cases::clear(report);
-    let book = file::read(file, held, lines);
-    let version = signed::signed_count(book.version % 65536);
-    let b = signed::signed_count(book.b % 65536);
-    let t = signed::signed_count(book.t % 65536);
-    let n = book.n % 600;
-    let held_words = cases::at_most(book.h % 600 * Held::WORDS, held.len());
-    let line_words = cases::at_most(n * Line::WORDS, lines.len());
-    survey_and_correct(
-        to,
-        version,
-        b,
-        t,
-        &held[..held_words],
-        &mut lines[..line_words],
-        report,
-        n + 1,
-    )
+    survey(to, "survey", told, held, lines, report)?;
+    for line in 0..=n {
+        correct(to, told, line, held, lines, report)?;
+    }
+    tell_otherwise(to, told, held, lines, report)
 }
 
 fn one_case(to: &mut impl Write, case: &[u8]) -> io::Result<()> {
-    to.write_all(case::name(case))?;
     to.write_all(b"\n")?;
     let mut held = [0i64; Book::HELD_WORDS];
     let mut lines = [0i64; Book::LINE_WORDS];
-    let mut report = [0i64; 2600];
+    let mut report = [0i64; REPORT_SPACE];
+    cases::clear(&mut report);
+    let book = file::read(case::file(case, NUMBERS), &mut held, &mut lines);
+    let told = Told::read(book.version, book.b, book.t);
+    let h = told::words_of(book.h, Held::WORDS, Book::HELD_WORDS);
+    let n = told::words_of(book.n, Line::WORDS, Book::LINE_WORDS);
     run(
         to,
-        case::file(case, NUMBERS),
-        &mut held[..],
-        &mut lines[..],
-        &mut report[..],
+        told,
+        book.n % 600,
+        &held[..h],
+        &mut lines[..n],
+        &mut report,
     )
 }
 
-fn all_cases(to: &mut impl Write, input: &[u8]) -> io::Result<()> {
-    let mut at = 0;
-    loop {
-        let next = case::after(input, at, NUMBERS);
-        if next <= at {
-            return Ok(());
-        }
-        one_case(to, &input[at..next])?;
-        at = next;
-    }
-}
-
 fn main(rt: HostRuntime) -> io::Result<()> {
-    let input = cases::read_input(rt.alloc(), rt.stdin(), 131_072)?;
-    let mut to = BufWriter::new(rt.alloc(), rt.stdout())?;
-    all_cases(&mut to, input.as_slice())?;
-    to.flush()
+    cases::run(
+        rt.alloc(),
+        rt.stdin(),
+        rt.stdout(),
+        NUMBERS,
+        |to, case| one_case(to, case),
+    )
 }
