@@ -7,10 +7,12 @@
 use book::Book;
 use book::held::Held;
 use book::line::Line;
-use cases::case;
+use cases::told::Told;
+use cases::{case, told};
 use rates::Rate;
+use std::fmt::Display;
 use std::io;
-use std::io::{BufWriter, Write};
+use std::io::Write;
 
 const NUMBERS: usize = 3;
 
@@ -23,376 +25,221 @@ const RATED: usize = 9;
 // A class that is none in either version.
 const NO_CLASS: i64 = 5;
 
-fn put(to: &mut impl Write, text: &[u8]) -> io::Result<()> {
-    to.write_all(text)
-}
+// The heights that can be lent.
+const HEIGHT_SPACE: usize = 300;
 
 fn adjust(
     to: &mut impl Write,
-    name: &[u8],
-    version: i64,
-    b: i64,
-    t: i64,
+    name: impl Display + Drop,
+    told: Told,
     held: &[i64],
     lines: &[i64],
     heights: &mut [i64],
 ) -> io::Result<()> {
-    let a = adjust::adjust(version, b, t, held, lines, heights);
-    put(to, name)?;
+    let a = adjust::adjust(told.version, told.b, told.t, held, lines, heights);
     let r = a.refusal;
-    cases::put(to, r.number)?;
-    cases::put(to, r.place)?;
-    cases::put(to, a.sweeps)?;
-    put(to, b" |")?;
+    write!(to, "{name} {} {} {} |", r.number, r.place, a.sweeps)?;
     cases::show_numbers(to, heights)?;
-    put(to, b"\n")
+    to.write_all(b"\n")
 }
 
 // A rate by its bits: two rates are one exactly if these are.
-fn put_bits(to: &mut impl Write, x: f64) -> io::Result<()> {
-    if x == x {
-        put(to, b" ")?;
-        write!(to, "{}", f64::to_bits(x))?;
-    }
-    Ok(())
-}
-
 fn put_rate(to: &mut impl Write, rate: Rate) -> io::Result<()> {
     match rate {
-        Rate::PerKm(x) => put_bits(to, x),
-        Rate::Withdrawn => put(to, b" withdrawn"),
+        Rate::PerKm(x) if x == x => writeln!(to, " {}", f64::to_bits(x)),
+        Rate::PerKm(_) => to.write_all(b"\n"),
+        Rate::Withdrawn => to.write_all(b" withdrawn\n"),
     }
 }
 
 fn rate_named(
     to: &mut impl Write,
-    name: &[u8],
-    version: i64,
-    b: i64,
-    t: i64,
+    name: impl Display + Drop,
+    told: Told,
+    line: usize,
     held: &[i64],
     lines: &[i64],
     heights: &[i64],
-    line: usize,
 ) -> io::Result<()> {
     let number = signed::signed_count(line % 65536);
-    let a = adjust::rate(version, b, t, held, lines, heights, number);
-    put(to, name)?;
+    let a = adjust::rate(told.version, told.b, told.t, held, lines, heights, number);
     let r = a.refusal;
-    cases::put(to, r.number)?;
-    cases::put(to, r.place)?;
-    cases::put(to, a.line)?;
-    cases::put_signed(to, a.correction)?;
+    write!(
+        to,
+        "{name} {} {} {} {}",
+        r.number, r.place, a.line, a.correction
+    )?;
     let x = a.rate;
-    put_rate(to, x)?;
-    put(to, b"\n")
+    put_rate(to, x)
 }
 
 fn rate(
     to: &mut impl Write,
-    version: i64,
-    b: i64,
-    t: i64,
-    held: &[i64],
-    lines: &[i64],
-    heights: &[i64],
+    told: Told,
     line: usize,
-) -> io::Result<()> {
-    rate_named(to, b"  rate", version, b, t, held, lines, heights, line)
-}
-
-fn rate_all(
-    to: &mut impl Write,
-    version: i64,
-    b: i64,
-    t: i64,
     held: &[i64],
     lines: &[i64],
     heights: &[i64],
-    n: usize,
 ) -> io::Result<()> {
-    let mut line = 0;
-    while line < n {
-        rate(to, version, b, t, held, lines, heights, line)?;
-        line += 1;
-    }
-    Ok(())
+    rate_named(to, "  rate", told, line, held, lines, heights)
 }
 
 fn adjust_and_rate(
     to: &mut impl Write,
-    version: i64,
-    b: i64,
-    t: i64,
+    told: Told,
+    n: usize,
     held: &[i64],
     lines: &[i64],
     heights: &mut [i64],
-    n: usize,
 ) -> io::Result<()> {
-    adjust(to, b"adjusted", version, b, t, held, lines, heights)?;
-    let rated = cases::at_most(n, RATED);
-    rate_all(to, version, b, t, held, lines, heights, rated)
-}
-
-fn raise(heights: &mut [i64], spoilt: usize) {
-    if spoilt < heights.len() {
-        heights[spoilt] = TOO_HIGH;
+    adjust(to, "adjusted", told, held, lines, heights)?;
+    for line in 0..n.min(RATED) {
+        rate(to, told, line, held, lines, heights)?;
     }
+    Ok(())
 }
 
 // A height is spoilt, and line 1 rated.
 fn spoil(
     to: &mut impl Write,
-    version: i64,
-    b: i64,
-    t: i64,
+    told: Told,
+    spoilt: usize,
     held: &[i64],
     lines: &[i64],
     heights: &mut [i64],
-    spoilt: usize,
 ) -> io::Result<()> {
-    raise(heights, spoilt);
-    rate(to, version, b, t, held, lines, heights, 1)
-}
-
-fn withdraw(lines: &mut [i64]) {
-    if Line::WORDS <= lines.len() {
-        lines[Line::STANDING] = 0;
+    if spoilt < heights.len() {
+        heights[spoilt] = TOO_HIGH;
     }
+    rate(to, told, 1, held, lines, heights)
 }
 
 // Line 1 is withdrawn, and all is adjusted and line 1 rated once more.
 fn without_it(
     to: &mut impl Write,
-    version: i64,
-    b: i64,
-    t: i64,
+    told: Told,
     held: &[i64],
     lines: &mut [i64],
     heights: &mut [i64],
 ) -> io::Result<()> {
-    withdraw(lines);
-    adjust(
-        to,
-        b"line 1 withdrawn, adjusted",
-        version,
-        b,
-        t,
-        held,
-        lines,
-        heights,
-    )?;
-    rate(to, version, b, t, held, lines, heights, 1)
+    if Line::WORDS <= lines.len() {
+        lines[Line::STANDING] = 0;
+    }
+    adjust(to, "line 1 withdrawn, adjusted", told, held, lines, heights)?;
+    rate(to, told, 1, held, lines, heights)
 }
 
 // Told as of either version: t and the classes of one version are not the other's.
 fn tell_either(
     to: &mut impl Write,
-    b: i64,
+    told: Told,
     held: &[i64],
     lines: &[i64],
     heights: &[i64],
 ) -> io::Result<()> {
-    rate_named(
-        to,
-        b"version 1, t 0, rate",
-        1,
-        b,
-        0,
-        held,
-        lines,
-        heights,
-        1,
-    )?;
-    rate_named(
-        to,
-        b"version 1, t 1, rate",
-        1,
-        b,
-        1,
-        held,
-        lines,
-        heights,
-        1,
-    )?;
-    rate_named(
-        to,
-        b"version 2, t 0, rate",
-        2,
-        b,
-        0,
-        held,
-        lines,
-        heights,
-        1,
-    )?;
-    rate_named(
-        to,
-        b"version 2, t 1, rate",
-        2,
-        b,
-        1,
-        held,
-        lines,
-        heights,
-        1,
-    )
+    for (version, t) in [(1, 0), (1, 1), (2, 0), (2, 1)] {
+        rate_named(
+            to,
+            format_args!("version {version}, t {t}, rate"),
+            told.of_version(version).with_t(t),
+            1,
+            held,
+            lines,
+            heights,
+        )?;
+    }
+    Ok(())
 }
 
 // The last line gets a class that is none.
 fn without_class(
     to: &mut impl Write,
-    version: i64,
-    b: i64,
-    t: i64,
+    told: Told,
     held: &[i64],
     lines: &mut [i64],
     heights: &mut [i64],
 ) -> io::Result<()> {
     cases::spoil_last(lines, Line::WORDS, Line::CLASS, NO_CLASS);
-    adjust(
-        to,
-        b"class 5, adjusted",
-        version,
-        b,
-        t,
-        held,
-        lines,
-        heights,
-    )?;
-    rate_named(to, b"class 5, rate", version, b, t, held, lines, heights, 1)
+    adjust(to, "class 5, adjusted", told, held, lines, heights)?;
+    rate_named(to, "class 5, rate", told, 1, held, lines, heights)
 }
 
-// Told as of no version.
-fn adjust_none(
+// Told as of no version: 3 comes before all else, as heights that are not b in number.
+fn tell_none(
     to: &mut impl Write,
-    b: i64,
-    t: i64,
+    told: Told,
     held: &[i64],
     lines: &[i64],
     heights: &mut [i64],
 ) -> io::Result<()> {
-    adjust(to, b"version 0, adjusted", 0, b, t, held, lines, heights)?;
-    adjust(to, b"version 3, adjusted", 3, b, t, held, lines, heights)?;
-    adjust(
-        to,
-        b"version 255, adjusted",
-        255,
-        b,
-        t,
-        held,
-        lines,
-        heights,
-    )
-}
-
-// 3 comes before all else, as heights that are not b in number.
-fn rate_none(
-    to: &mut impl Write,
-    b: i64,
-    t: i64,
-    held: &[i64],
-    lines: &[i64],
-    heights: &[i64],
-) -> io::Result<()> {
-    rate_named(to, b"version 0, rate", 0, b, t, held, lines, heights, 1)?;
-    rate_named(to, b"version 3, rate", 3, b, t, held, lines, heights, 1)?;
-    rate_named(to, b"version 255, rate", 255, b, t, held, lines, heights, 1)
-}
-
-fn tell_otherwise(
-    to: &mut impl Write,
-    version: i64,
-    b: i64,
-    t: i64,
-    held: &[i64],
-    lines: &mut [i64],
-    heights: &mut [i64],
-) -> io::Result<()> {
-    tell_either(to, b, held, lines, heights)?;
-    without_class(to, version, b, t, held, lines, heights)?;
-    adjust_none(to, b, t, held, lines, heights)?;
-    rate_none(to, b, t, held, lines, heights)
+    for version in [0, 3, 255] {
+        adjust(
+            to,
+            format_args!("version {version}, adjusted"),
+            told.of_version(version),
+            held,
+            lines,
+            heights,
+        )?;
+    }
+    for version in [0, 3, 255] {
+        rate_named(
+            to,
+            format_args!("version {version}, rate"),
+            told.of_version(version),
+            1,
+            held,
+            lines,
+            heights,
+        )?;
+    }
+    Ok(())
 }
 
 fn run(
     to: &mut impl Write,
-    version: i64,
-    b: i64,
-    t: i64,
+    told: Told,
+    n: usize,
+    spoilt: usize,
     held: &[i64],
     lines: &mut [i64],
     heights: &mut [i64],
-    n: usize,
-    spoilt: usize,
-) -> io::Result<()> {
-    adjust_and_rate(to, version, b, t, held, lines, heights, n)?;
-    spoil(to, version, b, t, held, lines, heights, spoilt)?;
-    without_it(to, version, b, t, held, lines, heights)?;
-    tell_otherwise(to, version, b, t, held, lines, heights)
-}
-
-fn read_and_run(
-    to: &mut impl Write,
-    file: &[u8],
-    held: &mut [i64],
-    lines: &mut [i64],
-    heights: &mut [i64],
-    spoilt: usize,
 ) -> io::Result<()> {
     cases::clear(heights);
-    let book = file::read(file, held, lines);
-    let version = signed::signed_count(book.version % 65536);
-    let b = signed::signed_count(book.b % 65536);
-    let t = signed::signed_count(book.t % 65536);
-    let n = book.n % 600;
-    let held_words = cases::at_most(book.h % 600 * Held::WORDS, held.len());
-    let line_words = cases::at_most(n * Line::WORDS, lines.len());
-    run(
-        to,
-        version,
-        b,
-        t,
-        &held[..held_words],
-        &mut lines[..line_words],
-        heights,
-        n + 2,
-        spoilt,
-    )
+    adjust_and_rate(to, told, n, held, lines, heights)?;
+    spoil(to, told, spoilt, held, lines, heights)?;
+    without_it(to, told, held, lines, heights)?;
+    tell_either(to, told, held, lines, heights)?;
+    without_class(to, told, held, lines, heights)?;
+    tell_none(to, told, held, lines, heights)
 }
 
 fn one_case(to: &mut impl Write, case: &[u8]) -> io::Result<()> {
-    put(to, case::name(case))?;
-    put(to, b"\n")?;
+    to.write_all(b"\n")?;
     let mut held = [0i64; Book::HELD_WORDS];
     let mut lines = [0i64; Book::LINE_WORDS];
-    let mut heights = [0i64; 300];
-    let r = cases::at_most(case::number(case, 0), 300);
-    read_and_run(
+    let mut heights = [0i64; HEIGHT_SPACE];
+    let book = file::read(case::file(case, NUMBERS), &mut held, &mut lines);
+    let h = told::words_of(book.h, Held::WORDS, Book::HELD_WORDS);
+    let n = told::words_of(book.n, Line::WORDS, Book::LINE_WORDS);
+    let lent = case::number(case, 0).min(HEIGHT_SPACE);
+    run(
         to,
-        case::file(case, NUMBERS),
-        &mut held[..],
-        &mut lines[..],
-        &mut heights[..r],
+        Told::read(book.version, book.b, book.t),
+        book.n % 600 + 2,
         case::number(case, 1),
+        &held[..h],
+        &mut lines[..n],
+        &mut heights[..lent],
     )
 }
 
-fn all_cases(to: &mut impl Write, input: &[u8]) -> io::Result<()> {
-    let mut at = 0;
-    loop {
-        let next = case::after(input, at, NUMBERS);
-        if next <= at {
-            return Ok(());
-        }
-        one_case(to, &input[at..next])?;
-        at = next;
-    }
-}
-
 fn main(rt: HostRuntime) -> io::Result<()> {
-    let input = cases::read_input(rt.alloc(), rt.stdin(), 131_072)?;
-    let mut to = BufWriter::new(rt.alloc(), rt.stdout())?;
-    all_cases(&mut to, input.as_slice())?;
-    to.flush()
+    cases::run(
+        rt.alloc(),
+        rt.stdin(),
+        rt.stdout(),
+        NUMBERS,
+        |to, case| one_case(to, case),
+    )
 }
