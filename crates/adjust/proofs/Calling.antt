@@ -10,14 +10,14 @@ use Rattle.book.specs.Lent.{Lent}
 use Rattle.book.specs.Test.{refusal, test_of}
 use Rattle.book.specs.Good.{GoodBook}
 use Rattle.book.specs.declared.Book.{Book}
-use Rattle.book.specs.declared.Refusal.{Refusal}
-use Rattle.book.specs.declared.Tested.TheVariants.{Good, Refused}
+use Rattle.book.specs.Refusals.{Told}
+use Rattle.book.specs.Test.{Good, Refused}
 use Rattle.book.proofs.Goods.{good_lines}
 use Rattle.book.proofs.IfGood.{if_refused, if_good_lem}
 use Rattle.adjust.specs.Adjusted.{Outcome, done, refused, adjustment}
 use Rattle.adjust.specs.Answers.{settled_at, refused_with, answered, Answers}
 use Rattle.adjust.specs.Call.{adjusted, given_by, adjust_good, adjust_of, GoodEntries}
-use Rattle.adjust.specs.declared.Adjusted.{Adjusted}
+use Rattle.adjust.specs.Answers.{Adjusted}
 
 -- a tested book has good entries
 pub good_entries : (k : Book) (book : Lent) → GoodBook k book → GoodEntries k book.held book.lines
@@ -28,7 +28,7 @@ good_entries k book g = record {
 
 -- the call by the test of its book
 module _ (book : Lent) (out : List ℤ) where
-  pub by_refusal : (r : Refusal) → test_of book ≡ Refused r → adjust_of book out ≡ adjusted (refused_with r) out
+  pub by_refusal : (r : Told) → test_of book ≡ Refused r → adjust_of book out ≡ adjusted (refused_with r) out
   unfolding adjust_of
   by_refusal = if_refused (test_of book) (λ r. adjusted (refused_with r) out) (λ k. adjust_good k book.held book.lines out)
 

@@ -18,18 +18,18 @@ use Rattle.network.proofs.Marks.{size, grows}
 use Rattle.fields.specs.Heights.{Working}
 use Rattle.sights.specs.Sights.{Sight, sights_of}
 use Rattle.sweeps.specs.Sweeps.{Swept, still, moved, visit, sweep, Settled, onward, settle_from, max_sweeps, settle}
-use Rattle.sweeps.specs.MarkTurns.{flags, ended_at}
+use Rattle.sweeps.specs.MarkTurns.{flags, ended_at, refusal_of}
 use Rattle.start.specs.Start.{held_height, is_some, is_held, Rooted, rooted_by, unheld_piece, start_of, start_heights}
 use Rattle.start.specs.Along.{Entered, rooting, Given, HeldIn, Started}
 use Rattle.adjust.specs.Adjusted.{Outcome, refused, ended, unless_unheld, adjustment}
-use Rattle.adjust.specs.Answers.{refused_with, answer_of, end_answer, answered, Answers}
+use Rattle.adjust.specs.Answers.{refused_with, answer_of, answer_by, end_answer, answered, Answers}
 use Rattle.fields.proofs.Fair.{fair_lines}
 use Rattle.sweeps.proofs.Best.{Sound, fairs_sound}
 use Rattle.start.proofs.Joining.{named, rooting_is}
 use Rattle.start.proofs.Starting.{is_some_lem}
 use Rattle.start.proofs.Inside.{start_working}
 use Rattle.start.proofs.Beginning.{start_length, start_height}
-use Rattle.adjust.specs.declared.Adjusted.{Adjusted}
+use Rattle.adjust.specs.Answers.{Adjusted}
 use Rattle.std.specs.Prelude.{Result, Ok, Err}
 use Rattle.sweeps.specs.declared.Unsettled.{Unsettled}
 use Rattle.sweeps.specs.declared.Unsettled.TheVariants as why
@@ -69,6 +69,11 @@ end_whole : (e : Result ℕ Unsettled) (hs : List ℤ) → end_answer e ≡ answ
 end_whole (Ok n) hs = refl
 end_whole (Err (why.Outside m)) hs = refl
 end_whole (Err why.StillMoving) hs = refl
+
+-- the sweeps' own reason, told as a refusal
+pub end_refusal : (e : Unsettled) → answer_by (Err (refusal_of e)) ≡ end_answer (Err e)
+end_refusal (why.Outside m) = refl
+end_refusal why.StillMoving = refl
 
 -- an end of the sweeps as an answer
 pub end_answer_lem : (e : Result ℕ Unsettled) (hs : List ℤ) → answered (end_answer e) hs ≡ ended (ended_at e hs)

@@ -7,7 +7,7 @@ use Rattle.book.specs.Test.{refusal, test_of, if_good}
 use Rattle.book.specs.declared.Book.{Book}
 use Rattle.adjust.specs.Adjusted.{Outcome, done, refused, adjustment}
 use Rattle.adjust.specs.Answers.{settled_at, refused_with}
-use Rattle.adjust.specs.declared.Adjusted.{Adjusted}
+use Rattle.adjust.specs.Answers.{Adjusted}
 
 -- the answer, and the heights after the call
 pub record Given : Type 0 where

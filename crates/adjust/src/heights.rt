@@ -2,12 +2,12 @@
 ghost use Rattle.std.specs.Prelude.{◌≡◌, ◌≤◌, length};
 ghost use Rattle.prepare.specs.Prepared.{RoomBook};
 ghost use Rattle.adjust.specs.Adjusted.{adjustment};
-ghost use Rattle.adjust.specs.Answers.{Answers};
+ghost use Rattle.adjust.specs.Answers.{answer_by, Answers};
 ghost use Rattle.adjust.specs.Call.{GoodEntries, adjusted, adjust_good};
 
-use crate::Adjusted;
 use crate::along::adjust_along;
 use book::Book;
+use book::refusal::Refusal;
 
 // A place for each mark of any book.
 const MARKS: usize = Book::MAX_MARKS as usize;
@@ -24,11 +24,11 @@ fn adjust_in(
     seg: &mut [u64],
     order: &mut [u64],
     z: &mut [i64],
-) -> Adjusted
-    requires fact_1 { GoodEntries book held.now lines.now }
-    requires fact_2 { RoomBook ends.old head.old next.old best.old seg.old order.old }
-    requires fact_3 { length z.old ≡ book.marks }
-    ensures { Answers result z.new (adjustment book.marks held.now lines.now) }
+) -> Result<usize, Refusal>
+    requires good { GoodEntries book held.now lines.now }
+    requires room { RoomBook ends.old head.old next.old best.old seg.old order.old }
+    requires heights { length z.old ≡ book.marks }
+    ensures { Answers (answer_by result) z.new (adjustment book.marks held.now lines.now) }
 {
     let b = book.marks;
     let mut flags = [false; MARKS];
@@ -49,10 +49,10 @@ fn adjust_in(
 }
 
 // The adjustment, its heights left in z.
-fn adjust_into(book: Book, held: &[i64], lines: &[i64], z: &mut [i64]) -> Adjusted
-    requires fact_1 { GoodEntries book held.now lines.now }
-    requires fact_2 { length z.old ≡ book.marks }
-    ensures { Answers result z.new (adjustment book.marks held.now lines.now) }
+fn adjust_into(book: Book, held: &[i64], lines: &[i64], z: &mut [i64]) -> Result<usize, Refusal>
+    requires good { GoodEntries book held.now lines.now }
+    requires heights { length z.old ≡ book.marks }
+    ensures { Answers (answer_by result) z.new (adjustment book.marks held.now lines.now) }
 {
     let mut ends = [0u64; prepare::HALVES];
     let mut head = [0u64; prepare::MARKS];
@@ -72,27 +72,30 @@ fn adjust_by(
     lines: &[i64],
     z: &mut [i64],
     heights: &mut [i64],
-) -> Adjusted
-    requires fact_1 { GoodEntries book held.now lines.now }
-    requires fact_2 { (length z.old ≡ book.marks) × (book.marks ≤ length heights.old) }
-    ensures { adjusted result heights.new ≡ adjust_good book held.now lines.now heights.old }
+) -> Result<usize, Refusal>
+    requires good { GoodEntries book held.now lines.now }
+    requires work { length z.old ≡ book.marks }
+    requires room { book.marks ≤ length heights.old }
+    ensures { adjusted (answer_by result) heights.new ≡ adjust_good book held.now lines.now heights.old }
 {
-    let a = adjust_into(book, held, lines, z);
-    let refusal = a.refusal;
-    if refusal.number == 0 {
-        kept::put(z, heights);
-    }
-    a
+    let sweeps = adjust_into(book, held, lines, z)?;
+    kept::put(z, heights);
+    Ok(sweeps)
 }
 
-// 10, or the adjustment.
-pub(crate) fn adjust_good(book: Book, held: &[i64], lines: &[i64], heights: &mut [i64]) -> Adjusted
+// The adjustment, or 10.
+pub(crate) fn adjust_good(
+    book: Book,
+    held: &[i64],
+    lines: &[i64],
+    heights: &mut [i64],
+) -> Result<usize, Refusal>
     requires { GoodEntries book held.now lines.now }
-    ensures { adjusted result heights.new ≡ adjust_good book held.now lines.now heights.old }
+    ensures { adjusted (answer_by result) heights.new ≡ adjust_good book held.now lines.now heights.old }
 {
     let b = book.marks;
     if heights.len() < b {
-        return crate::refuse(10, 0);
+        return Err(Refusal::NoRoom);
     }
     let mut z = [0i64; MARKS];
     adjust_by(book, held, lines, &mut z[..b], heights)

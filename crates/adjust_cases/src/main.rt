@@ -7,9 +7,10 @@
 use book::Book;
 use book::held::Held;
 use book::line::Line;
+use book::refusal::Refusal;
 use cases::told::Told;
 use cases::{case, told};
-use rates::Rate;
+use rates::{LineRate, Rate};
 use std::fmt::Display;
 use std::io;
 use std::io::Write;
@@ -36,9 +37,10 @@ fn adjust(
     lines: &[i64],
     heights: &mut [i64],
 ) -> io::Result<()> {
-    let a = adjust::adjust(told.version, told.b, told.t, held, lines, heights);
-    let r = a.refusal;
-    write!(to, "{name} {} {} {} |", r.number, r.place, a.sweeps)?;
+    let answer = adjust::adjust(told.version, told.b, told.t, held, lines, heights);
+    write!(to, "{name}")?;
+    cases::put_answer(to, answer.map(|sweeps| [sweeps]))?;
+    to.write_all(b" |")?;
     cases::show_numbers(to, heights)?;
     to.write_all(b"\n")
 }
@@ -52,6 +54,20 @@ fn put_rate(to: &mut impl Write, rate: Rate) -> io::Result<()> {
     }
 }
 
+// Of a refused call the line, the correction and the rate are 0.
+fn put_rated(to: &mut impl Write, answer: Result<LineRate, Refusal>) -> io::Result<()> {
+    match answer {
+        Ok(rated) => {
+            write!(to, " 0 0 {} {}", rated.line, rated.correction)?;
+            put_rate(to, rated.rate)
+        }
+        Err(refusal) => {
+            cases::put_answer::<_, 3>(to, Err(refusal))?;
+            to.write_all(b"\n")
+        }
+    }
+}
+
 fn rate_named(
     to: &mut impl Write,
     name: impl Display + Drop,
@@ -62,15 +78,9 @@ fn rate_named(
     heights: &[i64],
 ) -> io::Result<()> {
     let number = signed::signed_count(line % 65536);
-    let a = adjust::rate(told.version, told.b, told.t, held, lines, heights, number);
-    let r = a.refusal;
-    write!(
-        to,
-        "{name} {} {} {} {}",
-        r.number, r.place, a.line, a.correction
-    )?;
-    let x = a.rate;
-    put_rate(to, x)
+    let answer = adjust::rate(told.version, told.b, told.t, held, lines, heights, number);
+    write!(to, "{name}")?;
+    put_rated(to, answer)
 }
 
 fn rate(
@@ -219,14 +229,15 @@ fn one_case(to: &mut impl Write, case: &[u8]) -> io::Result<()> {
     let mut held = [0i64; Book::HELD_WORDS];
     let mut lines = [0i64; Book::LINE_WORDS];
     let mut heights = [0i64; HEIGHT_SPACE];
-    let book = file::read(case::file(case, NUMBERS), &mut held, &mut lines);
-    let h = told::words_of(book.h, Held::WORDS, Book::HELD_WORDS);
-    let n = told::words_of(book.n, Line::WORDS, Book::LINE_WORDS);
+    let answer = file::read(case::file(case, NUMBERS), &mut held, &mut lines);
+    let book = answer.unwrap_or(told::NOTHING);
+    let h = told::words_of(book.held, Held::WORDS, Book::HELD_WORDS);
+    let n = told::words_of(book.lines, Line::WORDS, Book::LINE_WORDS);
     let lent = case::number(case, 0).min(HEIGHT_SPACE);
     run(
         to,
-        Told::read(book.version, book.b, book.t),
-        book.n % 600 + 2,
+        Told::read(book.version, book.marks, book.tolerance),
+        book.lines % 600 + 2,
         case::number(case, 1),
         &held[..h],
         &mut lines[..n],

@@ -10,8 +10,8 @@ mod step;
 mod taken;
 mod words;
 
-use cases::case;
 use cases::told::Told;
+use cases::{case, told};
 use std::io;
 use std::io::Write;
 use step::Steps;
@@ -35,8 +35,8 @@ fn play(to: &mut impl Write, file: &[u8], steps: &[u8]) -> io::Result<()> {
     let mut lines = [0i64; LINES_WORDS];
     let mut report = [0i64; REPORT_WORDS];
     cases::clear(&mut report);
-    let book = file::read(file, &mut held, &mut lines);
-    let told = Told::read(book.version, book.b, book.t);
+    let book = file::read(file, &mut held, &mut lines).unwrap_or(told::NOTHING);
+    let told = Told::read(book.version, book.marks, book.tolerance);
     for (note, step) in Steps::of(steps) {
         to.write_all(note)?;
         to.write_all(b"\n")?;

@@ -3,9 +3,11 @@ use crate::step::{Call, Sheet, Step};
 use crate::words;
 use book::held::Held;
 use book::line::Line;
+use book::refusal::Refusal;
 use cases::told::Told;
 use std::io;
 use std::io::Write;
+use table::Found;
 
 // The worked network's numbers: one held entry, seven lines; its report of three rows is kept in space for four.
 pub(crate) const HELD_WORDS: usize = Held::WORDS;
@@ -20,7 +22,7 @@ fn answer(
     held: &[i64],
     lines: &mut [i64],
     report: &mut [i64],
-) -> survey::Answer {
+) -> Result<Found, Refusal> {
     match call {
         Call::Survey => survey::survey(told.version, told.b, told.t, held, lines, report),
         Call::Rerun { line, difference } => {
@@ -60,12 +62,12 @@ fn take_call(
     let lines_were = *lines;
     let report_was = *report;
     let lent = lent.min(REPORT_WORDS);
-    let a = answer(call, told, held, lines, &mut report[..lent]);
-    let r = a.refusal;
+    let answer = answer(call, told, held, lines, &mut report[..lent]);
+    let refused = answer.is_err();
     write!(to, "  {call}:")?;
-    words::put_answer(to, a)?;
+    words::put_answer(to, answer)?;
     words::put_book(to, &lines_were, lines)?;
-    words::put_report(to, r.number, &report_was, report)
+    words::put_report(to, refused, &report_was, report)
 }
 
 // Somebody writes a number into the book or the report by hand.
@@ -84,8 +86,7 @@ fn pen(
 }
 
 fn read(to: &mut impl Write, file: &[u8], held: &mut [i64], lines: &mut [i64]) -> io::Result<()> {
-    let a = file::read(file, held, lines);
-    words::put_read(to, a)
+    words::put_read(to, file::read(file, held, lines))
 }
 
 pub(crate) fn take(

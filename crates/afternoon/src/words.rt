@@ -4,32 +4,49 @@ ghost use Rattle.loops.specs.Row.{row_words};
 
 use crate::step::Sheet;
 use crate::taken::{LINES_WORDS, REPORT_WORDS};
+use book::Book;
 use book::held::Held;
 use book::line::Line;
+use book::refusal::Refusal;
 use std::io;
 use std::io::Write;
+use table::Found;
 
 // The rows that are printed.
 pub(crate) const REPORT_ROWS: usize = 4;
 
-pub(crate) fn put_read(to: &mut impl Write, a: file::ReadAnswer) -> io::Result<()> {
-    let r = a.refusal;
-    writeln!(
-        to,
-        "  READ: {} AT {}, VERSION {}, MARKS {}, LINES {}",
-        r.number, r.place, a.version, a.b, a.n
-    )
+// `READ: 0 AT 0, VERSION 1, MARKS 5, LINES 7`
+pub(crate) fn put_read(to: &mut impl Write, answer: Result<Book, Refusal>) -> io::Result<()> {
+    match answer {
+        Ok(book) => writeln!(
+            to,
+            "  READ: 0 AT 0, VERSION {}, MARKS {}, LINES {}",
+            book.version, book.marks, book.lines
+        ),
+        Err(refusal) => writeln!(
+            to,
+            "  READ: {} AT {}, VERSION 0, MARKS 0, LINES 0",
+            refusal.number(),
+            refusal.place()
+        ),
+    }
 }
 
 // `DONE, 0 AT 0, ROWS 3, PIECES 1`
-pub(crate) fn put_answer(to: &mut impl Write, a: survey::Answer) -> io::Result<()> {
-    let r = a.refusal;
-    let done = if r.number == 0 { "DONE" } else { "REFUSED" };
-    writeln!(
-        to,
-        " {done}, {} AT {}, ROWS {}, PIECES {}",
-        r.number, r.place, a.rows, a.pieces
-    )
+pub(crate) fn put_answer(to: &mut impl Write, answer: Result<Found, Refusal>) -> io::Result<()> {
+    match answer {
+        Ok(found) => writeln!(
+            to,
+            " DONE, 0 AT 0, ROWS {}, PIECES {}",
+            found.count, found.pieces
+        ),
+        Err(refusal) => writeln!(
+            to,
+            " REFUSED, {} AT {}, ROWS 0, PIECES 0",
+            refusal.number(),
+            refusal.place()
+        ),
+    }
 }
 
 fn held_number(k: usize) -> &'static str {
@@ -106,11 +123,11 @@ pub(crate) fn put_book(
 // A refusal leaves the report; else its rows are printed, and which of them stand as they did.
 pub(crate) fn put_report(
     to: &mut impl Write,
-    number: usize,
+    refused: bool,
     was: &[i64; REPORT_WORDS],
     is: &[i64; REPORT_WORDS],
 ) -> io::Result<()> {
-    if number != 0 && was == is {
+    if refused && was == is {
         return to.write_all(b"    REPORT AS IT WAS\n");
     }
     for row in 0..REPORT_ROWS {

@@ -25,9 +25,8 @@ use Rattle.book.specs.Lent.{Lent}
 use Rattle.book.specs.Test.{book_out, counts_of, refused, torn, test_of, test_beside}
 use Rattle.book.specs.Good.{GoodLine, GoodHeld, GoodBook, GoodLines}
 use Rattle.book.specs.declared.Book.{Book}
-use Rattle.book.specs.declared.Refusal.{Refusal}
-use Rattle.book.specs.declared.Tested.{Tested}
-use Rattle.book.specs.declared.Tested.TheVariants.{Good, Refused}
+use Rattle.book.specs.Refusals.{Told}
+use Rattle.book.specs.Test.{Tested, Good, Refused}
 use Rattle.book.proofs.Versions.{tolerance_inside, versioned, known_version, small_tolerance, classes}
 
 none_first : (n : ℕ) → ltb 0 n ≡ false → n ≡ 0
@@ -177,7 +176,7 @@ module _ (book : Lent) where
         })
 
 -- a refusal has a number of the table, and a place that is an entry's or 0
-pub record Numbered (r : Refusal) : Type 0 where
+pub record Numbered (r : Told) : Type 0 where
   pub low : 0 < r.number
   pub high : r.number ≤ 7
   pub near : r.place ≤ most_lines
@@ -211,7 +210,7 @@ module _ (book : Lent) where
   placeless : (number : ℕ) → 0 < number → number ≤ 7 → Numbered (record { number = number; place = 0 })
   placeless number low high = record { low = low; high = high; near = omega arith }
 
-  pub tested_numbered : (r : Refusal) → test_of book ≡ Refused r → Numbered r
+  pub tested_numbered : (r : Told) → test_of book ≡ Refused r → Numbered r
   unfolding test_of first_bad_held first_bad_line
   tested_numbered r e =
       let line = first_bad_line book.version book.b book.lines in
@@ -246,7 +245,7 @@ module _ (book : Lent) where
       go true e = rw e
       go false e = refl
 
-  pub beside_numbered : (outside : Bool) (r : Refusal) → test_beside outside book ≡ Refused r → Numbered r
+  pub beside_numbered : (outside : Bool) (r : Told) → test_beside outside book ≡ Refused r → Numbered r
   unfolding test_beside
   beside_numbered outside r e =
       subst NumberedIf e

@@ -1,14 +1,12 @@
 -- What a call gives by the test of its book: the laws of `if_good`. Assumes nothing.
 use mathlib.Core.Path.{◌≡◌, refl}
-use Rattle.book.specs.Test.{if_good}
+use Rattle.book.specs.Refusals.{Told}
+use Rattle.book.specs.Test.{Tested, Good, Refused, if_good}
 use Rattle.book.specs.declared.Book.{Book}
-use Rattle.book.specs.declared.Refusal.{Refusal}
-use Rattle.book.specs.declared.Tested.{Tested}
-use Rattle.book.specs.declared.Tested.TheVariants.{Good, Refused}
 
-module _ {A : Type 0} (tested : Tested) (refuse : Refusal → A) (go : Book → A) where
+module _ {A : Type 0} (tested : Tested) (refuse : Told → A) (go : Book → A) where
   -- of a book that the test refuses
-  pub if_refused : (r : Refusal) → tested ≡ Refused r → if_good tested refuse go ≡ refuse r
+  pub if_refused : (r : Told) → tested ≡ Refused r → if_good tested refuse go ≡ refuse r
   if_refused r e = rw e
 
   -- and of one that passes
@@ -16,7 +14,7 @@ module _ {A : Type 0} (tested : Tested) (refuse : Refusal → A) (go : Book → 
   if_good_lem k e = rw e
 
   -- what holds in both cases holds of what the call gives
-  pub either_way : (P : A → Type 0) → ((r : Refusal) → tested ≡ Refused r → P (refuse r))
+  pub either_way : (P : A → Type 0) → ((r : Told) → tested ≡ Refused r → P (refuse r))
       → ((k : Book) → tested ≡ Good k → P (go k))
       → P (if_good tested refuse go)
   either_way P bad good = by tested refl

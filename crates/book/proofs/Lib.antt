@@ -5,3 +5,4 @@ pub mod Versions
 pub mod Goods
 pub mod Passing
 pub mod IfGood
+pub mod Refusals

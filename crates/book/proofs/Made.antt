@@ -12,18 +12,18 @@ use Rattle.book.specs.Line.{line_fault, line_of}
 use Rattle.book.specs.Version.{version_out}
 use Rattle.book.specs.Test.{book_out, counts, refused, book_of}
 use Rattle.book.specs.declared.Book.{Book}
-use Rattle.book.specs.declared.Refusal.{Refusal}
-use Rattle.book.specs.declared.Tested.{Tested}
-use Rattle.book.specs.declared.Tested.TheVariants as tested
+use Rattle.book.specs.Refusals.{Told}
+use Rattle.book.specs.Test.{Tested}
+use Rattle.book.specs.Test as tested
 use Rattle.book.specs.declared.height.Height.{Height}
-use Rattle.book.specs.declared.height.MadeHeight.{MadeHeight}
-use Rattle.book.specs.declared.height.MadeHeight.TheVariants as height
+use Rattle.book.specs.Height.{MadeHeight}
+use Rattle.book.specs.Height as height
 use Rattle.book.specs.declared.held.Held.{Held}
-use Rattle.book.specs.declared.held.MadeHeld.{MadeHeld}
-use Rattle.book.specs.declared.held.MadeHeld.TheVariants as held
+use Rattle.book.specs.Held.{MadeHeld}
+use Rattle.book.specs.Held as held
 use Rattle.book.specs.declared.line.Line.{Line}
-use Rattle.book.specs.declared.line.MadeLine.{MadeLine}
-use Rattle.book.specs.declared.line.MadeLine.TheVariants as line
+use Rattle.book.specs.Line.{MadeLine}
+use Rattle.book.specs.Line as line
 
 -- a test between two values, where the answer is not the first, or not the second
 is_right : {A : Type 0} (t : Bool) (x y z : A) → (z ≡ x → ⊥) → z ≡ cond t x y → (t ≡ false) × (z ≡ y)
@@ -38,7 +38,7 @@ is_left false x y z n e = absurd (n e)
 
 module _ (version b t : ℤ) (h n : ℕ) (m : Tested) (e : m ≡ book_of version b t h n) where
   -- where version and counts are refused, what would come after them is not asked
-  pub no_book : (r : Refusal) → m ≡ tested.Refused r → (rest : Tested)
+  pub no_book : (r : Told) → m ≡ tested.Refused r → (rest : Tested)
       → m ≡ cond (version_out version) (refused 3 0) (cond (book_out version b t h n) (refused 4 0) rest)
   unfolding book_of
   no_book r g rest = go (version_out version) (book_out version b t h n) e
@@ -97,9 +97,9 @@ module _ (z : ℤ) (m : MadeHeight) where
   unfolding work_height_of
   work_height_made e k g = made_height (work_height_out z) 13 z m k e g
 
-  pub no_work_height : m ≡ work_height_of z → (j : ℕ) → m ≡ height.Refused j → work_height_out z ≡ true
+  pub no_work_height : m ≡ work_height_of z → (j : ℕ) → m ≡ height.Refused j → (work_height_out z ≡ true) × (j ≡ 13)
   unfolding work_height_of
-  no_work_height e j g = (no_height (work_height_out z) 13 z m j e g).0
+  no_work_height e j g = no_height (work_height_out z) 13 z m j e g
 
 -- ---- a held entry
 

@@ -20,8 +20,8 @@ use Rattle.book.specs.Lent.{Lent}
 use Rattle.book.specs.Test.{book_out, torn, test_of}
 use Rattle.book.specs.Good.{GoodLine, GoodHeld, GoodBook}
 use Rattle.book.specs.declared.Book.{Book}
-use Rattle.book.specs.declared.Tested.TheVariants.{Good}
-use Rattle.book.specs.declared.line.MadeLine.TheVariants as made
+use Rattle.book.specs.Test.{Good}
+use Rattle.book.specs.Line as made
 use Rattle.book.proofs.Places.{count_of_lem}
 use Rattle.book.proofs.Lines.{entry_line_lem}
 use Rattle.book.proofs.Versions.{version_passes, tolerance_passes, class_passes}

@@ -1,10 +1,20 @@
 -- Document 01, "held height" and "any height in work".
 -- Assumes nothing.
-use Rattle.std.specs.Prelude.{Bool, cond, ℤ, pos, neg_ℤ}
+use Rattle.std.specs.Prelude.{Bool, cond, ℕ, ℤ, pos, neg_ℤ, Result, Ok, Err}
 use Rattle.laws.specs.Tests.{out_z}
 use Rattle.book.specs.Limits.{most_held_height, most_height}
-use Rattle.book.specs.declared.height.MadeHeight.{MadeHeight}
-use Rattle.book.specs.declared.height.MadeHeight.TheVariants.{Good, Refused}
+use Rattle.book.specs.Refusals.{number_of}
+use Rattle.book.specs.declared.height.Height.{Height}
+use Rattle.book.specs.declared.refusal.Refusal.{Refusal}
+
+-- what a number makes: a height, or the number of its refusal
+pub data MadeHeight : Type 0 where
+  Good : Height → MadeHeight
+  Refused : ℕ → MadeHeight
+
+abbrev pub made_height : Result Height Refusal → MadeHeight
+made_height (Ok h) = Good h
+made_height (Err r) = Refused (number_of r)
 
 unfoldable pub held_height_out : ℤ → Bool
 held_height_out z = out_z (neg_ℤ (pos most_held_height)) (pos most_held_height) z

@@ -1,11 +1,21 @@
 -- Document 01, refusal 6: which held entries are bad. "A held entry is two: mark, height."
 -- Assumes nothing.
-use Rattle.std.specs.Prelude.{Bool, ◌||◌, cond, List, ℕ, ◌+◌, ◌*◌, ◌/◌, length, get_or, ℤ, pos}
+use Rattle.std.specs.Prelude.{Bool, ◌||◌, cond, List, ℕ, ◌+◌, ◌*◌, ◌/◌, length, get_or, ℤ, pos, Option, None, Some, Result, Ok, Err}
 use Rattle.laws.specs.Tests.{out_z, eq_z}
 use Rattle.laws.specs.Scan.{first_bad, any_below}
 use Rattle.book.specs.Height.{held_height_out}
-use Rattle.book.specs.declared.held.MadeHeld.{MadeHeld}
-use Rattle.book.specs.declared.held.MadeHeld.TheVariants.{Good, Refused}
+use Rattle.book.specs.Refusals.{number_of}
+use Rattle.book.specs.declared.held.Held.{Held}
+use Rattle.book.specs.declared.refusal.Refusal.{Refusal}
+
+-- what two numbers make: a held entry, or the number of its refusal
+pub data MadeHeld : Type 0 where
+  Good : Held → MadeHeld
+  Refused : ℕ → MadeHeld
+
+abbrev pub made_held : Result Held Refusal → MadeHeld
+made_held (Ok entry) = Good entry
+made_held (Err r) = Refused (number_of r)
 
 -- numbers per held entry
 abbrev pub held_words : ℕ
@@ -45,3 +55,8 @@ held_bad b held i = held_out b (mark_at held i) (height_at held i) || held_befor
 unfoldable pub first_bad_held : ℤ → List ℤ → ℕ
 unfolding held_bad first_bad
 first_bad_held b held = first_bad (held_bad b held) (held_count held)
+
+-- what the scan finds: that number, or none
+abbrev pub number_or_0 : Option ℕ → ℕ
+number_or_0 None = 0
+number_or_0 (Some number) = number

@@ -1,5 +1,6 @@
 pub mod Limits
 pub mod Version
+pub mod Refusals
 pub mod Height
 pub mod Held
 pub mod Line

@@ -2,13 +2,14 @@
 -- length, standing (1, or 0 once withdrawn)." Request 04: "In memory a line gets a sixth number", its class.
 -- Assumes nothing.
 use Rattle.std.specs.Prelude.{Bool, ◌||◌, cond, List, ℕ, ◌+◌, ◌*◌, ◌/◌, ltb, length, get_or, take, drop, ℤ, pos, neg_ℤ}
+use Rattle.std.specs.Prelude.{Option, None, Some, Result, Ok, Err}
 use Rattle.laws.specs.Tests.{out_z, eq_z}
 use Rattle.laws.specs.Scan.{first_bad}
 use Rattle.book.specs.Limits.{most_difference, least_length, most_length}
 use Rattle.book.specs.Version.{class_out}
 use Rattle.book.specs.declared.line.Line.{Line}
-use Rattle.book.specs.declared.line.MadeLine.{MadeLine}
-use Rattle.book.specs.declared.line.MadeLine.TheVariants.{Good, Refused}
+use Rattle.book.specs.declared.line.Fault.{Fault}
+use Rattle.book.specs.declared.line.Fault.TheVariants.{End, EqualEnds, Difference, Length, Standing, Class}
 
 -- numbers per line
 abbrev pub line_words : ℕ
@@ -92,6 +93,28 @@ line_fault b from to difference len standing =
     (cond (out_z (pos least_length) (pos most_length) len) 4
     (cond (out_z (pos 0) (pos 1) standing) 5
     0))))
+
+-- the faults by these numbers
+abbrev pub fault_number : Fault → ℕ
+fault_number End = 1
+fault_number EqualEnds = 2
+fault_number Difference = 3
+fault_number Length = 4
+fault_number Standing = 5
+fault_number Class = 6
+
+abbrev pub fault_or_0 : Option Fault → ℕ
+fault_or_0 None = 0
+fault_or_0 (Some fault) = fault_number fault
+
+-- what five numbers make: a line, or the number of its refusal and the first thing that is wrong
+pub data MadeLine : Type 0 where
+  Good : Line → MadeLine
+  Refused : ℕ → ℕ → MadeLine
+
+abbrev pub made_line : Result Line Fault → MadeLine
+made_line (Ok l) = Good l
+made_line (Err fault) = Refused 7 (fault_number fault)
 
 -- the line of a book of b marks that five numbers make, or refusal 7 and the first thing that is wrong
 unfoldable pub line_of : ℤ → ℤ → ℤ → ℤ → ℤ → ℤ → MadeLine

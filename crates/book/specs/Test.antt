@@ -1,6 +1,6 @@
 -- Document 01, "Refusal numbers" 3, 4, 6 and 7: the test of a lent book, lowest number first; 3, 4 and 7 as request 04 has them.
 -- Assumes nothing.
-use Rattle.std.specs.Prelude.{Bool, ◌||◌, cond, not, List, ℕ, ◌%◌, eqb, ltb, length, ℤ, pos, nat_abs}
+use Rattle.std.specs.Prelude.{Bool, ◌||◌, cond, not, List, ℕ, ◌%◌, eqb, ltb, length, ℤ, pos, nat_abs, Result, Ok, Err}
 use Rattle.laws.specs.Tests.{out_z, out_n}
 use Rattle.book.specs.Limits.{least_marks, most_marks, least_lines, most_lines, least_held, most_held}
 use Rattle.book.specs.Version.{version_out, tolerance_out}
@@ -8,9 +8,8 @@ use Rattle.book.specs.Held.{held_words, held_count, first_bad_held}
 use Rattle.book.specs.Line.{line_words, line_count, first_bad_line}
 use Rattle.book.specs.Lent.{Lent}
 use Rattle.book.specs.declared.Book.{Book}
-use Rattle.book.specs.declared.Refusal.{Refusal}
-use Rattle.book.specs.declared.Tested.{Tested}
-use Rattle.book.specs.declared.Tested.TheVariants.{Good, Refused}
+use Rattle.book.specs.declared.refusal.Refusal.{Refusal}
+use Rattle.book.specs.Refusals.{Told, told_of}
 
 -- "b, t, h, n .. outside its limit"
 unfoldable pub book_out : ℤ → ℤ → ℤ → ℕ → ℕ → Bool
@@ -29,11 +28,20 @@ abbrev pub counts_of : Lent → Book
 counts_of book = counts book.version book.b book.t (held_count book.held) (line_count book.lines)
 
 -- "An answer is a number (0 for done), a place (0 when done)": a refusal, and none
-abbrev pub refusal : ℕ → ℕ → Refusal
+abbrev pub refusal : ℕ → ℕ → Told
 refusal number place = record { number = number; place = place }
 
-abbrev pub no_refusal : Refusal
+abbrev pub no_refusal : Told
 no_refusal = refusal 0 0
+
+-- what a test tells of a book: its version and counts, or the refusal
+pub data Tested : Type 0 where
+  Good : Book → Tested
+  Refused : Told → Tested
+
+abbrev pub tested : Result Book Refusal → Tested
+tested (Ok k) = Good k
+tested (Err r) = Refused (told_of r)
 
 abbrev pub refused : ℕ → ℕ → Tested
 refused number place = Refused (refusal number place)
@@ -68,6 +76,6 @@ unfolding test_of
 test_beside outside book = cond (version_out book.version) (refused 3 0) (cond outside (refused 4 0) (test_of book))
 
 -- "Each call tests all that it is lent": what a call gives of a book that is refused, and what of one that is good
-abbrev pub if_good : {A : Type 0} → Tested → (Refusal → A) → (Book → A) → A
+abbrev pub if_good : {A : Type 0} → Tested → (Told → A) → (Book → A) → A
 if_good (Refused r) refuse go = refuse r
 if_good (Good k) refuse go = go k

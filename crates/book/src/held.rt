@@ -1,21 +1,16 @@
 // Held entries: two numbers each in a lent slice, and the first that is none.
-ghost use Rattle.std.specs.Prelude.{◌≡◌};
-ghost use Rattle.book.specs.Held.{held_entry_of, first_bad_held};
+ghost use Rattle.std.specs.Prelude.{◌≡◌, ◌<◌, IfErr, IfSome};
+ghost use Rattle.book.specs.Held.{held_entry_of, made_held, first_bad_held, number_or_0};
+ghost use Rattle.book.specs.Refusals.{place_of};
 
-use crate::height::{Height, MadeHeight};
+use crate::height::Height;
+use crate::refusal::Refusal;
 
 // A mark that is held, and its height.
-#[derive(Drop)]
+#[derive(Clone, Copy)]
 pub struct Held {
     pub mark: i64,
     pub height: Height,
-}
-
-// Two numbers make a held entry, or get the number of their refusal.
-#[derive(Drop)]
-pub enum MadeHeld {
-    Good(Held),
-    Refused(usize),
 }
 
 impl Held {
@@ -25,44 +20,39 @@ impl Held {
 
     pub const HEIGHT: usize = 1;
 
-    // The held entry of a book of b marks that two numbers make, or refusal 6.
-    pub fn new(b: i64, mark: i64, height: i64) -> MadeHeld
-        ensures { result ≡ held_entry_of b mark height }
+    // The held entry of this number that two numbers make in a book of b marks, or refusal 6 there.
+    pub fn new(b: i64, mark: i64, height: i64, entry: usize) -> Result<Held, Refusal>
+        ensures made { made_held result ≡ held_entry_of b mark height }
+        ensures at { IfErr result (λ r. place_of r ≡ entry) }
     {
         if signed::outside(mark, 1, b) {
-            return MadeHeld::Refused(6);
+            return Err(Refusal::HeldEntry(entry));
         }
-        match Height::held(height) {
-            MadeHeight::Refused(number) => MadeHeld::Refused(number),
-            MadeHeight::Good(height) => MadeHeld::Good(Held { mark, height }),
-        }
+        let height = Height::held(height, entry)?;
+        Ok(Held { mark, height })
     }
 }
 
-// The number of the first bad held entry, or 0. Document 01: "The scan for 6 compares each entry with those before it and stops at the
-// first repeat."
-pub(crate) fn first_bad_held(held: &[i64], b: i64) -> usize
-    ensures { result ≡ first_bad_held b held.now }
+// The number of the first bad held entry. Document 01: "The scan for 6 compares each entry with those before it and stops at the first
+// repeat."
+pub(crate) fn first_bad_held(held: &[i64], b: i64) -> Option<usize>
+    ensures found { number_or_0 result ≡ first_bad_held b held.now }
+    ensures from_1 { IfSome result (λ number. 0 < number) }
 {
-    let n = held.len() / Held::WORDS;
-    let mut i = 0;
-    'scan: loop {
-        if n <= i {
-            break 'scan 0;
-        }
-        let at = i * Held::WORDS;
-        let made = Held::new(b, held[at + Held::MARK], held[at + Held::HEIGHT]);
-        let MadeHeld::Good(entry) = made else {
-            break 'scan i + 1;
-        };
-        let mark = entry.mark;
-        let mut j = 0;
-        while j < i {
-            if signed::same(held[j * Held::WORDS + Held::MARK], mark) {
-                break 'scan i + 1;
+    'scan: {
+        for i in 0..held.len() / Held::WORDS {
+            let at = i * Held::WORDS;
+            let made = Held::new(b, held[at + Held::MARK], held[at + Held::HEIGHT], i + 1);
+            let Ok(entry) = made else {
+                break 'scan Some(i + 1);
+            };
+            let mark = entry.mark;
+            for j in 0..i {
+                if signed::same(held[j * Held::WORDS + Held::MARK], mark) {
+                    break 'scan Some(i + 1);
+                }
             }
-            j += 1;
         }
-        i += 1;
+        None
     }
 }

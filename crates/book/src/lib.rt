@@ -5,16 +5,18 @@
 
 ghost use Rattle.std.specs.Prelude.{◌≡◌, ◌/◌};
 ghost use Rattle.book.specs.Lent.{lent};
-ghost use Rattle.book.specs.Test.{book_of, no_refusal, refusal, refused, test_of, test_beside};
+ghost use Rattle.book.specs.Test.{book_of, tested, test_of, test_beside};
 ghost use Rattle.book.specs.Version.{version_out, has_classes, tolerance_out};
 
 pub mod class;
 pub mod height;
 pub mod held;
 pub mod line;
+pub mod refusal;
 
 use held::Held;
 use line::Line;
+use refusal::Refusal;
 
 // The version and the counts of a book inside the limits.
 #[derive(Clone, Copy)]
@@ -24,20 +26,6 @@ pub struct Book {
     pub tolerance: usize,
     pub held: usize,
     pub lines: usize,
-}
-
-// A refusal number of document 01's table, and its place.
-#[derive(Clone, Copy)]
-pub struct Refusal {
-    pub number: usize,
-    pub place: usize,
-}
-
-// A book that passes a test, or its refusal.
-#[derive(Drop)]
-pub enum Tested {
-    Good(Book),
-    Refused(Refusal),
 }
 
 impl Book {
@@ -94,20 +82,20 @@ impl Book {
     }
 
     // The book of this version and of the counts b, t, h and n, or refusal 3 or 4.
-    pub fn new(version: i64, b: i64, t: i64, h: usize, n: usize) -> Tested
-        ensures { result ≡ book_of version b t h n }
+    pub fn new(version: i64, b: i64, t: i64, h: usize, n: usize) -> Result<Book, Refusal>
+        ensures { tested result ≡ book_of version b t h n }
     {
         if Book::outside_version(version) {
-            return refuse(3, 0);
+            return Err(Refusal::Version);
         }
         if signed::outside(b, Book::MIN_MARKS, Book::MAX_MARKS)
             | Book::outside_tolerance(version, t)
             | signed::outside_count(h, Book::MIN_HELD, Book::MAX_HELD)
             | signed::outside_count(n, Book::MIN_LINES, Book::MAX_LINES)
         {
-            return refuse(4, 0);
+            return Err(Refusal::Limit);
         }
-        Tested::Good(Book {
+        Ok(Book {
             version: signed::magnitude(version),
             marks: signed::magnitude(b),
             tolerance: signed::magnitude(t),
@@ -117,56 +105,30 @@ impl Book {
     }
 }
 
-impl Refusal {
-    pub fn new(number: usize, place: usize) -> Refusal
-        ensures { result ≡ refusal number place }
-    {
-        Refusal { number, place }
-    }
-
-    // Done.
-    pub fn none() -> Refusal
-        ensures { result ≡ no_refusal }
-    {
-        Refusal::new(0, 0)
-    }
-}
-
-fn refuse(number: usize, place: usize) -> Tested
-    ensures { result ≡ refused number place }
-{
-    Tested::Refused(Refusal::new(number, place))
-}
-
 // The test of a lent book: 3, then 4, then 6, then 7.
-pub fn test(version: i64, b: i64, t: i64, held: &[i64], lines: &[i64]) -> Tested
-    ensures { result ≡ test_of (lent version b t held.now lines.now) }
+pub fn test(version: i64, b: i64, t: i64, held: &[i64], lines: &[i64]) -> Result<Book, Refusal>
+    ensures { tested result ≡ test_of (lent version b t held.now lines.now) }
 {
-    let made = Book::new(
+    let book = Book::new(
         version,
         b,
         t,
         held.len() / Held::WORDS,
         lines.len() / Line::WORDS,
-    );
-    let Tested::Good(book) = made else {
-        return made;
-    };
+    )?;
     if held.len() % Held::WORDS != 0 {
-        return refuse(4, 0);
+        return Err(Refusal::Limit);
     }
     if lines.len() % Line::WORDS != 0 {
-        return refuse(4, 0);
+        return Err(Refusal::Limit);
     }
-    let bad_held = held::first_bad_held(held, b);
-    if 0 < bad_held {
-        return refuse(6, bad_held);
+    if let Some(entry) = held::first_bad_held(held, b) {
+        return Err(Refusal::HeldEntry(entry));
     }
-    let bad_line = line::first_bad_line(lines, version, b);
-    if 0 < bad_line {
-        return refuse(7, bad_line);
+    if let Some(line) = line::first_bad_line(lines, version, b) {
+        return Err(Refusal::Line(line));
     }
-    Tested::Good(book)
+    Ok(book)
 }
 
 // The test where something that a call is lent beside the book may be outside, which is 4 as well: 3 comes before it.
@@ -177,14 +139,14 @@ pub fn test_beside(
     t: i64,
     held: &[i64],
     lines: &[i64],
-) -> Tested
-    ensures { result ≡ test_beside outside (lent version b t held.now lines.now) }
+) -> Result<Book, Refusal>
+    ensures { tested result ≡ test_beside outside (lent version b t held.now lines.now) }
 {
     if Book::outside_version(version) {
-        return refuse(3, 0);
+        return Err(Refusal::Version);
     }
     if outside {
-        return refuse(4, 0);
+        return Err(Refusal::Limit);
     }
     test(version, b, t, held, lines)
 }

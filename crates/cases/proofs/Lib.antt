@@ -1,3 +1,4 @@
 pub mod AllShown
+pub mod Appended
 pub mod Folded
 pub mod Printed

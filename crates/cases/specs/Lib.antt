@@ -1,3 +1,4 @@
+pub mod Answer
 pub mod Case
 pub mod Cases
 pub mod Shown

@@ -14,6 +14,7 @@ pub fn two(s: &[u8], at: usize) -> usize
 }
 
 // The place after the case at `at` that has so many numbers; `at`, where there is no whole one.
+// The place again and no Option: it is public, and `after_case` says so.
 #[tactic(auto, unfolding(crate::specs::Case::after_case))]
 pub fn after(input: &[u8], at: usize, numbers: usize) -> usize
     requires fact_1 { at ≤ length input.now }
@@ -40,6 +41,7 @@ pub fn name(case: &[u8]) -> &[u8]
 }
 
 // Number k of the case, counted from 0; 0 where it is not there.
+// 0 and no Option: it is public, and `number_of` says so.
 #[tactic(auto, unfolding(crate::specs::Case::number_of))]
 pub fn number(case: &[u8], k: usize) -> usize
     requires { k ≤ 3 }

@@ -8,12 +8,16 @@ ghost use Rattle.std.specs.Prelude.{◌≡◌, ℕ, List, ◌≤◌, ◌<◌, �
 ghost use Rattle.std.specs.Io.KnownBytes.{Appends};
 ghost use Rattle.text.specs.Put.{Put};
 ghost use Rattle.text.specs.Report.{listed_text};
+ghost use Rattle.cases.specs.Answer.{all_spaced, answer_numbers};
 ghost use Rattle.cases.specs.Shown.{AllShown, CasesShown, IsAnswered, IsShown};
 ghost use Rattle.cases.specs.Cases.{untouched, spoilt_last, side_of, mixed_with, digest_of, spaced, numbers_text, shown_bytes};
 
 pub mod case;
+#[cfg(test)]
+mod tests;
 pub mod told;
 
+use book::refusal::Refusal;
 use case::Cases;
 use std::alloc::Global;
 use std::io;
@@ -113,6 +117,33 @@ pub fn put_signed<W: Write>(to: &mut W, x: i64) -> io::Result<usize>
     let end = text::put_line(&mut out[..], 0, x);
     to.write_all(&out[..end])?;
     Ok(end)
+}
+
+// Prints numbers, each after a space.
+fn put_all<W: Write>(to: &mut W, numbers: &[usize]) -> io::Result<()>
+    ensures { OnOk result (Appends (W.contents to.old) (W.contents to.new) (all_spaced numbers.now)) }
+{
+    for n in numbers {
+        put(to, *n)?;
+    }
+    Ok(())
+}
+
+// Prints an answer, each number after a space: the number and the place of its refusal, both 0 where nothing is refused, and its counts,
+// each 0 after a refusal.
+pub fn put_answer<W: Write, const N: usize>(
+    to: &mut W,
+    answer: Result<[usize; N], Refusal>,
+) -> io::Result<()>
+    ensures { OnOk result (Appends (W.contents to.old) (W.contents to.new) (all_spaced (answer_numbers N answer.entry))) }
+{
+    let (number, place, counts) = match answer {
+        Ok(counts) => (0, 0, counts),
+        Err(refusal) => (refusal.number(), refusal.place(), [0; N]),
+    };
+    put(to, number)?;
+    put(to, place)?;
+    put_all(to, &counts)
 }
 
 // Prints the first numbers of a buffer, and its digest, as much of it as there is room for. The answer is how many bytes that are.

@@ -1,6 +1,17 @@
 // What a call is told of a book before its entries, and how many numbers of the lent buffers its entries are.
 ghost use Rattle.std.specs.Prelude.{◌≡◌, ◌≤◌, ◌*◌, ◌%◌, min, pos};
 
+use book::Book;
+
+// What a call is told where the file was refused: 0 of everything.
+pub const NOTHING: Book = Book {
+    version: 0,
+    marks: 0,
+    tolerance: 0,
+    held: 0,
+    lines: 0,
+};
+
 #[derive(Clone, Copy)]
 pub struct Told {
     pub version: i64,

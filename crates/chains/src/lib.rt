@@ -14,6 +14,7 @@ pub const NUMBERS: u64 = 1024;
 pub const HALVES: u64 = 2048;
 
 // The first n places become 0.
+// Beside nearest::clear: each is public, with a clause of its own over the library's fill.
 pub fn zero(a: &mut [u64], n: usize)
     requires { n ≤ length a.old }
     ensures { (i : ℕ) → i < n → get_or a.new i 0 ≡ 0 }

@@ -13,9 +13,9 @@ use Rattle.book.specs.Version.{version_out}
 use Rattle.book.specs.Test.{torn, book_out, counts_of, refusal, refused, test_of, test_beside, if_good}
 use Rattle.book.proofs.Goods.{beside_inside}
 use Rattle.book.specs.declared.Book.{Book}
-use Rattle.book.specs.declared.Refusal.{Refusal}
-use Rattle.book.specs.declared.Tested.TheVariants.{Good, Refused}
-use Rattle.book.specs.declared.Tested.{Tested}
+use Rattle.book.specs.Refusals.{Told}
+use Rattle.book.specs.Test.{Good, Refused}
+use Rattle.book.specs.Test.{Tested}
 use Rattle.demands.specs.Rules.{Rule}
 pub use Rattle.demands.specs.Rules.{None}
 use Rattle.demands.specs.Tables.{book_fault, beside_rules, book_rules}
@@ -53,8 +53,8 @@ module _ (outside : Bool) (book : Lent) {more : List Rule} where
 
 -- ---- the test
 
-on_the_test : {A : Type 0} (outside : Bool) (book : Lent) (on : Tested → A) (more : List Rule) (refuse : Refusal → A) (done : A)
-    → ((r : Refusal) → on (Refused r) ≡ refuse r)
+on_the_test : {A : Type 0} (outside : Bool) (book : Lent) (on : Tested → A) (more : List Rule) (refuse : Told → A) (done : A)
+    → ((r : Told) → on (Refused r) ≡ refuse r)
     → on (Good (counts_of book)) ≡ by_rules more refuse done
     → on (test_beside outside book) ≡ by_rules (beside_rules outside book more) refuse done
 unfolding test_beside test_of by_rules book_fault
@@ -86,13 +86,13 @@ on_the_test outside book on more refuse done f e =
     go false false false false false false false = e
 
 -- what follows the test keeps to the table of the book, and then to its own
-pub by_the_test_beside : {A : Type 0} (outside : Bool) (book : Lent) (go : Book → A) (more : List Rule) (refuse : Refusal → A) (done : A)
+pub by_the_test_beside : {A : Type 0} (outside : Bool) (book : Lent) (go : Book → A) (more : List Rule) (refuse : Told → A) (done : A)
     → go (counts_of book) ≡ by_rules more refuse done
     → if_good (test_beside outside book) refuse go ≡ by_rules (beside_rules outside book more) refuse done
 by_the_test_beside outside book go more refuse done e =
     on_the_test outside book (λ x. if_good x refuse go) more refuse done (λ r. refl) e
 
-pub by_the_test : {A : Type 0} (book : Lent) (go : Book → A) (more : List Rule) (refuse : Refusal → A) (done : A)
+pub by_the_test : {A : Type 0} (book : Lent) (go : Book → A) (more : List Rule) (refuse : Told → A) (done : A)
     → go (counts_of book) ≡ by_rules more refuse done
     → if_good (test_of book) refuse go ≡ by_rules (book_rules book more) refuse done
 by_the_test book go more refuse done e =

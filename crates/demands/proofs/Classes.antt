@@ -19,7 +19,7 @@ use Rattle.book.specs.Line.{line_words, difference_field, standing_field, class_
 use Rattle.book.specs.Good.{Versioned, single, classed}
 use Rattle.book.specs.Test.{test_of}
 use Rattle.book.specs.declared.Book.{Book}
-use Rattle.book.specs.declared.Tested.TheVariants.{Good}
+use Rattle.book.specs.Test.{Good}
 use Rattle.book.proofs.Goods.{tested_good}
 use Rattle.book.proofs.Versions.{InsideLimits, class_tolerance, tolerances_inside, one_has_none, two_has_one}
 use Rattle.file.specs.Wire.{be}

@@ -11,8 +11,8 @@ use Rattle.book.specs.Lent.{Lent, with_lines}
 use Rattle.book.specs.Test.{test_of}
 use Rattle.book.specs.Good.{GoodBook}
 use Rattle.book.specs.declared.Book.{Book}
-use Rattle.book.specs.declared.Refusal.{Refusal}
-use Rattle.book.specs.declared.Tested.TheVariants.{Good}
+use Rattle.book.specs.Refusals.{Told}
+use Rattle.book.specs.Test.{Good}
 use Rattle.book.proofs.Goods.{tested_good}
 use Rattle.book.proofs.Passing.{good_passes}
 use Rattle.book.specs.Line.{difference_field, standing_field}
@@ -168,7 +168,7 @@ module _ (first : Lent) (out : List ℤ) where
       → Holds (corrected_book book report s) (correct book report s).report
   any_step_true {book = book} {report = report} w s = go s (ℕ_discrete (correct book report s).answer.refusal.number 0)
     where
-      same : {x : Corrected} {r : Refusal} → x ≡ corrected (survey.refused_with r) book.lines report
+      same : {x : Corrected} {r : Told} → x ≡ corrected (survey.refused_with r) book.lines report
           → Holds (with_lines book x.lines) x.report
       same e = subst (λ (x : Corrected). Holds (with_lines book x.lines) x.report) (sym e) w
 

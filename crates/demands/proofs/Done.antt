@@ -23,7 +23,7 @@ use Rattle.book.specs.Line.{line_words, line_count, difference_out}
 use Rattle.book.specs.Test.{torn, book_out, counts, counts_of, test_of}
 use Rattle.book.specs.Good.{GoodBook}
 use Rattle.book.specs.declared.Book.{Book}
-use Rattle.book.specs.declared.Tested.TheVariants.{Good}
+use Rattle.book.specs.Test.{Good}
 use Rattle.book.proofs.Goods.{tested_good}
 use Rattle.book.proofs.Passing.{good_passes}
 use Rattle.file.specs.Read.{stated_length, stated_version, stated_t, stated_b, stated_h, stated_n}

@@ -21,7 +21,7 @@ use Rattle.book.specs.Lent.{Lent}
 use Rattle.book.specs.Line.{from_at, to_at, difference_at, length_at, standing_at, line_count}
 use Rattle.book.specs.Test.{counts_of, test_of, if_good, refusal, no_refusal}
 use Rattle.book.specs.declared.Book.{Book}
-use Rattle.book.specs.declared.Tested.TheVariants.{Good}
+use Rattle.book.specs.Test.{Good}
 use Rattle.network.specs.Standing.{standing}
 use Rattle.fields.specs.Heights.{height, Working}
 use Rattle.fields.proofs.Stands.{lines_of}
@@ -37,7 +37,7 @@ use Rattle.rates.specs.Rates.{correction_at, correction_of, quotient, line_rate,
 use Rattle.rates.proofs.Exact.{there_and_back}
 use Rattle.rates.proofs.Rating.{marks_of, working_lent}
 use Rattle.rates.specs.declared.Rate.TheVariants.{PerKm, Withdrawn}
-use Rattle.rates.specs.declared.RateAnswer.{RateAnswer}
+use Rattle.rates.specs.Rates.{RateAnswer}
 use Rattle.adjust.specs.Answers as adjust
 use Rattle.adjust.specs.Adjusted.{done, unless_unheld, ended, adjustment}
 use Rattle.adjust.specs.Call.{Given, adjusted, given_by, adjust_good, adjust_of}

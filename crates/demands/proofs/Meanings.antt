@@ -20,7 +20,7 @@ use Rattle.book.specs.Version.{class_out}
 use Rattle.book.specs.Test.{test_of}
 use Rattle.book.specs.Good.{GoodLine, GoodHeld, GoodBook}
 use Rattle.book.specs.declared.Book.{Book}
-use Rattle.book.specs.declared.Tested.TheVariants.{Good}
+use Rattle.book.specs.Test.{Good}
 use Rattle.book.proofs.Goods.{good_line, good_class, good_held, tested_good}
 use Rattle.book.proofs.Passing.{line_passes, held_passes, good_passes}
 use Rattle.survey.proofs.Corrected.{stands_of}

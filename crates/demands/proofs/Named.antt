@@ -24,8 +24,8 @@ use Rattle.book.specs.Version.{version_out, class_out}
 use Rattle.book.specs.Test.{refused, test_of, test_beside, refusal}
 use Rattle.book.proofs.Goods.{beside_inside}
 use Rattle.book.specs.declared.Book.{Book}
-use Rattle.book.specs.declared.Refusal.{Refusal}
-use Rattle.book.specs.declared.Tested.TheVariants.{Good, Refused}
+use Rattle.book.specs.Refusals.{Told}
+use Rattle.book.specs.Test.{Good, Refused}
 use Rattle.loops.specs.Report.{report_of}
 use Rattle.survey.specs.Report as survey
 use Rattle.survey.specs.Survey.{survey_of}
@@ -46,7 +46,7 @@ use Rattle.demands.proofs.BookRules.{test_by_rules}
 -- ---- a faulty book
 
 -- a book that the test refuses gets the same refusal from every call
-pub faulty_book_same_at_every_call : (book : Lent) (r : Refusal) → test_of book ≡ Refused r → SameAtEveryCall book r
+pub faulty_book_same_at_every_call : (book : Lent) (r : Told) → test_of book ≡ Refused r → SameAtEveryCall book r
 unfolding survey_of listing_of listings_of not_checked_of sketch_call withdraw_of rerun_of correct_of difference_out rate_answer
     heights_out write_of
 faulty_book_same_at_every_call book r e = record {

@@ -1,20 +1,35 @@
 -- "any two answers allowed are equal": each contract is an equation with a definition, or a text put by a definition, so that two answers
 -- that it allows are one.
 -- Assumes nothing.
-use mathlib.Core.Path.{◌≡◌, sym, ◌∙◌}
+use mathlib.Core.Path.{◌≡◌, refl, sym, ◌∙◌, ap}
 use mathlib.Core.Bool.{Bool}
 use mathlib.Core.List.{List}
 use Prim.Native.Nat.{ℕ}
 use lib.IntN.{ℤ}
+use Rattle.std.specs.Prelude.{Result, Ok, Err}
+use Rattle.book.specs.declared.Book.{Book}
+use Rattle.book.specs.declared.refusal.Refusal.{Refusal}
+use Rattle.book.specs.Refusals.{Told, told_of}
+use Rattle.book.proofs.Refusals.{told_from_1, told_apart}
+use Rattle.table.specs.declared.Found.{Found}
+use Rattle.junctions.specs.declared.Sizes.{Sizes}
+use Rattle.rates.specs.declared.LineRate.{LineRate}
+use Rattle.file.specs.Read as read
+use Rattle.writer.specs.Write as write
+use Rattle.survey.specs.Report as survey
+use Rattle.lists.specs.Listing as lists
+use Rattle.junctions.specs.Call as sketch
+use Rattle.adjust.specs.Answers as adjust
+use Rattle.rates.specs.Rates as rates
 use Rattle.book.specs.Lent.{Lent}
 use Rattle.book.specs.Height.{held_height_of, work_height_of}
 use Rattle.book.specs.Held.{held_entry_of}
 use Rattle.book.specs.Line.{line_of}
 use Rattle.book.specs.Test.{book_of, test_of, test_beside}
-use Rattle.book.specs.declared.Tested.{Tested}
-use Rattle.book.specs.declared.height.MadeHeight.{MadeHeight}
-use Rattle.book.specs.declared.held.MadeHeld.{MadeHeld}
-use Rattle.book.specs.declared.line.MadeLine.{MadeLine}
+use Rattle.book.specs.Test.{Tested}
+use Rattle.book.specs.Height.{MadeHeight}
+use Rattle.book.specs.Held.{MadeHeld}
+use Rattle.book.specs.Line.{MadeLine}
 use Rattle.file.specs.Read.{Outcome, read_of}
 use Rattle.writer.specs.Write.{Writing, write_of}
 use Rattle.survey.specs.Survey.{Surveyed, survey_of}
@@ -24,7 +39,7 @@ use Rattle.survey.specs.Correction.{Corrected, rerun_of, withdraw_of}
 use Rattle.rates.specs.Rates.{row_of, rate_answer}
 use Rattle.rates.specs.declared.Rate.{Rate}
 use Rattle.rates.specs.declared.RateRow.{RateRow}
-use Rattle.rates.specs.declared.RateAnswer.{RateAnswer}
+use Rattle.rates.specs.Rates.{RateAnswer}
 use Rattle.adjust.specs.Call.{Given, adjust_of}
 use Rattle.text.specs.Put.{Put}
 use Rattle.text.proofs.Puts.{put_unique}
@@ -188,3 +203,52 @@ held_height_has_one_answer z = one_answer (held_height_of z)
 
 pub work_height_has_one_answer : (z : ℤ) (x y : MadeHeight) → x ≡ work_height_of z → y ≡ work_height_of z → x ≡ y
 work_height_has_one_answer z = one_answer (work_height_of z)
+
+-- ---- as the code has them: two results of a call that are told alike are one, so that each call has one result
+
+module _ {T A : Type 0} (view : Result T Refusal → A) (told : A → Told) (is_told : (r : Refusal) → told (view (Err r)) ≡ told_of r)
+    (no_refusal : (t : T) → (told (view (Ok t))).number ≡ 0) (counts_told : (t u : T) → view (Ok t) ≡ view (Ok u) → t ≡ u) where
+  apart : (t : T) (r : Refusal) → view (Ok t) ≡ view (Err r) → ⊥
+  apart t r e =
+      told_from_1 r (sym (ap (λ (x : Told). x.number) (is_told r)) ∙ sym (ap (λ (a : A). (told a).number) e) ∙ no_refusal t)
+
+  told_whole : (x y : Result T Refusal) → view x ≡ view y → x ≡ y
+  told_whole (Ok t) (Ok u) e = ap Ok (counts_told t u e)
+  told_whole (Ok t) (Err r) e = absurd (apart t r e)
+  told_whole (Err r) (Ok t) e = absurd (apart t r (sym e))
+  told_whole (Err r) (Err s) e = ap Err (told_apart r s (sym (is_told r) ∙ ap told e ∙ is_told s))
+
+pub reader_told_whole : (x y : Result Book Refusal) → read.answer_of x ≡ read.answer_of y → x ≡ y
+reader_told_whole = told_whole read.answer_of (λ a. a.refusal) (λ r. refl) (λ t. refl) (λ t u e. book_of_read e)
+  where
+    book_of_read : {t u : Book} → read.answer_of (Ok t) ≡ read.answer_of (Ok u) → t ≡ u
+    book_of_read e =
+        ap (λ (a : read.ReadAnswer). record { version = a.version; marks = a.b; tolerance = a.t; held = a.h; lines = a.n }) e
+
+pub writer_told_whole : (x y : Result ℕ Refusal) → write.answer_of x ≡ write.answer_of y → x ≡ y
+writer_told_whole =
+    told_whole write.answer_of (λ a. a.refusal) (λ r. refl) (λ t. refl) (λ t u e. ap (λ (a : write.Written). a.bytes) e)
+
+pub survey_told_whole : (x y : Result Found Refusal) → survey.answer_of x ≡ survey.answer_of y → x ≡ y
+survey_told_whole =
+    told_whole survey.answer_of (λ a. a.refusal) (λ r. refl) (λ t. refl)
+    (λ t u e. ap (λ (a : survey.Answer). record { count = a.rows; pieces = a.pieces }) e)
+
+pub listing_told_whole : (x y : Result ℕ Refusal) → lists.answer_of x ≡ lists.answer_of y → x ≡ y
+listing_told_whole =
+    told_whole lists.answer_of (λ a. a.refusal) (λ r. refl) (λ t. refl) (λ t u e. ap (λ (a : lists.Listed). a.entries) e)
+
+pub sketch_told_whole : (x y : Result Sizes Refusal) → sketch.answer_of x ≡ sketch.answer_of y → x ≡ y
+sketch_told_whole =
+    told_whole sketch.answer_of (λ a. a.refusal) (λ r. refl) (λ t. refl)
+    (λ t u e. ap (λ (a : sketch.Sketched). record { links = a.links; spurs = a.spurs; loops = a.loops; run = a.run }) e)
+
+pub adjustment_told_whole : (x y : Result ℕ Refusal) → adjust.answer_by x ≡ adjust.answer_by y → x ≡ y
+adjustment_told_whole =
+    told_whole adjust.answer_by (λ a. a.refusal) (λ r. refl) (λ t. refl) (λ t u e. ap (λ (a : adjust.Adjusted). a.sweeps) e)
+
+pub rate_told_whole : (x y : Result LineRate Refusal) → rates.answer_of x ≡ rates.answer_of y → x ≡ y
+unfolding rates.answer_of rates.refused_with
+rate_told_whole =
+    told_whole rates.answer_of (λ a. a.refusal) (λ r. refl) (λ t. refl)
+    (λ t u e. ap (λ (a : RateAnswer). record { line = a.line; correction = a.correction; rate = a.rate }) e)

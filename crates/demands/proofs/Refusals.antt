@@ -16,13 +16,12 @@ use Rattle.book.specs.Line.{line_words, difference_out}
 use Rattle.book.specs.Version.{version_out}
 use Rattle.book.specs.Test.{torn, book_out, refusal}
 use Rattle.book.specs.declared.Book.{Book}
-use Rattle.book.specs.declared.Refusal.{Refusal}
+use Rattle.book.specs.Refusals.{Told}
 use Rattle.file.specs.Read as read
 use Rattle.file.specs.Read.{Outcome, answered, stated_length, stated_version, stated_t, stated_b}
 use Rattle.file.specs.Read.{stated_h, stated_n, stated_counts, file_length}
 use Rattle.file.specs.Read.{head_of, held_of, lines_of, book_in, room_of, body_of, after_head, read_of}
 use Rattle.file.specs.declared.entry.Kind.TheVariants as kind
-use Rattle.file.specs.declared.Head.TheVariants as head
 use Rattle.file.proofs.Entries.{entries_length, lines_length}
 use Rattle.file.proofs.Reading.{held_entries, line_entries}
 use Rattle.loops.specs.Row.{listings}
@@ -200,7 +199,7 @@ module _ (file : List ℕ) (held lines : List ℤ) where
         eq-eqb (stated_n file * line_words % line_words) 0 (omega arith),
       )
 
-  refuse : Refusal → Outcome
+  refuse : Told → Outcome
   refuse r = answered held lines (read.refused_with r)
 
   -- 10, or the book read
@@ -244,8 +243,8 @@ module _ (file : List ℕ) (held lines : List ℤ) where
           ∷ []) refuse (read_done file held lines)
 
       go : (x y z : Bool) → version_out (pos (stated_version file)) ≡ z → (f : Bool) → counts_out ≡ f → (w : Bool)
-          → after_head file held lines (cond x (head.Refused 1)
-          (cond y (head.Refused 2) (cond z (head.Refused 3) (cond f (head.Refused 4) (cond w (head.Refused 5) (head.States k))))))
+          → after_head file held lines (cond x (read.Refused 1)
+          (cond y (read.Refused 2) (cond z (read.Refused 3) (cond f (read.Refused 4) (cond w (read.Refused 5) (read.States k))))))
           ≡ cond x (refuse (refusal 1 0)) (cond y (refuse (refusal 2 0))
           (cond z (refuse (refusal 3 0)) (cond f (refuse (refusal 4 0)) (cond w (refuse (refusal 5 0)) rest))))
       go true y z v f e w = refl

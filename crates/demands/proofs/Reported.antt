@@ -14,7 +14,7 @@ use Rattle.laws.proofs.Size.{between}
 use Rattle.book.specs.Lent.{Lent}
 use Rattle.book.specs.Test.{test_of}
 use Rattle.book.specs.declared.Book.{Book}
-use Rattle.book.specs.declared.Tested.TheVariants.{Good}
+use Rattle.book.specs.Test.{Good}
 use Rattle.book.proofs.Goods.{tested_good, good_lines}
 use Rattle.network.specs.Standing.{Line, standing}
 use Rattle.loops.specs.Loops.{Loop, loops, loop_at}

@@ -10,7 +10,7 @@ use native.Mathlib.Omega.{arith}
 use lib.Dec.{ltb}
 use borrow.Author.Tests.{ltb-true}
 use Rattle.book.specs.Test.{no_refusal}
-use Rattle.book.specs.declared.Refusal.{Refusal}
+use Rattle.book.specs.Refusals.{Told}
 use Rattle.demands.specs.Rules.{Rule, None, First, ByTable, rising, Lowest, LowestGiven, KeepsToTable}
 
 -- two tests for one refusal are one test
@@ -19,7 +19,7 @@ cond_or true t x y = refl
 cond_or false t x y = refl
 
 -- the refusal of the first rule that applies, or, where none does, what is given when done
-unfoldable pub by_rules : {A : Type 0} → List Rule → (Refusal → A) → A → A
+unfoldable pub by_rules : {A : Type 0} → List Rule → (Told → A) → A → A
 by_rules [] refuse done = done
 by_rules (r ∷ rs) refuse done = cond r.applies (refuse r.gives) (by_rules rs refuse done)
 
@@ -68,7 +68,7 @@ first_or_none (q ∷ rs) = go q.applies refl (first_or_none rs)
       },
     )
 
-module _ {A : Type 0} (refuse : Refusal → A) (done : A) where
+module _ {A : Type 0} (refuse : Told → A) (done : A) where
   by_none : (rules : List Rule) → None rules → by_rules rules refuse done ≡ done
   unfolding by_rules
   by_none [] n = refl
@@ -104,8 +104,8 @@ has_number (q ∷ rs) h r i = go (ltb 0 q.gives.number) refl h i (λ m. has_numb
     go false e h i ih = absurd (true≢false (sym h))
 
 -- a call that gives the refusal of the first rule that applies, or is done, keeps to the table
-pub keeps_to_table : {A : Type 0} {refusal_of : A → Refusal} {rules : List Rule} {refuse : Refusal → A} {done given : A}
-    → ((r : Refusal) → refusal_of (refuse r) ≡ r) → refusal_of done ≡ no_refusal → named rules ≡ true → given ≡ by_rules rules refuse done
+pub keeps_to_table : {A : Type 0} {refusal_of : A → Told} {rules : List Rule} {refuse : Told → A} {done given : A}
+    → ((r : Told) → refusal_of (refuse r) ≡ r) → refusal_of done ≡ no_refusal → named rules ≡ true → given ≡ by_rules rules refuse done
     → KeepsToTable refusal_of rules refuse done given
 keeps_to_table {refusal_of = refusal_of} {rules = rules} {refuse = refuse} {done = done} {given = given} of_refused of_done h e =
     go (first_or_none rules)
@@ -114,7 +114,7 @@ keeps_to_table {refusal_of = refusal_of} {rules = rules} {refuse = refuse} {done
     go (inl n) =
         let is : given ≡ done = e ∙ by_none refuse done rules n in
         let its : refusal_of given ≡ no_refusal = ap refusal_of is ∙ of_done in
-        let zero : (refusal_of given).number ≡ 0 = ap (λ (x : Refusal). x.number) its in
+        let zero : (refusal_of given).number ≡ 0 = ap (λ (x : Told). x.number) its in
         record {
           table = record {
             done_exactly_if = (λ z. n, λ m. zero);
@@ -128,7 +128,7 @@ keeps_to_table {refusal_of = refusal_of} {rules = rules} {refuse = refuse} {done
         let is : given ≡ refuse r.gives = e ∙ by_first refuse done f in
         let its : refusal_of given ≡ r.gives = ap refusal_of is ∙ of_refused r.gives in
         let some : 0 < r.gives.number = has_number rules h r (is_rule f) in
-        let number : (refusal_of given).number ≡ r.gives.number = ap (λ (x : Refusal). x.number) its in
+        let number : (refusal_of given).number ≡ r.gives.number = ap (λ (x : Told). x.number) its in
         record {
           table = record {
             done_exactly_if = (λ z. absurd (omega (arith, some, number, z)), λ n. absurd (true≢false (sym f.applies ∙ n r (is_rule f))));
@@ -140,17 +140,17 @@ keeps_to_table {refusal_of = refusal_of} {rules = rules} {refuse = refuse} {done
         }
 
 -- the table settles the answer: two answers that keep to it are equal
-pub table_settles_answer : {A : Type 0} {refusal_of : A → Refusal} {rules : List Rule} {refuse : Refusal → A} {done a c : A}
+pub table_settles_answer : {A : Type 0} {refusal_of : A → Told} {rules : List Rule} {refuse : Told → A} {done a c : A}
     → KeepsToTable refusal_of rules refuse done a → KeepsToTable refusal_of rules refuse done c → a ≡ c
 table_settles_answer {refusal_of = refusal_of} {rules = rules} {refuse = refuse} {a = a} {c = c} x y =
     go (ℕ_discrete (refusal_of a).number 0) x.table.no_other
   where
     go : Dec ((refusal_of a).number ≡ 0) → (refusal_of a ≡ no_refusal) ⊎ ((r : Rule) × First rules r × (refusal_of a ≡ r.gives)) → a ≡ c
     go (yes z) w = x.finished z ∙ sym (y.finished (y.table.done_exactly_if.1 (x.table.done_exactly_if.0 z)))
-    go (no d) (inl e) = absurd (d (ap (λ (r : Refusal). r.number) e))
+    go (no d) (inl e) = absurd (d (ap (λ (r : Told). r.number) e))
     go (no d) (inr (r, f, e)) =
         let same : refusal_of a ≡ refusal_of c = e ∙ sym (y.table.first_is_given r f) in
-        x.refused d ∙ ap refuse same ∙ sym (y.refused (λ z. d (ap (λ (r : Refusal). r.number) same ∙ z)))
+        x.refused d ∙ ap refuse same ∙ sym (y.refused (λ z. d (ap (λ (r : Told). r.number) same ∙ z)))
 
 -- ---- the lowest
 
@@ -201,7 +201,7 @@ first_is_lowest n r f = record {
 }
 
 -- of a table whose numbers rise the lowest number is given
-pub lowest_is_given : {rules : List Rule} {given : Refusal} → rising 0 rules ≡ true → ByTable rules given → LowestGiven rules given
+pub lowest_is_given : {rules : List Rule} {given : Told} → rising 0 rules ≡ true → ByTable rules given → LowestGiven rules given
 lowest_is_given {rules = rules} {given = given} h t = go t.no_other
   where
     n : Numbered 0 rules
@@ -209,20 +209,20 @@ lowest_is_given {rules = rules} {given = given} h t = go t.no_other
 
     go : (given ≡ no_refusal) ⊎ ((r : Rule) × First rules r × (given ≡ r.gives)) → LowestGiven rules given
     go (inl e) =
-        let x : given.number ≡ 0 = ap (λ (r : Refusal). r.number) e in
+        let x : given.number ≡ 0 = ap (λ (r : Told). r.number) e in
         let f = t.done_exactly_if.0 x in
         record {
           done_exactly_if = t.done_exactly_if;
           given_exactly_if = λ r i. (λ e. absurd (omega (arith, above n r i, e, x)), λ w. absurd (true≢false (sym w.applies ∙ f r i)));
           no_other = inl x;
-          done_place = λ z. ap (λ (r : Refusal). r.place) e;
+          done_place = λ z. ap (λ (r : Told). r.place) e;
           its_place = λ r i e. absurd (omega (arith, above n r i, e, x));
         }
     go (inr (s, f, e)) =
         let i = is_rule f in
         let w = first_is_lowest n s f in
-        let x : given.number ≡ s.gives.number = ap (λ (r : Refusal). r.number) e in
-        let y : given.place ≡ s.gives.place = ap (λ (r : Refusal). r.place) e in
+        let x : given.number ≡ s.gives.number = ap (λ (r : Told). r.number) e in
+        let y : given.place ≡ s.gives.place = ap (λ (r : Told). r.place) e in
         record {
           done_exactly_if = t.done_exactly_if;
           given_exactly_if = λ r j. (

@@ -19,7 +19,7 @@ use Rattle.book.specs.Version.{has_classes}
 use Rattle.book.specs.Test.{refusal, no_refusal, counts_of, test_of}
 use Rattle.book.specs.Good.{Lines, GoodBook, Versioned, single, classed}
 use Rattle.book.specs.declared.Book.{Book}
-use Rattle.book.specs.declared.Tested.TheVariants.{Good}
+use Rattle.book.specs.Test.{Good}
 use Rattle.book.proofs.IfGood.{if_good_lem}
 use Rattle.book.proofs.Goods.{tested_good, tested_counts}
 use Rattle.book.proofs.Passing.{good_passes, counts_pass}
@@ -28,7 +28,7 @@ use Rattle.file.specs.Wire.{Bytes}
 use Rattle.file.specs.Read.{Outcome, stated_length, stated_version, stated_h, stated_n, stated_counts}
 use Rattle.file.specs.Read.{file_length, length_of, head_of, held_of}
 use Rattle.file.specs.Read.{lines_of, book_in, read_of}
-use Rattle.file.specs.declared.Head.TheVariants.{States}
+use Rattle.file.specs.Read.{States}
 use Rattle.file.proofs.Heads.{head_says}
 use Rattle.survey.specs.Survey.{survey_of}
 use Rattle.writer.specs.Write as writer

@@ -12,7 +12,7 @@ use lib.IntN.{ℤ, pos, nat_abs}
 use Rattle.book.specs.Lent.{Lent}
 use Rattle.book.specs.Test.{test_of}
 use Rattle.book.specs.declared.Book.{Book}
-use Rattle.book.specs.declared.Tested.TheVariants.{Good}
+use Rattle.book.specs.Test.{Good}
 use Rattle.network.specs.Standing.{Line}
 use Rattle.network.specs.Walk.{Pass, way_length}
 use Rattle.loops.specs.Loops.{Loop, loop_at}

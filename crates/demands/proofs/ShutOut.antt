@@ -13,7 +13,7 @@ use Rattle.book.specs.Line.{difference_at, difference_field}
 use Rattle.book.specs.Good.{GoodBook}
 use Rattle.book.specs.Test.{test_of, no_refusal}
 use Rattle.book.specs.declared.Book.{Book}
-use Rattle.book.specs.declared.Tested.TheVariants.{Good}
+use Rattle.book.specs.Test.{Good}
 use Rattle.book.proofs.Passing.{good_passes}
 use Rattle.network.specs.Standing.{Line, standing}
 use Rattle.network.proofs.Standing.{from_on}

@@ -10,7 +10,7 @@ use Rattle.book.specs.Lent.{Lent}
 use Rattle.book.specs.Line.{difference_at}
 use Rattle.book.specs.Test.{test_of}
 use Rattle.book.specs.declared.Book.{Book}
-use Rattle.book.specs.declared.Tested.TheVariants.{Good}
+use Rattle.book.specs.Test.{Good}
 use Rattle.book.proofs.Goods.{tested_good, good_lines}
 use Rattle.network.specs.Standing.{Line, standing}
 use Rattle.network.specs.Field.{line_at}

@@ -11,7 +11,7 @@ use Rattle.book.specs.Lent.{Lent}
 use Rattle.book.specs.Limits.{least_length}
 use Rattle.book.specs.Test.{test_of}
 use Rattle.book.specs.declared.Book.{Book}
-use Rattle.book.specs.declared.Tested.TheVariants.{Good}
+use Rattle.book.specs.Test.{Good}
 use Rattle.book.proofs.Goods.{tested_good}
 use Rattle.network.specs.Standing.{Line, standing}
 use Rattle.network.specs.Sound.{Sound}

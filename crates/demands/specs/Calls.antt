@@ -8,7 +8,7 @@ use Rattle.book.specs.Held.{held_words}
 use Rattle.book.specs.Line.{line_words}
 use Rattle.book.specs.Good.{GoodBook}
 use Rattle.book.specs.Test.{refusal, counts_of}
-use Rattle.book.specs.declared.Refusal.{Refusal}
+use Rattle.book.specs.Refusals.{Told}
 use Rattle.file.specs.Read as read
 use Rattle.file.specs.Read.{Outcome, answered, done, stated_length, stated_version, file_length, stated_h, stated_n, stated_counts, held_of}
 use Rattle.file.specs.Read.{lines_of, book_in, length_of}
@@ -119,7 +119,7 @@ WriterKeepsToTable book file given =
 
 -- "Each call tests all that it is lent": a faulty book gets the same refusal from every call, and nothing is changed (a re-run is refused
 -- with 4 already where its new difference is outside the limit, and a rate where its heights are not b in number)
-pub record SameAtEveryCall (book : Lent) (r : Refusal) : Type 0 where
+pub record SameAtEveryCall (book : Lent) (r : Told) : Type 0 where
   pub survey_of_lem : (out : List ℤ) → survey_of book out ≡ surveyed (survey.refused_with r) out
   pub listing_of_lem : (loop : ℤ) (out : List ℤ) → listing_of book loop out ≡ listing (lists.refused_with r) out
   pub listings_of_lem : (out : List ℤ) → listings_of book out ≡ listing (lists.refused_with r) out

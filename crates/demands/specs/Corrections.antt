@@ -4,7 +4,7 @@ use Rattle.std.specs.Prelude.{◌≡◌, List, [], ◌∷◌, ◌++◌, ℕ, ◌
 use Rattle.book.specs.Lent.{Lent, with_lines}
 use Rattle.book.specs.Test.{test_of}
 use Rattle.book.specs.declared.Book.{Book}
-use Rattle.book.specs.declared.Tested.TheVariants.{Good}
+use Rattle.book.specs.Test.{Good}
 use Rattle.survey.specs.Survey.{surveyed, survey_of}
 use Rattle.survey.specs.Report.{counted}
 use Rattle.survey.specs.Correction.{Corrected, rerun_of, withdraw_of}

@@ -18,7 +18,7 @@ use Rattle.sweeps.specs.Sweeps.{Settled, settled, unsettled, settle}
 use Rattle.start.specs.Start.{held_height, is_held, rooted_by, unheld_piece, start_heights}
 use Rattle.rates.specs.Rates as rates
 use Rattle.rates.specs.Rates.{line_rate, first_high, heights_out}
-use Rattle.rates.specs.declared.RateAnswer.{RateAnswer}
+use Rattle.rates.specs.Rates.{RateAnswer}
 use Rattle.adjust.specs.Answers.{settled_at}
 use Rattle.adjust.specs.Answers as adjust
 use Rattle.adjust.specs.Call.{Given, adjusted}

@@ -6,7 +6,7 @@ use Rattle.book.specs.Line.{line_words, standing_at}
 use Rattle.book.specs.Lent.{Lent, lent}
 use Rattle.book.specs.Test.{no_refusal, test_of}
 use Rattle.book.specs.declared.Book.{Book}
-use Rattle.book.specs.declared.Tested.TheVariants.{Good}
+use Rattle.book.specs.Test.{Good}
 use Rattle.file.specs.Read.{Outcome}
 use Rattle.writer.specs.Write.{Writing}
 

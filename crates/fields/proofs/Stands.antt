@@ -18,7 +18,7 @@ use Rattle.book.specs.Test.{test_of}
 use Rattle.book.specs.Good.{Lines}
 use Rattle.fields.specs.Places.{Place}
 use Rattle.book.specs.declared.Book.{Book}
-use Rattle.book.specs.declared.Tested.TheVariants.{Good}
+use Rattle.book.specs.Test.{Good}
 use Rattle.book.proofs.Goods.{tested_good}
 
 module _ (lines : List ℤ) where

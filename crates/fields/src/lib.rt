@@ -10,6 +10,7 @@ ghost use Rattle.fields.specs.Places.{Place};
 use book::line::Line;
 
 // The marks of the line at place i, and its difference.
+// Beside to_mark: each is public, with a definition of its own (`from_at`, `to_at`).
 pub fn from_mark(lines: &[i64], b: usize, n: usize, i: usize) -> usize
     requires { Place lines.now b n i }
     ensures { (result ≡ nat_abs (from_at lines.now i)) × (0 < result) × (result ≤ b) }

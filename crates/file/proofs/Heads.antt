@@ -17,16 +17,16 @@ use Rattle.book.specs.Limits.{least_version, most_version, least_marks, most_mar
 use Rattle.book.specs.Version.{version_out, has_classes, tolerance_out}
 use Rattle.book.specs.Test.{book_out, counts, refused, book_of}
 use Rattle.book.specs.declared.Book.{Book}
-use Rattle.book.specs.declared.Refusal.{Refusal}
-use Rattle.book.specs.declared.Tested.{Tested}
-use Rattle.book.specs.declared.Tested.TheVariants as tested
+use Rattle.book.specs.Refusals.{Told}
+use Rattle.book.specs.Test.{Tested}
+use Rattle.book.specs.Test as tested
 use Rattle.book.proofs.Versions.{tolerance_inside}
 use Rattle.file.specs.Read.{stated_length, stated_version, stated_t, stated_b, stated_h, stated_n}
 use Rattle.file.specs.Read.{stated_counts, file_length, head_of, Stated}
 use Rattle.file.specs.Entry.{entry_bytes, line_kind}
 use Rattle.file.specs.declared.entry.Kind.TheVariants.{Line, ClassedLine}
-use Rattle.file.specs.declared.Head.{Head}
-use Rattle.file.specs.declared.Head.TheVariants.{States, Refused}
+use Rattle.file.specs.Read.{Head}
+use Rattle.file.specs.Read.{States, Refused}
 
 past : (t : Bool) (number : ℕ) (rest : Head) (k : Book) → cond t (Refused number) rest ≡ States k → (t ≡ false) × (rest ≡ States k)
 past true number rest k e = let z : ◌≡◌ {A = ℕ} 0 1 = cc in absurd (omega arith)
@@ -103,7 +103,7 @@ longest_file len k s =
     omega (arith, s.size, s.few_held, most)
 
 -- a head whose version or counts are refused
-pub book_refused : (version b t : ℤ) (h n : ℕ) (m : Tested) → m ≡ book_of version b t h n → (r : Refusal) → m ≡ tested.Refused r
+pub book_refused : (version b t : ℤ) (h n : ℕ) (m : Tested) → m ≡ book_of version b t h n → (r : Told) → m ≡ tested.Refused r
     → (rest : Head)
     → Refused r.number ≡ cond (version_out version) (Refused 3) (cond (book_out version b t h n) (Refused 4) rest)
 unfolding book_of
@@ -119,6 +119,20 @@ book_refused version b t h n m e r g rest = go (version_out version) (book_out v
 
     go : (v o : Bool) → m ≡ cond v (refused 3 0) (cond o (refused 4 0) (tested.Good (counts version b t h n)))
         → Refused r.number ≡ cond v (Refused 3) (cond o (Refused 4) rest)
+    go true o f = is 3 f
+    go false true f = is 4 f
+    go false false f = let z : ◌≡◌ {A = ℕ} 0 1 = cc in absurd (omega arith)
+
+-- its place is 0
+pub book_refused_place : (version b t : ℤ) (h n : ℕ) (m : Tested) → m ≡ book_of version b t h n → (r : Told) → m ≡ tested.Refused r
+    → r.place ≡ 0
+unfolding book_of
+book_refused_place version b t h n m e r g = go (version_out version) (book_out version b t h n) e
+  where
+    is : (number : ℕ) → m ≡ refused number 0 → r.place ≡ 0
+    is number f = let same : refused number 0 ≡ tested.Refused r = sym f ∙ g in cc
+
+    go : (v o : Bool) → m ≡ cond v (refused 3 0) (cond o (refused 4 0) (tested.Good (counts version b t h n))) → r.place ≡ 0
     go true o f = is 3 f
     go false true f = is 4 f
     go false false f = let z : ◌≡◌ {A = ℕ} 0 1 = cc in absurd (omega arith)

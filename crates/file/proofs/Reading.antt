@@ -17,13 +17,13 @@ use Rattle.book.specs.Good.{GoodBook}
 use Rattle.book.proofs.IfGood.{either_way}
 use Rattle.book.proofs.Goods.{tested_good, tested_counts, tested_numbered}
 use Rattle.book.specs.declared.Book.{Book}
-use Rattle.book.specs.declared.Refusal.{Refusal}
-use Rattle.book.specs.declared.Tested.TheVariants.{Good, Refused}
+use Rattle.book.specs.Refusals.{Told}
+use Rattle.book.specs.Test.{Good, Refused}
 use Rattle.file.specs.Read.{Outcome, answered, refused_with, done, held_of, lines_of, book_in}
 use Rattle.file.specs.Read.{head_of, room_of, body_of, after_head, read_of}
 use Rattle.file.specs.Owed.{BookRead, FileRefused}
-use Rattle.file.specs.declared.Head as head
-use Rattle.file.specs.declared.Head.{Head}
+use Rattle.file.specs.Read as head
+use Rattle.file.specs.Read.{Head}
 use Rattle.file.specs.declared.entry.Kind.TheVariants.{Held}
 use Rattle.file.proofs.Entries.{entries_length, lines_length}
 use Rattle.file.proofs.Heads.{head_numbered}
@@ -78,7 +78,7 @@ module _ (file : List ℕ) (held lines : List ℤ) where
   unfolding body_of GoodFile
   body k = either_way (test_of (book_in file k)) _ _ ReadOrRefused bad good
     where
-      bad : (r : Refusal) → test_of (book_in file k) ≡ Refused r → ReadOrRefused (answered held lines (refused_with r))
+      bad : (r : Told) → test_of (book_in file k) ≡ Refused r → ReadOrRefused (answered held lines (refused_with r))
       bad r e = let w = tested_numbered (book_in file k) r e in refuses r.number r.place w.low (omega (arith, w.high)) w.near
 
       good : (j : Book) → test_of (book_in file k) ≡ Good j → ReadOrRefused (room_of file k held lines)
@@ -92,9 +92,9 @@ module _ (file : List ℕ) (held lines : List ℤ) where
   read_or_refused = go (head_of file) refl
     where
       go : (o : Head) → head_of file ≡ o → ReadOrRefused (after_head file held lines o)
-      go (head.TheVariants.Refused number) e =
+      go (head.Refused number) e =
           let w = head_numbered file number e in refuses number 0 w.0 (omega (arith, w.1)) (omega arith)
-      go (head.TheVariants.States k) e = body k
+      go (head.States k) e = body k
 
   -- the answer 0 says which
   pub zero_is_read : (read_of file held lines).answer.refusal.number ≡ 0 → BookRead file held lines (read_of file held lines)

@@ -1,21 +1,19 @@
 -- What the reader of a book file answers, and what it leaves in the buffers that it is lent: document 01, refusals 1 to 7 and 10, lowest
 -- first.
 -- Assumes nothing.
-use Rattle.std.specs.Prelude.{not, cond, List, ◌++◌, ◌≡◌, ℕ, ◌+◌, ◌*◌, ◌≤◌, eqb, ltb, length, drop, ℤ, pos}
+use Rattle.std.specs.Prelude.{not, cond, List, ◌++◌, ◌≡◌, ℕ, ◌+◌, ◌*◌, ◌≤◌, eqb, ltb, length, drop, ℤ, pos, Result, Ok, Err}
 use Rattle.book.specs.Limits.{most_version, most_marks, most_lines, most_held, most_tolerance}
 use Rattle.book.specs.Version.{version_out}
 use Rattle.book.specs.Held.{held_words}
 use Rattle.book.specs.Line.{line_words}
 use Rattle.book.specs.Lent.{Lent, lent}
 use Rattle.book.specs.Test.{book_out, counts, refusal, no_refusal, test_of, if_good}
-use Rattle.book.specs.declared.Refusal.{Refusal}
+use Rattle.book.specs.Refusals.{Told, number_of, told_of}
+use Rattle.book.specs.declared.refusal.Refusal.{Refusal}
 use Rattle.book.specs.declared.Book.{Book}
 use Rattle.file.specs.Wire.{be}
 use Rattle.file.specs.Entry.{entry_bytes, line_kind, entries}
 use Rattle.file.specs.declared.entry.Kind.TheVariants.{Held}
-use Rattle.file.specs.declared.Head as head
-use Rattle.file.specs.declared.Head.{Head}
-use Rattle.file.specs.declared.ReadAnswer.{ReadAnswer}
 
 -- "total length in 4 bytes, counting themselves"; the version in a byte; "t, b, h and n in 2 bytes each"
 abbrev pub stated_length : List ℕ → ℕ
@@ -47,17 +45,26 @@ file_length version h n = 13 + h * 10 + n * entry_bytes (line_kind version)
 abbrev pub length_of : Book → ℕ
 length_of k = file_length k.version k.held k.lines
 
+-- what the first bytes of a file tell: the version and the counts that it states, or the number of the refusal, whose place is 0
+pub data Head : Type 0 where
+  States : Book → Head
+  Refused : ℕ → Head
+
+abbrev pub head : Result Book Refusal → Head
+head (Ok k) = States k
+head (Err r) = Refused (number_of r)
+
 -- refusals 1 to 5, whose place is 0, or the version and the counts that the file states
 unfoldable pub head_of : List ℕ → Head
 unfolding be version_out book_out
 head_of file =
-    cond (ltb (length file) 13) (head.TheVariants.Refused 1)
-    (cond (not (eqb (stated_length file) (length file))) (head.TheVariants.Refused 2)
-    (cond (version_out (pos (stated_version file))) (head.TheVariants.Refused 3)
+    cond (ltb (length file) 13) (Refused 1)
+    (cond (not (eqb (stated_length file) (length file))) (Refused 2)
+    (cond (version_out (pos (stated_version file))) (Refused 3)
     (cond (book_out (pos (stated_version file)) (pos (stated_b file)) (pos (stated_t file)) (stated_h file) (stated_n file))
-    (head.TheVariants.Refused 4)
-    (cond (not (eqb (length file) (file_length (stated_version file) (stated_h file) (stated_n file)))) (head.TheVariants.Refused 5)
-    (head.TheVariants.States (stated_counts file))))))
+    (Refused 4)
+    (cond (not (eqb (length file) (file_length (stated_version file) (stated_h file) (stated_n file)))) (Refused 5)
+    (States (stated_counts file))))))
 
 -- the numbers that the held entries and the lines of a file with the counts k put into memory
 unfoldable pub held_of : List ℕ → Book → List ℤ
@@ -72,12 +79,25 @@ lines_of file k = entries (line_kind k.version) file (13 + k.held * 10) k.lines
 abbrev pub book_in : List ℕ → Book → Lent
 book_in file k = lent (pos k.version) (pos k.marks) (pos k.tolerance) (held_of file k) (lines_of file k)
 
+-- "An answer is a number .., a place .. and the counts its call fills: the reader b, t, h and n", and the version
+pub record ReadAnswer : Type 0 where
+  pub refusal : Told
+  pub version : ℕ
+  pub b : ℕ
+  pub t : ℕ
+  pub h : ℕ
+  pub n : ℕ
+
 -- "After a refusal the counts are 0"
-abbrev pub refused_with : Refusal → ReadAnswer
+abbrev pub refused_with : Told → ReadAnswer
 refused_with r = record { refusal = r; version = 0; b = 0; t = 0; h = 0; n = 0 }
 
 abbrev pub done : Book → ReadAnswer
 done k = record { refusal = no_refusal; version = k.version; b = k.marks; t = k.tolerance; h = k.held; n = k.lines }
+
+abbrev pub answer_of : Result Book Refusal → ReadAnswer
+answer_of (Ok k) = done k
+answer_of (Err r) = refused_with (told_of r)
 
 -- what a call answers, and what the two lent buffers then hold
 pub record Outcome : Type 0 where
@@ -108,8 +128,8 @@ body_of file k held lines =
 
 unfoldable pub after_head : List ℕ → List ℤ → List ℤ → Head → Outcome
 unfolding body_of
-after_head file held lines (head.TheVariants.Refused number) = answered held lines (refused_with (refusal number 0))
-after_head file held lines (head.TheVariants.States k) = body_of file k held lines
+after_head file held lines (Refused number) = answered held lines (refused_with (refusal number 0))
+after_head file held lines (States k) = body_of file k held lines
 
 -- what the reader does with a file
 unfoldable pub read_of : List ℕ → List ℤ → List ℤ → Outcome

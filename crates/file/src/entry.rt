@@ -11,6 +11,7 @@ use book::held::Held;
 use book::line::Line;
 
 // What an entry is of: a held mark, or a line without or with a class.
+// An enum: `entry_bytes`, `numbers` and `entries` of specs/ are by its cases.
 #[derive(Clone, Copy)]
 pub enum Kind {
     Held,
@@ -108,6 +109,7 @@ fn read_entry(kind: Kind, e: &[u8], out: &mut [i64])
 }
 
 // The n entries from place a of the file on.
+// A range and slices: of what chunks_exact_mut lends a proof knows nothing afterwards.
 pub(crate) fn read_entries(kind: Kind, file: &[u8], a: usize, n: usize, out: &mut [i64])
     requires whole { a + n * entry_bytes kind ≤ length file.now }
     requires room { n * entry_words kind ≤ length out.old }

@@ -3,38 +3,22 @@
 
 #![tactic(auto)]
 
-ghost use Rattle.std.specs.Prelude.{◌≡◌, ◌++◌, ◌*◌, ◌≤◌, length, drop};
+ghost use Rattle.std.specs.Prelude.{◌≡◌, ◌++◌, ◌*◌, ◌≤◌, length, drop, IfErr};
 ghost use Rattle.book.specs.Held.{held_words};
 ghost use Rattle.book.specs.Line.{line_words};
 ghost use Rattle.book.specs.Limits.{most_version, most_held, most_lines};
-ghost use Rattle.book.specs.Test.{refusal, test_of};
-ghost use Rattle.file.specs.Read.{Stated, length_of, head_of, held_of, lines_of, answered, refused_with, book_in, body_of, room_of, read_of};
+ghost use Rattle.book.specs.Refusals.{place_of};
+ghost use Rattle.book.specs.Test.{tested, test_of};
+ghost use Rattle.file.specs.Read.{Stated, length_of, head, head_of, held_of, lines_of, answered, answer_of, book_in, room_of, read_of};
 
 pub mod entry;
 mod wire;
 
+use book::Book;
 use book::held::Held;
 use book::line::Line;
-use book::{Book, Refusal, Tested};
+use book::refusal::Refusal;
 use entry::Kind;
-
-// What the reader answers: a refusal, or none and the book's version and counts.
-#[derive(Clone, Copy)]
-pub struct ReadAnswer {
-    pub refusal: Refusal,
-    pub version: usize,
-    pub b: usize,
-    pub t: usize,
-    pub h: usize,
-    pub n: usize,
-}
-
-// What the first bytes of a file state, or the number of the refusal, whose place is 0.
-#[derive(Drop)]
-pub enum Head {
-    States(Book),
-    Refused(usize),
-}
 
 // Bytes before the entries, and the place of each number there.
 pub const HEAD_BYTES: usize = 13;
@@ -51,25 +35,6 @@ pub const H_AT: usize = 9;
 
 pub const N_AT: usize = 11;
 
-fn refuse(number: usize, place: usize) -> ReadAnswer
-    ensures { result ≡ refused_with (refusal number place) }
-{
-    refused(Refusal::new(number, place))
-}
-
-fn refused(refusal: Refusal) -> ReadAnswer
-    ensures { result ≡ refused_with refusal }
-{
-    ReadAnswer {
-        refusal,
-        version: 0,
-        b: 0,
-        t: 0,
-        h: 0,
-        n: 0,
-    }
-}
-
 // How many bytes the file of such a book has.
 pub fn length_of(book: Book) -> usize
     requires { (book.version ≤ most_version) × (book.held ≤ most_held) × (book.lines ≤ most_lines) }
@@ -79,31 +44,28 @@ pub fn length_of(book: Book) -> usize
     HEAD_BYTES + book.held * Kind::HELD_BYTES + book.lines * line_bytes
 }
 
-// Refusals 1 to 5, or the version and the counts that the file states.
-fn head_of(file: &[u8]) -> Head
-    ensures { result ≡ head_of file.now }
+// The version and the counts that the file states, or refusals 1 to 5.
+fn head_of(file: &[u8]) -> Result<Book, Refusal>
+    ensures head { head result ≡ head_of file.now }
+    ensures at { IfErr result (λ r. place_of r ≡ 0) }
 {
     let len = file.len();
     if len < HEAD_BYTES {
-        return Head::Refused(1);
+        return Err(Refusal::ShortFile);
     }
     if wire::be::<4>(file, LENGTH_AT) as usize != len {
-        return Head::Refused(2);
+        return Err(Refusal::StatedLength);
     }
     let version = wire::plain::<1>(file, VERSION_AT);
     let t = wire::plain::<2>(file, T_AT);
     let b = wire::plain::<2>(file, B_AT);
     let h = wire::be::<2>(file, H_AT) as usize;
     let n = wire::be::<2>(file, N_AT) as usize;
-    match Book::new(version, b, t, h, n) {
-        Tested::Refused(r) => Head::Refused(r.number),
-        Tested::Good(book) => {
-            if len != length_of(book) {
-                return Head::Refused(5);
-            }
-            Head::States(book)
-        }
+    let book = Book::new(version, b, t, h, n)?;
+    if len != length_of(book) {
+        return Err(Refusal::CountedLength);
     }
+    Ok(book)
 }
 
 // The held entries and the lines that such a file has, into the first places of what is lent.
@@ -126,9 +88,9 @@ fn read_parts(file: &[u8], book: Book, held: &mut [i64], lines: &mut [i64])
 }
 
 // Refusals 6 and 7: the entries are read where nobody sees them, and tested as every call tests a lent book.
-fn tested(file: &[u8], book: Book) -> Tested
+fn test_entries(file: &[u8], book: Book) -> Result<Book, Refusal>
     requires { Stated (length file.now) book }
-    ensures { result ≡ test_of (book_in file.now book) }
+    ensures { tested result ≡ test_of (book_in file.now book) }
 {
     let mut held = [0i64; Book::HELD_WORDS];
     let mut lines = [0i64; Book::LINE_WORDS];
@@ -142,50 +104,27 @@ fn tested(file: &[u8], book: Book) -> Tested
 }
 
 // Refusal 10, or the entries go into what is lent.
-fn fill(file: &[u8], book: Book, held: &mut [i64], lines: &mut [i64]) -> ReadAnswer
+fn fill(file: &[u8], book: Book, held: &mut [i64], lines: &mut [i64]) -> Result<Book, Refusal>
     requires { Stated (length file.now) book }
-    ensures { answered held.new lines.new result
+    ensures { answered held.new lines.new (answer_of result)
         ≡ room_of file.now book held.old lines.old }
 {
-    let h = book.held;
-    let n = book.lines;
-    if held.len() < h * Held::WORDS {
-        return refuse(10, 0);
+    if held.len() < book.held * Held::WORDS {
+        return Err(Refusal::NoRoom);
     }
-    if lines.len() < n * Line::WORDS {
-        return refuse(10, 0);
+    if lines.len() < book.lines * Line::WORDS {
+        return Err(Refusal::NoRoom);
     }
     read_parts(file, book, held, lines);
-    let refusal = Refusal::none();
-    ReadAnswer {
-        refusal,
-        version: book.version,
-        b: book.marks,
-        t: book.tolerance,
-        h,
-        n,
-    }
-}
-
-// What follows a head that is not refused.
-fn read_body(file: &[u8], book: Book, held: &mut [i64], lines: &mut [i64]) -> ReadAnswer
-    requires { Stated (length file.now) book }
-    ensures { answered held.new lines.new result
-        ≡ body_of file.now book held.old lines.old }
-{
-    match tested(file, book) {
-        Tested::Refused(r) => refused(r),
-        Tested::Good(_) => fill(file, book, held, lines),
-    }
+    Ok(book)
 }
 
 // Reads a book file into the held entries and the lines that are lent. A refusal leaves both as they were.
-pub fn read(file: &[u8], held: &mut [i64], lines: &mut [i64]) -> ReadAnswer
-    ensures { answered held.new lines.new result
+pub fn read(file: &[u8], held: &mut [i64], lines: &mut [i64]) -> Result<Book, Refusal>
+    ensures { answered held.new lines.new (answer_of result)
         ≡ read_of file.now held.old lines.old }
 {
-    match head_of(file) {
-        Head::Refused(number) => refuse(number, 0),
-        Head::States(book) => read_body(file, book, held, lines),
-    }
+    let book = head_of(file)?;
+    test_entries(file, book)?;
+    fill(file, book, held, lines)
 }

@@ -19,6 +19,7 @@ pub(crate) fn be<const W: usize>(s: &[u8], a: usize) -> u64
 }
 
 // The same as a signed number, of so few bytes that none is needed for the sign.
+// `as`: i64 is no From of u64, and try_from would give a Result that cannot fail.
 pub(crate) fn plain<const W: usize>(s: &[u8], a: usize) -> i64
     requires few { W ≤ 4 }
     requires whole { a + W ≤ length s.now }
@@ -28,6 +29,7 @@ pub(crate) fn plain<const W: usize>(s: &[u8], a: usize) -> i64
 }
 
 // The signed number in four bytes.
+// Beside signed8: the widths of the contracts differ, and four bytes alone are widened.
 pub(crate) fn signed4(s: &[u8], a: usize) -> i64
     requires { a + 4 ≤ length s.now }
     ensures { result ≡ to_z w32 (be 4 s.now a) }

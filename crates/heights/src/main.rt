@@ -5,13 +5,15 @@
 use book::Book;
 use book::held::Held;
 use book::line::Line;
+use book::refusal::Refusal;
 use cases::told;
 use cases::told::Told;
-use rates::{Rate, RateRow};
+use rates::{LineRate, Rate, RateRow};
 use std::io;
 use std::io::Write;
 
 // As many spaces as x has digits fewer than top.
+// A while: it divides by ten. A width would put the sign of -0.5 elsewhere.
 fn pad(to: &mut impl Write, x: u64, top: u64) -> io::Result<()> {
     let mut t = top;
     while 1 < t {
@@ -74,8 +76,8 @@ fn put_withdrawn(to: &mut impl Write, line: usize) -> io::Result<()> {
     writeln!(to, "{line:>4}  withdrawn")
 }
 
-fn put_refusal(to: &mut impl Write, number: usize, place: usize) -> io::Result<()> {
-    writeln!(to, "REFUSED {number} AT {place}")
+fn put_refusal(to: &mut impl Write, refusal: Refusal) -> io::Result<()> {
+    writeln!(to, "REFUSED {} AT {}", refusal.number(), refusal.place())
 }
 
 fn is_held(held: &[i64], mark: i64) -> bool {
@@ -100,6 +102,18 @@ fn put_heights(to: &mut impl Write, held: &[i64], heights: &[i64]) -> io::Result
     Ok(())
 }
 
+fn put_rate_of(to: &mut impl Write, rated: LineRate) -> io::Result<()> {
+    let LineRate {
+        line,
+        correction,
+        rate,
+    } = rated;
+    match rate {
+        Rate::PerKm(_) => put_row(to, rates::row_of(line, correction, rate)),
+        Rate::Withdrawn => put_withdrawn(to, line),
+    }
+}
+
 fn put_line(
     to: &mut impl Write,
     told: Told,
@@ -109,11 +123,9 @@ fn put_line(
     line: usize,
 ) -> io::Result<()> {
     let number = signed::signed_count(line % 65536);
-    let a = adjust::rate(told.version, told.b, told.t, held, lines, heights, number);
-    let rate = a.rate;
-    match rate {
-        Rate::PerKm(_) => put_row(to, rates::row_of(a.line, a.correction, rate)),
-        Rate::Withdrawn => put_withdrawn(to, a.line),
+    match adjust::rate(told.version, told.b, told.t, held, lines, heights, number) {
+        Ok(rated) => put_rate_of(to, rated),
+        Err(refusal) => put_refusal(to, refusal),
     }
 }
 
@@ -140,15 +152,14 @@ fn sheet(
     heights: &mut [i64],
     n: usize,
 ) -> io::Result<()> {
-    let a = adjust::adjust(told.version, told.b, told.t, held, lines, heights);
-    let r = a.refusal;
-    if 0 < r.number {
-        return put_refusal(to, r.number, r.place);
-    }
+    let sweeps = match adjust::adjust(told.version, told.b, told.t, held, lines, heights) {
+        Ok(sweeps) => sweeps,
+        Err(refusal) => return put_refusal(to, refusal),
+    };
     let b = heights.len();
     let h = held.len() / Held::WORDS;
     to.write_all(b"ADJUSTED HEIGHTS\n")?;
-    writeln!(to, "MARKS {b} LINES {n} HELD {h} SWEEPS {}", a.sweeps)?;
+    writeln!(to, "MARKS {b} LINES {n} HELD {h} SWEEPS {sweeps}")?;
     put_heights(to, held, heights)?;
     put_rates(to, told, held, lines, heights, n)
 }
@@ -157,21 +168,20 @@ fn run(to: &mut impl Write, file: &[u8]) -> io::Result<()> {
     let mut held = [0i64; Book::HELD_WORDS];
     let mut lines = [0i64; Book::LINE_WORDS];
     let mut heights = [0i64; Book::MAX_MARKS as usize];
-    let book = file::read(file, &mut held, &mut lines);
-    let r = book.refusal;
-    if 0 < r.number {
-        return put_refusal(to, r.number, r.place);
-    }
-    let marks = book.b.min(heights.len());
-    let h = told::words_of(book.h, Held::WORDS, Book::HELD_WORDS);
-    let n = told::words_of(book.n, Line::WORDS, Book::LINE_WORDS);
+    let book = match file::read(file, &mut held, &mut lines) {
+        Ok(book) => book,
+        Err(refusal) => return put_refusal(to, refusal),
+    };
+    let marks = book.marks.min(heights.len());
+    let h = told::words_of(book.held, Held::WORDS, Book::HELD_WORDS);
+    let n = told::words_of(book.lines, Line::WORDS, Book::LINE_WORDS);
     sheet(
         to,
-        Told::read(book.version, marks, book.t),
+        Told::read(book.version, marks, book.tolerance),
         &held[..h],
         &lines[..n],
         &mut heights[..marks],
-        book.n % 600,
+        book.lines % 600,
     )
 }
 

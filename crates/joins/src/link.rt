@@ -19,6 +19,7 @@ pub(crate) fn turn(rows: &mut [u64], runs: &mut [u16], i: usize)
 }
 
 // The link, which has an end at mark m, is read from m.
+// It and the two below share `turn`; one that takes the test as a closure is as long as the if, and wants clauses on it.
 pub(crate) fn read_from(rows: &mut [u64], runs: &mut [u16], i: usize, m: usize)
     requires { LinkAt i rows.old runs.old }
     ensures { Becomes (λ x. read_from m x) i rows.old runs.old rows.new runs.new }

@@ -1,17 +1,30 @@
 -- What the sketch answers, and what the four lent outputs then hold: refusals 3, 4, 6, 7 and 10.
 -- Assumes nothing.
-use Rattle.std.specs.Prelude.{Bool, ◌||◌, cond, List, ◌++◌, ℕ, ltb, length, drop, ℤ}
+use Rattle.std.specs.Prelude.{Bool, ◌||◌, cond, List, ◌++◌, ℕ, ltb, length, drop, ℤ, Result, Ok, Err}
 use Rattle.book.specs.Lent.{Lent}
 use Rattle.book.specs.Test.{refusal, no_refusal, test_of, if_good}
-use Rattle.book.specs.declared.Refusal.{Refusal}
+use Rattle.book.specs.Refusals.{Told, told_of}
+use Rattle.book.specs.declared.refusal.Refusal.{Refusal}
 use Rattle.book.specs.declared.Book.{Book}
 use Rattle.network.specs.Standing.{standing}
 use Rattle.links.specs.Sketch.{Sketch, sketch_of, entries, run_of}
-use Rattle.junctions.specs.declared.Sketched.{Sketched}
+use Rattle.junctions.specs.declared.Sizes.{Sizes}
 
 -- "number, place, links, spurs, loops, run (how many numbers)"
-abbrev pub refused_with : Refusal → Sketched
+pub record Sketched : Type 0 where
+  pub refusal : Told
+  pub links : ℕ
+  pub spurs : ℕ
+  pub loops : ℕ
+  pub run : ℕ
+
+-- "After a refusal the counts are 0"
+abbrev pub refused_with : Told → Sketched
 refused_with r = record { refusal = r; links = 0; spurs = 0; loops = 0; run = 0 }
+
+abbrev pub answer_of : Result Sizes Refusal → Sketched
+answer_of (Ok s) = record { refusal = no_refusal; links = s.links; spurs = s.spurs; loops = s.loops; run = s.run }
+answer_of (Err r) = refused_with (told_of r)
 
 abbrev pub drawn : Sketch → Sketched
 drawn s =

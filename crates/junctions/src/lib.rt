@@ -8,12 +8,13 @@ ghost use Rattle.book.specs.Good.{GoodLines};
 ghost use Rattle.book.specs.Limits.{most_lines};
 ghost use Rattle.links.specs.Sketch.{Sketch};
 ghost use Rattle.rows.specs.Sums.{Measured};
-ghost use Rattle.junctions.specs.Call.{refused_with, lists, lists_of, all_in_first_places, drawing, drawn_into, sketch_good, sketch_call};
+ghost use Rattle.junctions.specs.Call.{answer_of, lists, lists_of, all_in_first_places, drawing, drawn_into, sketch_good, sketch_call};
 ghost use Rattle.junctions.specs.Entries.{lines_by, short_by, Roomy, SketchOver, SomeSketch};
 
 mod entries;
 
-use book::{Book, Refusal, Tested};
+use book::Book;
+use book::refusal::Refusal;
 use joins::{Counts, row};
 
 // "five numbers to an entry: first mark, last mark, count of lines, length, difference in that sense"
@@ -32,26 +33,13 @@ pub const ENTRY_DIFFERENCE: usize = 4;
 // Places for the entries of any book's links.
 pub const ENTRIES_WORDS: usize = Book::MAX_LINES * ENTRY_WORDS;
 
-// What the sketch answers: how many links, spurs and loops there are, and how many lines their runs have in all.
+// How many links, spurs and loops a sketch has, and how many lines their runs have in all.
 #[derive(Clone, Copy)]
-pub struct Sketched {
-    pub refusal: Refusal,
+pub struct Sizes {
     pub links: usize,
     pub spurs: usize,
     pub loops: usize,
     pub run: usize,
-}
-
-fn refused(refusal: Refusal) -> Sketched
-    ensures { result ≡ refused_with refusal }
-{
-    Sketched {
-        refusal,
-        links: 0,
-        spurs: 0,
-        loops: 0,
-        run: 0,
-    }
 }
 
 // The sketch of the book. A refusal leaves each output as it was.
@@ -65,15 +53,13 @@ pub fn sketch(
     spurs: &mut [i64],
     loops: &mut [i64],
     run: &mut [i64],
-) -> Sketched
-    ensures { drawing result (lists links.new spurs.new loops.new run.new)
+) -> Result<Sizes, Refusal>
+    ensures { drawing (answer_of result) (lists links.new spurs.new loops.new run.new)
         ≡ sketch_call (lent version b t held.now lines.now)
         (lists links.old spurs.old loops.old run.old) }
 {
-    match book::test(version, b, t, held, lines) {
-        Tested::Refused(r) => refused(r),
-        Tested::Good(book) => sketch_good(book, lines, links, spurs, loops, run),
-    }
+    let book = book::test(version, b, t, held, lines)?;
+    sketch_good(book, lines, links, spurs, loops, run)
 }
 
 // The sketch of a tested book, in tables on the stack.
@@ -84,9 +70,9 @@ pub fn sketch_good(
     spurs: &mut [i64],
     loops: &mut [i64],
     run: &mut [i64],
-) -> Sketched
+) -> Result<Sizes, Refusal>
     requires { GoodLines book lines.now }
-    ensures { drawing result (lists links.new spurs.new loops.new run.new)
+    ensures { drawing (answer_of result) (lists links.new spurs.new loops.new run.new)
         ≡ sketch_good book lines.now (lists links.old spurs.old loops.old run.old) }
 {
     let mut rows = [0u64; Book::MAX_LINES];
@@ -117,6 +103,7 @@ fn any_short(
 }
 
 // The three lists and the run of n lines.
+// Three calls: of what a closure writes through the outputs a proof knows nothing afterwards.
 fn write_all(
     lines: &[i64],
     rows: &[u64],
@@ -145,7 +132,7 @@ fn write_all(
     lists::run::list_run(&runs[..n], run);
 }
 
-// 10, or the three lists and the run.
+// The three lists and the run, or 10.
 fn write(
     lines: &[i64],
     rows: &[u64],
@@ -155,23 +142,22 @@ fn write(
     spurs: &mut [i64],
     loops: &mut [i64],
     run: &mut [i64],
-) -> Sketched
-    requires fact_1 { Measured lines.now }
-    requires fact_2 { SomeSketch lines.now rows.now runs.now found }
+) -> Result<Sizes, Refusal>
+    requires measured { Measured lines.now }
+    requires some_sketch { SomeSketch lines.now rows.now runs.now found }
     ensures { (s : Sketch) → SketchOver lines.now s rows.now runs.now found
-        → drawing result (lists links.new spurs.new loops.new run.new)
+        → drawing (answer_of result) (lists links.new spurs.new loops.new run.new)
         ≡ drawn_into s (lists links.old spurs.old loops.old run.old) }
 {
     let n = row::lines(&rows[..found.links + found.spurs + found.loops]);
     if any_short(found, n, links, spurs, loops, run) {
-        return refused(Refusal::new(10, 0));
+        return Err(Refusal::NoRoom);
     }
     write_all(lines, rows, runs, found, n, links, spurs, loops, run);
-    Sketched {
-        refusal: Refusal::none(),
+    Ok(Sizes {
         links: found.links,
         spurs: found.spurs,
         loops: found.loops,
         run: n,
-    }
+    })
 }

@@ -20,9 +20,9 @@ use Rattle.book.specs.Height.{work_height_out}
 use Rattle.book.specs.Lent.{Lent}
 use Rattle.book.specs.Test.{refusal, test_of, test_beside}
 use Rattle.book.specs.declared.Book.{Book}
-use Rattle.book.specs.declared.Refusal.{Refusal}
-use Rattle.book.specs.declared.Tested.{Tested}
-use Rattle.book.specs.declared.Tested.TheVariants.{Good, Refused}
+use Rattle.book.specs.Refusals.{Told}
+use Rattle.book.specs.Test.{Tested}
+use Rattle.book.specs.Test.{Good, Refused}
 use Rattle.book.proofs.IfGood.{either_way}
 use Rattle.book.proofs.Goods.{Numbered, tested_good, tested_numbered, beside_passes, beside_numbered, good_lines}
 use Rattle.book.proofs.Versions.{known_version, small_tolerance}
@@ -149,10 +149,10 @@ sketched_small k lines g =
 
 module _ (book : Lent) where
   -- the test's own refusals
-  numbered_small : (r : Refusal) → Numbered r → SmallAnswer (survey.refused_with r)
+  numbered_small : (r : Told) → Numbered r → SmallAnswer (survey.refused_with r)
   numbered_small r n = refusal_small r.number r.place (omega (arith, n.high)) n.near
 
-  tested_small : (r : Refusal) → test_of book ≡ Refused r → SmallAnswer (survey.refused_with r)
+  tested_small : (r : Told) → test_of book ≡ Refused r → SmallAnswer (survey.refused_with r)
   tested_small r e = numbered_small r (tested_numbered book r e)
 
   good_of : (k : Book) → test_of book ≡ Good k → GoodLines k book.lines
@@ -169,7 +169,7 @@ module _ (book : Lent) where
 
   module _ (report : List ℤ) (number : ℤ) where
     -- a correction leaves a good book good
-    corrected_small : (tested : Tested) (new : List ℤ) → ((r : Refusal) → tested ≡ Refused r → SmallAnswer (survey.refused_with r))
+    corrected_small : (tested : Tested) (new : List ℤ) → ((r : Told) → tested ≡ Refused r → SmallAnswer (survey.refused_with r))
         → ((k : Book) → tested ≡ Good k → no_line book.lines number ≡ false → GoodLines k new)
         → SmallAnswer (correct_of tested book report number new).answer
     unfolding correct_of correct_good
@@ -200,7 +200,7 @@ module _ (book : Lent) where
         (stands_of book.lines number stands))
 
   module _ (out : List ℤ) (small : Small (length out)) where
-    untested_small : (r : Refusal) → test_of book ≡ Refused r → SmallListed (lists.refused_with r)
+    untested_small : (r : Told) → test_of book ≡ Refused r → SmallListed (lists.refused_with r)
     untested_small r e = let n = tested_numbered book r e in unlisted_small r.number r.place (omega (arith, n.high)) n.near
 
     pub listing_small : (number : ℤ) → SmallListed (listing_of book number out).answer

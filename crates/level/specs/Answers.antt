@@ -1,7 +1,7 @@
 -- What survey, re-run and withdrawal answer, with the numbers as int64, beside what the lent buffers then hold.
 -- Assumes nothing.
 use Rattle.std.specs.Prelude.{List, ℤ, pos}
-use Rattle.survey.specs.declared.Answer as survey
+use Rattle.survey.specs.Report as survey
 use Rattle.survey.specs.Survey.{Surveyed}
 use Rattle.survey.specs.Correction.{Corrected}
 use Rattle.level.specs.Signed.{Small, SmallRefusal, signed_refusal}

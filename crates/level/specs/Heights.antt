@@ -1,7 +1,7 @@
 -- What the adjustment answers, with the numbers as int64, beside what the lent heights then hold.
 -- Assumes nothing.
 use Rattle.std.specs.Prelude.{List, ℤ, pos}
-use Rattle.adjust.specs.declared.Adjusted as adjust
+use Rattle.adjust.specs.Answers as adjust
 use Rattle.adjust.specs.Call.{Given}
 use Rattle.level.specs.Signed.{Small, SmallRefusal, signed_refusal}
 use Rattle.level.specs.declared.Adjusted.{Adjusted}

@@ -1,7 +1,7 @@
 -- What the three lists answer, with the numbers as int64, beside what the lent output then holds.
 -- Assumes nothing.
 use Rattle.std.specs.Prelude.{List, ℤ, pos}
-use Rattle.lists.specs.declared.Listed as lists
+use Rattle.lists.specs.Listing as lists
 use Rattle.lists.specs.Listing.{Listing}
 use Rattle.level.specs.Signed.{Small, SmallRefusal, signed_refusal}
 use Rattle.level.specs.declared.Listed.{Listed}

@@ -4,7 +4,7 @@ use Rattle.std.specs.Prelude.{false, ℤ, pos, Float}
 use Rattle.std.specs.Float.{fin}
 use Rattle.rates.specs.declared.Rate.{Rate}
 use Rattle.rates.specs.declared.Rate.TheVariants.{PerKm, Withdrawn}
-use Rattle.rates.specs.declared.RateAnswer.{RateAnswer}
+use Rattle.rates.specs.Rates.{RateAnswer}
 use Rattle.level.specs.Signed.{Small, SmallRefusal, signed_refusal}
 use Rattle.level.specs.declared.Rated.{Rated}
 

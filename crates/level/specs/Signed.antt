@@ -1,9 +1,8 @@
 -- The answers of the public calls with their numbers as int64, beside what the lent buffers then hold.
 -- Assumes nothing.
 use Rattle.std.specs.Prelude.{ℕ, ◌<◌, ◌^◌, List, ℤ, pos}
-use Rattle.book.specs.declared.Refusal.{Refusal}
+use Rattle.book.specs.Refusals.{Told}
 use Rattle.file.specs.Read as file
-use Rattle.file.specs.declared.ReadAnswer as read
 use Rattle.level.specs.declared.ReadAnswer.{ReadAnswer}
 use Rattle.level.specs.declared.SignedRefusal.{SignedRefusal}
 
@@ -12,14 +11,14 @@ abbrev pub Small : ℕ → Type 0
 Small n = n < 2 ^ 63
 
 -- what C sees of a refusal: it is taken apart here, and nowhere else
-pub record SmallRefusal (r : Refusal) : Type 0 where
+pub record SmallRefusal (r : Told) : Type 0 where
   pub number : Small r.number
   pub place : Small r.place
 
-abbrev pub signed_refusal : Refusal → SignedRefusal
+abbrev pub signed_refusal : Told → SignedRefusal
 signed_refusal r = record { number = pos r.number; place = pos r.place }
 
-pub record SmallRead (a : read.ReadAnswer) : Type 0 where
+pub record SmallRead (a : file.ReadAnswer) : Type 0 where
   pub refusal : SmallRefusal a.refusal
   pub version : Small a.version
   pub b : Small a.b
@@ -27,7 +26,7 @@ pub record SmallRead (a : read.ReadAnswer) : Type 0 where
   pub h : Small a.h
   pub n : Small a.n
 
-unfoldable pub signed_read : read.ReadAnswer → ReadAnswer
+unfoldable pub signed_read : file.ReadAnswer → ReadAnswer
 signed_read a =
     let r = signed_refusal a.refusal in
     record {

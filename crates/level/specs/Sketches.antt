@@ -1,7 +1,7 @@
 -- What the sketch answers, with the numbers as int64, beside what the lent outputs then hold.
 -- Assumes nothing.
 use Rattle.std.specs.Prelude.{pos}
-use Rattle.junctions.specs.declared.Sketched as junctions
+use Rattle.junctions.specs.Call as junctions
 use Rattle.junctions.specs.Call.{Lists, Drawing}
 use Rattle.level.specs.Signed.{Small, SmallRefusal, signed_refusal}
 use Rattle.level.specs.declared.Sketched.{Sketched}

@@ -1,7 +1,7 @@
 -- What the writer answers, with the numbers as int64, beside what the lent file then holds.
 -- Assumes nothing.
 use Rattle.std.specs.Prelude.{List, ℕ, pos}
-use Rattle.writer.specs.declared.Written as writer
+use Rattle.writer.specs.Write as writer
 use Rattle.writer.specs.Write.{Writing}
 use Rattle.level.specs.Signed.{Small, SmallRefusal, signed_refusal}
 use Rattle.level.specs.declared.Written.{Written}

@@ -3,14 +3,22 @@
 
 #![tactic(auto)]
 
-ghost use Rattle.std.specs.Prelude.{◌≡◌};
+ghost use Rattle.std.specs.Prelude.{◌≡◌, Ok};
 ghost use Rattle.book.specs.Lent.{lent};
 ghost use Rattle.file.specs.Read.{read_of};
 ghost use Rattle.writer.specs.Write.{write_of};
 ghost use Rattle.survey.specs.Survey.{survey_of};
 ghost use Rattle.survey.specs.Correction.{rerun_of, withdraw_of};
 ghost use Rattle.rates.specs.Rates.{rate_answer};
-ghost use Rattle.level.specs.Signed.{SmallRefusal, signed_refusal, SmallRead, signed_read, read_now, of_read};
+ghost use Rattle.book.specs.Refusals.{told_of};
+ghost use Rattle.file.specs.Read as file;
+ghost use Rattle.writer.specs.Write as writer;
+ghost use Rattle.survey.specs.Report as survey;
+ghost use Rattle.lists.specs.Listing as lists;
+ghost use Rattle.junctions.specs.Call as sketch;
+ghost use Rattle.adjust.specs.Answers as adjust;
+ghost use Rattle.rates.specs.Rates as rates;
+ghost use Rattle.level.specs.Signed.{Small, SmallRefusal, signed_refusal, SmallRead, signed_read, read_now, of_read};
 ghost use Rattle.level.specs.Writings.{SmallWritten, signed_written, writing_now, of_writing};
 ghost use Rattle.level.specs.Answers.{SmallAnswer, signed_answer, survey_now, of_survey, correction_now, of_correction};
 ghost use Rattle.lists.specs.Listing.{listing_of, listings_of};
@@ -22,8 +30,11 @@ ghost use Rattle.level.specs.Rating.{SmallRate, signed_rate};
 ghost use Rattle.junctions.specs.Call.{lists, sketch_call};
 ghost use Rattle.level.specs.Sketches.{SmallSketched, signed_sketched, sketch_now, of_sketch};
 
-use book::Refusal;
-use rates::{Rate, RateAnswer};
+use book::Book;
+use book::refusal::Refusal;
+use junctions::Sizes;
+use rates::{LineRate, Rate};
+use table::Found;
 
 // A refusal, its numbers as C has them.
 #[derive(Drop)]
@@ -33,12 +44,12 @@ pub struct SignedRefusal {
 }
 
 fn signed_refusal(r: Refusal) -> SignedRefusal
-    requires { SmallRefusal r }
-    ensures { result ≡ signed_refusal r }
+    requires { SmallRefusal (told_of r) }
+    ensures { result ≡ signed_refusal (told_of r) }
 {
     SignedRefusal {
-        number: signed::signed_count(r.number),
-        place: signed::signed_count(r.place),
+        number: signed::signed_count(r.number()),
+        place: signed::signed_count(r.place()),
     }
 }
 
@@ -55,20 +66,32 @@ pub struct ReadAnswer {
     pub n: i64,
 }
 
-fn read_answer(a: file::ReadAnswer) -> ReadAnswer
-    requires { SmallRead a }
-    ensures { result ≡ signed_read a }
+fn read_answer(a: Result<Book, Refusal>) -> ReadAnswer
+    requires { SmallRead (file.answer_of a) }
+    ensures { result ≡ signed_read (file.answer_of a) }
 {
-    let refusal = a.refusal;
-    let r = signed_refusal(refusal);
-    ReadAnswer {
-        number: r.number,
-        place: r.place,
-        version: signed::signed_count(a.version),
-        b: signed::signed_count(a.b),
-        t: signed::signed_count(a.t),
-        h: signed::signed_count(a.h),
-        n: signed::signed_count(a.n),
+    match a {
+        Ok(book) => ReadAnswer {
+            number: 0,
+            place: 0,
+            version: signed::signed_count(book.version),
+            b: signed::signed_count(book.marks),
+            t: signed::signed_count(book.tolerance),
+            h: signed::signed_count(book.held),
+            n: signed::signed_count(book.lines),
+        },
+        Err(r) => {
+            let r = signed_refusal(r);
+            ReadAnswer {
+                number: r.number,
+                place: r.place,
+                version: 0,
+                b: 0,
+                t: 0,
+                h: 0,
+                n: 0,
+            }
+        }
     }
 }
 
@@ -89,16 +112,24 @@ pub struct Written {
     pub bytes: i64,
 }
 
-fn write_answer(a: writer::Written) -> Written
-    requires { SmallWritten a }
-    ensures { result ≡ signed_written a }
+fn write_answer(a: Result<usize, Refusal>) -> Written
+    requires { SmallWritten (writer.answer_of a) }
+    ensures { result ≡ signed_written (writer.answer_of a) }
 {
-    let refusal = a.refusal;
-    let r = signed_refusal(refusal);
-    Written {
-        number: r.number,
-        place: r.place,
-        bytes: signed::signed_count(a.bytes),
+    match a {
+        Ok(bytes) => Written {
+            number: 0,
+            place: 0,
+            bytes: signed::signed_count(bytes),
+        },
+        Err(r) => {
+            let r = signed_refusal(r);
+            Written {
+                number: r.number,
+                place: r.place,
+                bytes: 0,
+            }
+        }
     }
 }
 
@@ -127,17 +158,26 @@ pub struct Answer {
     pub pieces: i64,
 }
 
-fn survey_answer(a: survey::Answer) -> Answer
-    requires { SmallAnswer a }
-    ensures { result ≡ signed_answer a }
+fn survey_answer(a: Result<Found, Refusal>) -> Answer
+    requires { SmallAnswer (survey.answer_of a) }
+    ensures { result ≡ signed_answer (survey.answer_of a) }
 {
-    let refusal = a.refusal;
-    let r = signed_refusal(refusal);
-    Answer {
-        number: r.number,
-        place: r.place,
-        rows: signed::signed_count(a.rows),
-        pieces: signed::signed_count(a.pieces),
+    match a {
+        Ok(found) => Answer {
+            number: 0,
+            place: 0,
+            rows: signed::signed_count(found.count),
+            pieces: signed::signed_count(found.pieces),
+        },
+        Err(r) => {
+            let r = signed_refusal(r);
+            Answer {
+                number: r.number,
+                place: r.place,
+                rows: 0,
+                pieces: 0,
+            }
+        }
     }
 }
 
@@ -198,16 +238,24 @@ pub struct Listed {
     pub entries: i64,
 }
 
-fn listing_answer(a: lists::Listed) -> Listed
-    requires { SmallListed a }
-    ensures { result ≡ signed_listed a }
+fn listing_answer(a: Result<usize, Refusal>) -> Listed
+    requires { SmallListed (lists.answer_of a) }
+    ensures { result ≡ signed_listed (lists.answer_of a) }
 {
-    let refusal = a.refusal;
-    let r = signed_refusal(refusal);
-    Listed {
-        number: r.number,
-        place: r.place,
-        entries: signed::signed_count(a.entries),
+    match a {
+        Ok(entries) => Listed {
+            number: 0,
+            place: 0,
+            entries: signed::signed_count(entries),
+        },
+        Err(r) => {
+            let r = signed_refusal(r);
+            Listed {
+                number: r.number,
+                place: r.place,
+                entries: 0,
+            }
+        }
     }
 }
 
@@ -269,19 +317,30 @@ pub struct Sketched {
     pub run: i64,
 }
 
-fn sketch_answer(a: junctions::Sketched) -> Sketched
-    requires { SmallSketched a }
-    ensures { result ≡ signed_sketched a }
+fn sketch_answer(a: Result<Sizes, Refusal>) -> Sketched
+    requires { SmallSketched (sketch.answer_of a) }
+    ensures { result ≡ signed_sketched (sketch.answer_of a) }
 {
-    let refusal = a.refusal;
-    let r = signed_refusal(refusal);
-    Sketched {
-        number: r.number,
-        place: r.place,
-        links: signed::signed_count(a.links),
-        spurs: signed::signed_count(a.spurs),
-        loops: signed::signed_count(a.loops),
-        run: signed::signed_count(a.run),
+    match a {
+        Ok(sizes) => Sketched {
+            number: 0,
+            place: 0,
+            links: signed::signed_count(sizes.links),
+            spurs: signed::signed_count(sizes.spurs),
+            loops: signed::signed_count(sizes.loops),
+            run: signed::signed_count(sizes.run),
+        },
+        Err(r) => {
+            let r = signed_refusal(r);
+            Sketched {
+                number: r.number,
+                place: r.place,
+                links: 0,
+                spurs: 0,
+                loops: 0,
+                run: 0,
+            }
+        }
     }
 }
 
@@ -313,16 +372,24 @@ pub struct Adjusted {
     pub sweeps: i64,
 }
 
-fn adjust_answer(a: adjust::Adjusted) -> Adjusted
-    requires { SmallAdjusted a }
-    ensures { result ≡ signed_adjusted a }
+fn adjust_answer(a: Result<usize, Refusal>) -> Adjusted
+    requires { SmallAdjusted (adjust.answer_by a) }
+    ensures { result ≡ signed_adjusted (adjust.answer_by a) }
 {
-    let refusal = a.refusal;
-    let r = signed_refusal(refusal);
-    Adjusted {
-        number: r.number,
-        place: r.place,
-        sweeps: signed::signed_count(a.sweeps),
+    match a {
+        Ok(sweeps) => Adjusted {
+            number: 0,
+            place: 0,
+            sweeps: signed::signed_count(sweeps),
+        },
+        Err(r) => {
+            let r = signed_refusal(r);
+            Adjusted {
+                number: r.number,
+                place: r.place,
+                sweeps: 0,
+            }
+        }
     }
 }
 
@@ -353,29 +420,45 @@ pub struct Rated {
     pub rate: f64,
 }
 
-fn rate_answer(a: RateAnswer) -> Rated
-    requires { SmallRate a }
-    ensures { result ≡ signed_rate a }
+fn rate_answer(a: Result<LineRate, Refusal>) -> Rated
+    requires { SmallRate (rates.answer_of a) }
+    ensures { result ≡ signed_rate (rates.answer_of a) }
 {
-    let refusal = a.refusal;
-    let r = signed_refusal(refusal);
-    let number = r.number;
-    let place = r.place;
-    let line = signed::signed_count(a.line);
-    let correction = a.correction;
-    let rate = a.rate;
-    match rate {
-        Rate::PerKm(x) => Rated {
-            number,
-            place,
+    match a {
+        Ok(its) => line_rate(its),
+        Err(r) => {
+            let r = signed_refusal(r);
+            Rated {
+                number: r.number,
+                place: r.place,
+                line: 0,
+                correction: 0,
+                withdrawn: 0,
+                rate: 0.0,
+            }
+        }
+    }
+}
+
+// Of a line that there is.
+fn line_rate(its: LineRate) -> Rated
+    requires { Small its.line }
+    ensures { result ≡ signed_rate (rates.answer_of (Ok its)) }
+{
+    let line = signed::signed_count(its.line);
+    let correction = its.correction;
+    match its.rate {
+        Rate::PerKm(rate) => Rated {
+            number: 0,
+            place: 0,
             line,
             correction,
             withdrawn: 0,
-            rate: x,
+            rate,
         },
         Rate::Withdrawn => Rated {
-            number,
-            place,
+            number: 0,
+            place: 0,
             line,
             correction,
             withdrawn: 1,

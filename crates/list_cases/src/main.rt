@@ -7,6 +7,7 @@
 use book::Book;
 use book::held::Held;
 use book::line::Line;
+use book::refusal::Refusal;
 use cases::told::Told;
 use cases::{case, told};
 use std::fmt::Display;
@@ -21,8 +22,6 @@ const STANDING: usize = 2 * Line::WORDS + Line::STANDING;
 // No book has more loops than lines, so that this number is past the last of any.
 const PAST_ALL: usize = Book::MAX_LINES + 1;
 
-const NO_SUCH_LOOP: usize = 8;
-
 // A class that is none in either version.
 const NO_CLASS: i64 = 5;
 
@@ -32,11 +31,12 @@ const OUT_SPACE: usize = 300;
 fn put_listed(
     to: &mut impl Write,
     name: impl Display + Drop,
-    a: lists::Listed,
+    answer: Result<usize, Refusal>,
     out: &[i64],
 ) -> io::Result<()> {
-    let r = a.refusal;
-    write!(to, "  {name}: {} {} {} |", r.number, r.place, a.entries)?;
+    write!(to, "  {name}:")?;
+    cases::put_answer(to, answer.map(|entries| [entries]))?;
+    to.write_all(b" |")?;
     cases::show_numbers(to, out)?;
     to.write_all(b"\n")
 }
@@ -50,10 +50,9 @@ fn list_loop(
     lines: &[i64],
     out: &mut [i64],
 ) -> io::Result<bool> {
-    let a = lists::listing(told.version, told.b, told.t, held, lines, number, out);
-    put_listed(to, format_args!("loop {number}"), a, out)?;
-    let r = a.refusal;
-    Ok(r.number != NO_SUCH_LOOP)
+    let answer = lists::listing(told.version, told.b, told.t, held, lines, number, out);
+    put_listed(to, format_args!("loop {number}"), answer, out)?;
+    Ok(answer != Err(Refusal::NotThere))
 }
 
 // Every loop from the first, and the number past the last.
@@ -79,8 +78,8 @@ fn all_loops(
     lines: &[i64],
     out: &mut [i64],
 ) -> io::Result<()> {
-    let a = lists::listings(told.version, told.b, told.t, held, lines, out);
-    put_listed(to, "all loops", a, out)
+    let answer = lists::listings(told.version, told.b, told.t, held, lines, out);
+    put_listed(to, "all loops", answer, out)
 }
 
 fn list_loops(
@@ -103,8 +102,8 @@ fn not_checked(
     lines: &[i64],
     out: &mut [i64],
 ) -> io::Result<()> {
-    let a = lists::not_checked(told.version, told.b, told.t, held, lines, out);
-    put_listed(to, "not checked", a, out)
+    let answer = lists::not_checked(told.version, told.b, told.t, held, lines, out);
+    put_listed(to, "not checked", answer, out)
 }
 
 fn without_it(
@@ -221,13 +220,14 @@ fn one_case(to: &mut impl Write, case: &[u8]) -> io::Result<()> {
     let mut held = [0i64; Book::HELD_WORDS];
     let mut lines = [0i64; Book::LINE_WORDS];
     let mut out = [0i64; OUT_SPACE];
-    let book = file::read(case::file(case, NUMBERS), &mut held, &mut lines);
-    let h = told::words_of(book.h, Held::WORDS, Book::HELD_WORDS);
-    let n = told::words_of(book.n, Line::WORDS, Book::LINE_WORDS);
+    let answer = file::read(case::file(case, NUMBERS), &mut held, &mut lines);
+    let book = answer.unwrap_or(told::NOTHING);
+    let h = told::words_of(book.held, Held::WORDS, Book::HELD_WORDS);
+    let n = told::words_of(book.lines, Line::WORDS, Book::LINE_WORDS);
     let lent = case::number(case, 0).min(OUT_SPACE);
     run(
         to,
-        Told::read(book.version, book.b, book.t),
+        Told::read(book.version, book.marks, book.tolerance),
         &mut held[..h],
         &mut lines[..n],
         &mut out[..lent],

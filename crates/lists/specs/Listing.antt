@@ -1,22 +1,31 @@
 -- What the listing of one loop, and of all loops, answers, and what the lent output then holds: refusals 3, 4, 6, 7, 8 and 10.
 -- Assumes nothing.
-use Rattle.std.specs.Prelude.{cond, List, ◌++◌, map, ℕ, ◌-◌, ltb, length, drop, ℤ, pos, nat_abs}
+use Rattle.std.specs.Prelude.{cond, List, ◌++◌, map, ℕ, ◌-◌, ltb, length, drop, ℤ, pos, nat_abs, Result, Ok, Err}
 use Rattle.laws.specs.Tests.{out_z}
 use Rattle.book.specs.Lent.{Lent}
 use Rattle.book.specs.Test.{refusal, no_refusal, test_of, if_good}
-use Rattle.book.specs.declared.Refusal.{Refusal}
+use Rattle.book.specs.Refusals.{Told, told_of}
+use Rattle.book.specs.declared.refusal.Refusal.{Refusal}
 use Rattle.book.specs.declared.Book.{Book}
 use Rattle.loops.specs.Loops.{loop_at}
 use Rattle.loops.specs.Row.{listed, listings}
 use Rattle.loops.specs.Report.{loops_of}
-use Rattle.lists.specs.declared.Listed.{Listed}
 
--- "a listing its entries"
-abbrev pub refused_with : Refusal → Listed
+-- "An answer is a number .., a place .. and the counts its call fills: .. a listing its entries"
+pub record Listed : Type 0 where
+  pub refusal : Told
+  pub entries : ℕ
+
+-- "After a refusal the counts are 0"
+abbrev pub refused_with : Told → Listed
 refused_with r = record { refusal = r; entries = 0 }
 
 abbrev pub entered : ℕ → Listed
 entered entries = record { refusal = no_refusal; entries = entries }
+
+abbrev pub answer_of : Result ℕ Refusal → Listed
+answer_of (Ok entries) = entered entries
+answer_of (Err r) = refused_with (told_of r)
 
 -- the answer, and the output after the call
 pub record Listing : Type 0 where

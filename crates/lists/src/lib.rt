@@ -4,46 +4,17 @@
 
 ghost use Rattle.std.specs.Prelude.{◌≡◌};
 ghost use Rattle.book.specs.Lent.{lent};
-ghost use Rattle.book.specs.Test.{refusal};
-ghost use Rattle.lists.specs.Listing.{listing, refused_with, entered, listing_of, listings_of};
+ghost use Rattle.lists.specs.Listing.{listing, answer_of, listing_of, listings_of};
 ghost use Rattle.lists.specs.NotChecked.{not_checked_of};
 
 mod loop_lists;
 pub mod run;
 pub mod watch;
 
-use book::{Refusal, Tested};
+use book::refusal::Refusal;
 
-// What a listing answers.
-#[derive(Clone, Copy)]
-pub struct Listed {
-    pub refusal: Refusal,
-    pub entries: usize,
-}
-
-pub(crate) fn refuse(number: usize, place: usize) -> Listed
-    ensures { result ≡ refused_with (refusal number place) }
-{
-    refused(Refusal::new(number, place))
-}
-
-fn refused(refusal: Refusal) -> Listed
-    ensures { result ≡ refused_with refusal }
-{
-    Listed {
-        refusal,
-        entries: 0,
-    }
-}
-
-pub(crate) fn entered(entries: usize) -> Listed
-    ensures { result ≡ entered entries }
-{
-    let refusal = Refusal::none();
-    Listed { refusal, entries }
-}
-
-// The lines of one loop of the book, by the loop's number from 1, its closing line first. A refusal leaves the output as it was.
+// The lines of one loop of the book, by the loop's number from 1, its closing line first, and how many there are. A refusal
+// leaves the output as it was.
 pub fn listing(
     version: i64,
     b: i64,
@@ -52,14 +23,12 @@ pub fn listing(
     lines: &[i64],
     number: i64,
     out: &mut [i64],
-) -> Listed
-    ensures { listing result out.new
+) -> Result<usize, Refusal>
+    ensures { listing (answer_of result) out.new
         ≡ listing_of (lent version b t held.now lines.now) number out.old }
 {
-    match book::test(version, b, t, held, lines) {
-        Tested::Refused(r) => refused(r),
-        Tested::Good(book) => loop_lists::listing_good(book, lines, number, out),
-    }
+    let book = book::test(version, b, t, held, lines)?;
+    loop_lists::listing_good(book, lines, number, out)
 }
 
 // The lines of all loops of the book, one loop after the other, each as its listing has them; the count of a loop's lines is the second
@@ -71,14 +40,12 @@ pub fn listings(
     held: &[i64],
     lines: &[i64],
     out: &mut [i64],
-) -> Listed
-    ensures { listing result out.new
+) -> Result<usize, Refusal>
+    ensures { listing (answer_of result) out.new
         ≡ listings_of (lent version b t held.now lines.now) out.old }
 {
-    match book::test(version, b, t, held, lines) {
-        Tested::Refused(r) => refused(r),
-        Tested::Good(book) => loop_lists::listings_good(book, lines, out),
-    }
+    let book = book::test(version, b, t, held, lines)?;
+    loop_lists::listings_good(book, lines, out)
 }
 
 // The standing lines that no closed circuit passes, by rising number. A refusal leaves the output as it was.
@@ -89,12 +56,10 @@ pub fn not_checked(
     held: &[i64],
     lines: &[i64],
     out: &mut [i64],
-) -> Listed
-    ensures { listing result out.new
+) -> Result<usize, Refusal>
+    ensures { listing (answer_of result) out.new
         ≡ not_checked_of (lent version b t held.now lines.now) out.old }
 {
-    match book::test(version, b, t, held, lines) {
-        Tested::Refused(r) => refused(r),
-        Tested::Good(book) => watch::not_checked_good(book, lines, out),
-    }
+    let book = book::test(version, b, t, held, lines)?;
+    watch::not_checked_good(book, lines, out)
 }

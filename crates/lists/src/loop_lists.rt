@@ -1,21 +1,27 @@
 // The lines of one loop of a tested book, and of all its loops, read off the table of loops.
 ghost use Rattle.std.specs.Prelude.{◌≡◌};
 ghost use Rattle.book.specs.Good.{GoodLines};
-ghost use Rattle.lists.specs.Listing.{listing, listing_good, listings_good};
+ghost use Rattle.lists.specs.Listing.{answer_of, listing, listing_good, listings_good};
 
-use crate::{Listed, run};
+use crate::run;
 use book::Book;
+use book::refusal::Refusal;
 
-// Refusal 8, or the lines of the loop of this number.
-pub(crate) fn listing_good(book: Book, lines: &[i64], number: i64, out: &mut [i64]) -> Listed
+// The lines of the loop of this number, or refusal 8.
+pub(crate) fn listing_good(
+    book: Book,
+    lines: &[i64],
+    number: i64,
+    out: &mut [i64],
+) -> Result<usize, Refusal>
     requires { GoodLines book lines.now }
-    ensures { listing result out.new ≡ listing_good book lines.now number out.old }
+    ensures { listing (answer_of result) out.new ≡ listing_good book lines.now number out.old }
 {
     let mut starts = [0u64; table::STARTS];
     let mut runs = [0u16; table::RUNS];
     let found = table::find_loops(book, lines, &mut starts[..], &mut runs[..]);
     if signed::outside(number, 1, signed::signed_count(found.count)) {
-        return crate::refuse(8, 0);
+        return Err(Refusal::NotThere);
     }
     let i = signed::magnitude(number) - 1;
     let begin = starts[i] as usize;
@@ -24,9 +30,9 @@ pub(crate) fn listing_good(book: Book, lines: &[i64], number: i64, out: &mut [i6
 }
 
 // The lines of all loops, one loop after the other.
-pub(crate) fn listings_good(book: Book, lines: &[i64], out: &mut [i64]) -> Listed
+pub(crate) fn listings_good(book: Book, lines: &[i64], out: &mut [i64]) -> Result<usize, Refusal>
     requires { GoodLines book lines.now }
-    ensures { listing result out.new ≡ listings_good book lines.now out.old }
+    ensures { listing (answer_of result) out.new ≡ listings_good book lines.now out.old }
 {
     let mut starts = [0u64; table::STARTS];
     let mut runs = [0u16; table::RUNS];

@@ -1,9 +1,9 @@
 // A run of the table as it is listed: its lines, each with its sense.
 ghost use Rattle.std.specs.Prelude.{◌≡◌, ◌++◌, map, ◌≤◌, ◌<◌, length, drop};
-ghost use Rattle.lists.specs.Listing.{listing, list_of};
+ghost use Rattle.lists.specs.Listing.{answer_of, listing, list_of};
 ghost use Rattle.lists.specs.Run.{code_limit, listed_by, Coded};
 
-use crate::Listed;
+use book::refusal::Refusal;
 
 // The number of the line that a code runs, positive in its own sense, else negative.
 fn listed_by(code: u16) -> i64
@@ -15,6 +15,7 @@ fn listed_by(code: u16) -> i64
 }
 
 // The lines of a run, from place 0 of out on.
+// Beside watch::list_numbers: it is public, and one over both by a closure would be a third.
 pub fn list_run(run: &[u16], out: &mut [i64])
     requires fact_1 { Coded run.now }
     requires fact_2 { length run.now ≤ length out.old }
@@ -25,14 +26,14 @@ pub fn list_run(run: &[u16], out: &mut [i64])
     }
 }
 
-// Refusal 10, or the lines of a run.
-pub(crate) fn write_run(run: &[u16], out: &mut [i64]) -> Listed
+// The lines of a run, or refusal 10.
+pub(crate) fn write_run(run: &[u16], out: &mut [i64]) -> Result<usize, Refusal>
     requires { Coded run.now }
-    ensures { listing result out.new ≡ list_of (map listed_by run.now) out.old }
+    ensures { listing (answer_of result) out.new ≡ list_of (map listed_by run.now) out.old }
 {
     if out.len() < run.len() {
-        return crate::refuse(10, 0);
+        return Err(Refusal::NoRoom);
     }
     list_run(run, out);
-    crate::entered(run.len())
+    Ok(run.len())
 }

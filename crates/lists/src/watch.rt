@@ -1,12 +1,12 @@
 // "Say what you are not watching": the not-checked list of a tested book, in tables of its own on the stack.
 ghost use Rattle.std.specs.Prelude.{◌≡◌, ◌++◌, map, pos, ◌≤◌, length, drop};
 ghost use Rattle.book.specs.Good.{GoodLines};
-ghost use Rattle.lists.specs.Listing.{listing, list_of};
+ghost use Rattle.lists.specs.Listing.{answer_of, listing, list_of};
 ghost use Rattle.lists.specs.NotChecked.{unchecked_of};
 ghost use Rattle.lists.specs.Numbers.{Numbers};
 
-use crate::Listed;
 use book::Book;
+use book::refusal::Refusal;
 
 // The line numbers of a list, from place 0 of out on.
 fn list_numbers(list: &[u64], out: &mut [i64])
@@ -19,23 +19,23 @@ fn list_numbers(list: &[u64], out: &mut [i64])
     }
 }
 
-// Refusal 10, or the list.
-fn write_list(list: &[u64], out: &mut [i64]) -> Listed
+// The list, or refusal 10.
+fn write_list(list: &[u64], out: &mut [i64]) -> Result<usize, Refusal>
     requires { Numbers list.now }
-    ensures { listing result out.new ≡ list_of (map pos list.now) out.old }
+    ensures { listing (answer_of result) out.new ≡ list_of (map pos list.now) out.old }
 {
     let count = list.len();
     if out.len() < count {
-        return crate::refuse(10, 0);
+        return Err(Refusal::NoRoom);
     }
     list_numbers(list, out);
-    crate::entered(count)
+    Ok(count)
 }
 
 // The not-checked list of a tested book.
-pub fn not_checked_good(book: Book, lines: &[i64], out: &mut [i64]) -> Listed
+pub fn not_checked_good(book: Book, lines: &[i64], out: &mut [i64]) -> Result<usize, Refusal>
     requires { GoodLines book lines.now }
-    ensures { listing result out.new ≡ list_of (unchecked_of book.marks lines.now) out.old }
+    ensures { listing (answer_of result) out.new ≡ list_of (unchecked_of book.marks lines.now) out.old }
 {
     let mut ends = [0u64; prepare::HALVES];
     let mut head = [0u64; prepare::MARKS];

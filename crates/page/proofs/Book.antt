@@ -14,7 +14,7 @@ use Rattle.table.specs.Filled.{found_in}
 use Rattle.table.specs.declared.Found.{Found}
 use Rattle.lists.specs.Listing.{Listing, listing, entered, list_of}
 use Rattle.lists.specs.NotChecked.{unchecked_of}
-use Rattle.lists.specs.declared.Listed.{Listed}
+use Rattle.lists.specs.Listing.{Listed}
 use Rattle.lists.proofs.Lists.{list_whole}
 use Rattle.lists.proofs.Unwatched.{few_listed}
 use Rattle.text.specs.Put.{Put}
@@ -37,6 +37,10 @@ module _ (k : Book) (ls : List ℤ) (g : GoodLines k ls) where
     both : listing r out' ≡ listing (entered (length (unchecked_of k.marks ls)))
         (unchecked_of k.marks ls ++ drop (length (unchecked_of k.marks ls)) out)
     both = e ∙ sym (list_whole (unchecked_of k.marks ls) out (omega (arith, few_listed k ls g)))
+
+    -- nothing is refused
+    pub none_refused : r.refusal.number ≡ 0
+    none_refused = ap (λ (l : Listing). l.answer.refusal.number) both
 
     entries_are : r.entries ≡ length (unchecked_of k.marks ls)
     entries_are = ap (λ (l : Listing). l.answer.entries) both

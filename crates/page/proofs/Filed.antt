@@ -14,14 +14,19 @@ use Rattle.book.specs.Held.{held_words}
 use Rattle.book.specs.Limits.{most_lines, most_held}
 use Rattle.book.specs.Test.{test_of, if_good}
 use Rattle.book.specs.declared.Book.{Book}
-use Rattle.book.specs.declared.Tested.{Tested}
-use Rattle.book.specs.declared.Tested.TheVariants.{Good, Refused}
+use Rattle.book.specs.Test.{Tested}
+use Rattle.book.specs.Test.{Good, Refused, tested}
+use Rattle.std.specs.Prelude.{Result, Ok, Err}
+use Rattle.book.specs.Refusals.{told_of}
+use Rattle.book.specs.declared.refusal.Refusal.{Refusal}
+use Rattle.book.proofs.Refusals.{told_from_1}
 use Rattle.book.proofs.Goods.{tested_numbered, good_lines}
-use Rattle.file.specs.Read.{Outcome, answered, refused_with, head_of, lines_of, book_in, room_of, body_of, after_head, read_of}
+use Rattle.file.specs.Read.{Outcome, answered, answer_of, done, refused_with}
+use Rattle.file.specs.Read.{head_of, lines_of, book_in, room_of, body_of, after_head, read_of}
 use Rattle.file.specs.Owed.{BookRead}
-use Rattle.file.specs.declared.Head as head
-use Rattle.file.specs.declared.Head.{Head}
-use Rattle.file.specs.declared.ReadAnswer.{ReadAnswer}
+use Rattle.file.specs.Read as head
+use Rattle.file.specs.Read.{Head}
+use Rattle.file.specs.Read.{ReadAnswer}
 use Rattle.file.proofs.Entries.{lines_length}
 use Rattle.file.proofs.Heads.{head_states, head_numbered}
 use Rattle.file.proofs.Reading.{zero_is_read}
@@ -52,7 +57,7 @@ module _ (file : List ℕ) (held lines : List ℤ) (held_room : most_held * held
   )
 
   body_text : (text : BookText) (k : Book) → k.held ≤ most_held → k.lines ≤ most_lines
-      → read_text text (body_of file k held lines) ≡ stated_text text file (head.TheVariants.States k)
+      → read_text text (body_of file k held lines) ≡ stated_text text file (head.States k)
   unfolding read_text body_of stated_text
   body_text text k h n = go (test_of (book_in file k)) refl
     where
@@ -70,10 +75,10 @@ module _ (file : List ℕ) (held lines : List ℤ) (held_room : most_held * held
   text_read text = go (head_of file) refl
     where
       go : (o : Head) → head_of file ≡ o → read_text text (after_head file held lines o) ≡ stated_text text file o
-      go (head.TheVariants.Refused number) e =
+      go (head.Refused number) e =
           let w = head_numbered file number e in
           rw (ne_eqb number 0 (λ z. omega (arith, w.0)))
-      go (head.TheVariants.States k) e = let s = head_states file k e in body_text text k s.few_held s.few_lines
+      go (head.States k) e = let s = head_states file k e in body_text text k s.few_held s.few_lines
 
   -- what a call gave
   module _ (o : Outcome) (e : o ≡ read_of file held lines) where
@@ -109,3 +114,9 @@ module _ (file : List ℕ) (held lines : List ℤ) (held_room : most_held * held
 
       pub book_filed : Filed file o.lines (Good (book_read o.answer))
       book_filed = record { good = good_read; its_text = read_text_lem }
+
+  -- as the code has it
+  pub read_filed : (x : Result Book Refusal) (held' lines' : List ℤ) → answered held' lines' (answer_of x) ≡ read_of file held lines
+      → Filed file lines' (tested x)
+  read_filed (Ok k) held' lines' e = book_filed (answered held' lines' (done k)) e refl
+  read_filed (Err r) held' lines' e = refused_filed (answered held' lines' (refused_with (told_of r))) e (told_from_1 r)

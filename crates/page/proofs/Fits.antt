@@ -14,7 +14,7 @@ use Rattle.book.specs.Held.{held_words}
 use Rattle.book.specs.Line.{line_words}
 use Rattle.book.specs.declared.Book.{Book}
 use Rattle.file.specs.Read.{Outcome, read_of}
-use Rattle.file.specs.declared.ReadAnswer.{ReadAnswer}
+use Rattle.file.specs.Read.{ReadAnswer}
 use Rattle.file.proofs.Reading.{ReadOrRefused, read_or_refused}
 use Rattle.network.specs.Standing.{standing}
 use Rattle.network.specs.Sound.{Sound}

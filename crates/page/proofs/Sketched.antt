@@ -21,7 +21,7 @@ use Rattle.links.proofs.Kept.{lines_total, total_all}
 use Rattle.links.proofs.EachLine.{as_many}
 use Rattle.links.proofs.Shapes.{link_drawn_way, spur_drawn_way, loop_drawn}
 use Rattle.junctions.specs.Call.{Lists, Drawing, lists_of, drawing, drawn, in_first_places, all_in_first_places, sketch_in, sketch_good}
-use Rattle.junctions.specs.declared.Sketched.{Sketched}
+use Rattle.junctions.specs.Call.{Sketched}
 use Rattle.text.specs.Put.{Put}
 use Rattle.text.specs.Sketch.{sketch_head_text}
 use Rattle.text.proofs.Puts.{◌then◌}
@@ -102,6 +102,10 @@ module _ (k : Book) (ls : List ℤ) (g : GoodLines k ls) where
 
     answer_is : r ≡ drawn its
     answer_is = ap (λ (d : Drawing). d.answer) all_written
+
+    -- nothing is refused
+    pub none_refused : r.refusal.number ≡ 0
+    none_refused = ap (λ (a : Sketched). a.refusal.number) answer_is
 
     -- the signed lines of all links, then of all spurs, then of all loops
     run_lies : LiesAt ((run_by its.links ++ run_by its.spurs) ++ run_by its.loops) out'.run 0

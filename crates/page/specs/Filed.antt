@@ -5,11 +5,11 @@ use Rattle.book.specs.Line.{line_words}
 use Rattle.book.specs.Good.{GoodLines}
 use Rattle.book.specs.Test.{test_of, if_good}
 use Rattle.book.specs.declared.Book.{Book}
-use Rattle.book.specs.declared.Tested.{Tested}
-use Rattle.book.specs.declared.Tested.TheVariants.{Good, Refused}
+use Rattle.book.specs.Test.{Tested}
+use Rattle.book.specs.Test.{Good, Refused}
 use Rattle.file.specs.Read.{head_of, held_of, lines_of, book_in}
-use Rattle.file.specs.declared.Head as head
-use Rattle.file.specs.declared.Head.{Head}
+use Rattle.file.specs.Read as head
+use Rattle.file.specs.Read.{Head}
 use Rattle.text.specs.Report.{refused_text}
 
 -- what is printed of a good book: of its version, its counts and its lines
@@ -19,8 +19,8 @@ BookText = Book → List ℤ → List ℕ
 -- of a file's book, by the test of every call: its text, or "for a refused file .. one line instead"
 unfoldable pub stated_text : BookText → List ℕ → Head → List ℕ
 unfolding refused_text test_of held_of lines_of
-stated_text text file (head.TheVariants.Refused number) = refused_text number 0
-stated_text text file (head.TheVariants.States k) =
+stated_text text file (head.Refused number) = refused_text number 0
+stated_text text file (head.States k) =
     if_good (test_of (book_in file k)) (λ r. refused_text r.number r.place)
     (λ _. text k (lines_of file k))
 

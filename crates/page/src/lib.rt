@@ -8,6 +8,7 @@ ghost use Rattle.book.specs.Limits.{most_lines};
 ghost use Rattle.book.specs.Line.{line_words};
 ghost use Rattle.text.specs.Put.{Put};
 ghost use Rattle.book.specs.Good.{GoodLines};
+ghost use Rattle.book.specs.Test.{tested};
 ghost use Rattle.page.specs.Filed.{file_text, Filed};
 ghost use Rattle.page.specs.Page.{page_of};
 ghost use Rattle.page.specs.Sketch.{sketch_page_of};
@@ -17,10 +18,12 @@ mod loop_lines;
 mod sheet;
 mod sketch;
 
+use book::Book;
 use book::line::Line;
-use book::{Book, Tested};
+use book::refusal::Refusal;
 
 // What is printed of a file's book.
+// An enum: `text_of` of specs/ says by its cases what is printed.
 #[derive(Drop)]
 pub enum Printed {
     Report,
@@ -47,8 +50,8 @@ fn write(printed: Printed, file: &[u8], out: &mut [u8]) -> usize
 {
     let mut lines = [0i64; Book::LINE_WORDS];
     match read_book(file, &mut lines[..]) {
-        Tested::Refused(r) => text::refused_text(out, 0, r.number, r.place),
-        Tested::Good(book) => {
+        Err(r) => text::refused_text(out, 0, r.number(), r.place()),
+        Ok(book) => {
             let words = book.lines * Line::WORDS;
             put(printed, book, &lines[..words], out)
         }
@@ -66,21 +69,10 @@ fn put(printed: Printed, book: Book, lines: &[i64], out: &mut [u8]) -> usize
 }
 
 // The book of a file, whose lines go into the first places of `lines`; or its refusal. Heights have no place in what is printed.
-fn read_book(file: &[u8], lines: &mut [i64]) -> Tested
+fn read_book(file: &[u8], lines: &mut [i64]) -> Result<Book, Refusal>
     requires { most_lines * line_words ≤ length lines.old }
-    ensures { Filed file.now lines.new result }
+    ensures { Filed file.now lines.new (tested result) }
 {
     let mut held = [0i64; Book::HELD_WORDS];
-    let read = file::read(file, &mut held[..], lines);
-    let refusal = read.refusal;
-    if refusal.number != 0 {
-        return Tested::Refused(refusal);
-    }
-    Tested::Good(Book {
-        version: read.version,
-        marks: read.b,
-        tolerance: read.t,
-        held: read.h,
-        lines: read.n,
-    })
+    file::read(file, &mut held[..], lines)
 }

@@ -38,6 +38,7 @@ fn put_loop(lines: &[i64], run: &[u16], t: usize, number: usize, out: &mut [u8],
 }
 
 // The lines of all loops, from place at on. The answer is the place after them.
+// The lines are put in a for: of what a closure writes through out a proof knows nothing afterwards.
 pub(crate) fn put_loops(
     book: Book,
     lines: &[i64],

@@ -36,8 +36,10 @@ fn put_unchecked(book: Book, lines: &[i64], out: &mut [u8], at: usize) -> usize
     ensures { Put out.old out.new at result (not_checked_text (unchecked_of book.marks lines.now)) }
 {
     let mut list = [0i64; Book::MAX_LINES];
-    let listed = lists::watch::not_checked_good(book, lines, &mut list[..]);
-    let count = listed.entries;
+    let Ok(count) = lists::watch::not_checked_good(book, lines, &mut list[..]) else {
+        // The list has room for every line.
+        unreachable!()
+    };
     text::not_checked_text(out, at, &list[..count])
 }
 

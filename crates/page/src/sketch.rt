@@ -9,6 +9,7 @@ ghost use Rattle.page.specs.Entries.{entry_line, SomeEntered, EntriesPut};
 use book::Book;
 
 // What an entry is of. A loop is a self-closing one.
+// An enum: `entry_line` of specs/ says by its cases what an entry's line is.
 #[derive(Clone, Copy)]
 pub enum Kind {
     Link,
@@ -32,7 +33,7 @@ pub(crate) fn put_sketch(book: Book, lines: &[i64], out: &mut [u8]) -> usize
     let mut spurs = [0i64; junctions::ENTRIES_WORDS];
     let mut loops = [0i64; junctions::ENTRIES_WORDS];
     let mut run = [0i64; Book::MAX_LINES];
-    let s = junctions::sketch_good(
+    let drawn = junctions::sketch_good(
         book,
         lines,
         &mut links[..],
@@ -40,6 +41,10 @@ pub(crate) fn put_sketch(book: Book, lines: &[i64], out: &mut [u8]) -> usize
         &mut loops[..],
         &mut run[..],
     );
+    let Ok(s) = drawn else {
+        // The lists have room for every line.
+        unreachable!()
+    };
     let text = text::sketch::head_text(out, 0, book.marks, book.lines, s.links, s.spurs, s.loops);
     let head = Place { text, run: 0 };
     let after_links = put_entries(Kind::Link, &links[..], &run[..], s.links, head, out);

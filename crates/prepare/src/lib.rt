@@ -11,6 +11,7 @@ use book::Book;
 use book::line::Line;
 
 // The line of this number is drawn, if it stands: what ends has of its halves, and its place in the chains.
+// signed::same and no ==, of whose bits the goals of the return stay open.
 fn draw_line(
     e: &[i64],
     ends: &mut [u64],

@@ -18,7 +18,7 @@ use Rattle.book.specs.Test.{test_of}
 use Rattle.fields.specs.Heights.{Working}
 use Rattle.rates.specs.Rates.{first_high, heights_out}
 use Rattle.book.specs.declared.Book.{Book}
-use Rattle.book.specs.declared.Tested.TheVariants.{Good}
+use Rattle.book.specs.Test.{Good}
 use Rattle.book.proofs.Goods.{tested_good}
 use Rattle.fields.proofs.Setting.{past_end}
 

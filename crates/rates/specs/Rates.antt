@@ -1,6 +1,6 @@
 -- Document 01, "Adjustment": correction rates.
 -- Assumes nothing.
-use Rattle.std.specs.Prelude.{ℕ, ◌-◌, ◌≤◌, Bool, false, not, cond, List, ltb, length, get_or, ℤ, pos, nat_abs, ◌-ℤ◌, Float}
+use Rattle.std.specs.Prelude.{ℕ, ◌-◌, ◌≤◌, Bool, false, not, cond, List, ltb, length, get_or, ℤ, pos, nat_abs, ◌-ℤ◌, Float, Result, Ok, Err}
 use Rattle.std.specs.Float.{fin, binary64}
 use Rattle.std.specs.Float.Ieee.{of_int, div}
 use Rattle.laws.specs.Tests.{out_z, eq_z}
@@ -12,13 +12,14 @@ use Rattle.book.specs.Height.{work_height_out}
 use Rattle.book.specs.Lent.{Lent}
 use Rattle.book.specs.Test.{refusal, no_refusal, test_beside, if_good}
 use Rattle.fields.specs.Heights.{height}
-use Rattle.book.specs.declared.Refusal.{Refusal}
+use Rattle.book.specs.Refusals.{Told, told_of}
+use Rattle.book.specs.declared.refusal.Refusal.{Refusal}
 use Rattle.book.specs.declared.Book.{Book}
 use Rattle.book.specs.declared.line.Line.{Line}
 use Rattle.rates.specs.declared.Rate.{Rate}
 use Rattle.rates.specs.declared.Rate.TheVariants.{PerKm, Withdrawn}
 use Rattle.rates.specs.declared.RateRow.{RateRow}
-use Rattle.rates.specs.declared.RateAnswer.{RateAnswer}
+use Rattle.rates.specs.declared.LineRate.{LineRate}
 
 -- "Both numbers are exact as 64-bit floats and the rate is their one rounded quotient."
 unfoldable pub quotient : ℤ → ℤ → Float
@@ -44,9 +45,21 @@ pub record OfBook (b : ℕ) (l : Line) : Type 0 where
   pub to : Between 1 b l.to
   pub difference : nat_abs l.difference ≤ most_difference
 
+-- a refusal, or none and the line, its correction, and its rate or that it is withdrawn
+pub record RateAnswer : Type 0 where
+  pub refusal : Told
+  pub line : ℕ
+  pub correction : ℤ
+  pub rate : Rate
+
 -- "Of a refused call, line, correction and rate are 0"
-unfoldable pub refused_with : Refusal → RateAnswer
+unfoldable pub refused_with : Told → RateAnswer
 refused_with r = record { refusal = r; line = 0; correction = pos 0; rate = PerKm (fin false 0 (pos 0)) }
+
+unfoldable pub answer_of : Result LineRate Refusal → RateAnswer
+unfolding refused_with
+answer_of (Ok l) = record { refusal = no_refusal; line = l.line; correction = l.correction; rate = l.rate }
+answer_of (Err r) = refused_with (told_of r)
 
 -- "A line's answer is either its rate or that the line is withdrawn"; "of a withdrawn line, correction and rate" are 0
 unfoldable pub line_rate : List ℤ → List ℤ → ℕ → ℕ → RateAnswer

@@ -2,19 +2,21 @@
 
 #![tactic(auto)]
 
-ghost use Rattle.std.specs.Prelude.{◌≡◌, nat_abs, ◌-◌, ◌*◌, ◌≤◌, ◌<◌, ◌^◌, length};
+ghost use Rattle.std.specs.Prelude.{◌≡◌, nat_abs, ◌-◌, ◌*◌, ◌≤◌, ◌<◌, ◌^◌, length, OnOk, IfErr};
 ghost use Rattle.book.specs.Line.{line_words};
+ghost use Rattle.book.specs.Refusals.{told_of, place_of};
 ghost use Rattle.book.specs.Test.{refusal};
 ghost use Rattle.book.specs.Good.{GoodLine, Lines};
 ghost use Rattle.fields.specs.Heights.{Working};
-ghost use Rattle.fields.specs.Named.{some_mark};
-ghost use Rattle.rates.specs.Rates.{quotient, row_of, refused_with, first_high, OfBook, correction_of, line_rate, good_rate};
+ghost use Rattle.rates.specs.Rates.{quotient, row_of, answer_of, first_high, OfBook, correction_of, line_rate, good_rate};
 
-use book::height::{Height, MadeHeight};
-use book::line::{Line, MadeLine, line_of};
-use book::{Book, Refusal};
+use book::Book;
+use book::height::Height;
+use book::line::{Line, line_of};
+use book::refusal::Refusal;
 
 // A line's answer: its rate in micrometres per metre, which are mm per km, or that the line is withdrawn.
+// An enum of its own: document 01, "What form each place needs".
 #[derive(Drop)]
 pub enum Rate {
     PerKm(f64),
@@ -29,10 +31,9 @@ pub struct RateRow {
     pub rate: f64,
 }
 
-// What the call answers: a refusal, or none and the line, its correction, and its rate or that it is withdrawn.
+// What the call answers: the line, its correction, and its rate or that it is withdrawn.
 #[derive(Drop)]
-pub struct RateAnswer {
-    pub refusal: Refusal,
+pub struct LineRate {
     pub line: usize,
     pub correction: i64,
     pub rate: Rate,
@@ -65,34 +66,16 @@ pub fn row_of(line: usize, correction: i64, rate: Rate) -> RateRow
     }
 }
 
-pub fn refuse(number: usize, place: usize) -> RateAnswer
-    ensures { result ≡ refused_with (refusal number place) }
+// Refusal 13, at the lowest mark whose lent height is outside its limit.
+fn test_heights(heights: &[i64]) -> Result<(), Refusal>
+    ensures inside { OnOk result (first_high heights.now ≡ 0) }
+    ensures outside { IfErr result (λ r. told_of r ≡ refusal 13 (first_high heights.now)) }
+    ensures at { IfErr result (λ r. 0 < place_of r) }
 {
-    refused(Refusal::new(number, place))
-}
-
-pub fn refused(refusal: Refusal) -> RateAnswer
-    ensures { result ≡ refused_with refusal }
-{
-    RateAnswer {
-        refusal,
-        line: 0,
-        correction: 0,
-        rate: Rate::PerKm(0.0),
+    for i in 0..heights.len() {
+        Height::in_work(heights[i], i + 1)?;
     }
-}
-
-// The lowest mark whose lent height is outside its limit.
-fn first_high(heights: &[i64]) -> Option<usize>
-    ensures { result ≡ some_mark (first_high heights.now) }
-{
-    for (i, height) in heights.iter().enumerate() {
-        let made = Height::in_work(*height);
-        if let MadeHeight::Refused(_) = made {
-            return Some(i + 1);
-        }
-    }
-    None
+    Ok(())
 }
 
 // Adjusted minus observed difference of a line.
@@ -108,48 +91,44 @@ fn correction_of(line: Line, heights: &[i64], b: usize) -> i64
 }
 
 // The answer of a line that there is.
-fn line_rate(lines: &[i64], heights: &[i64], b: usize, line: usize) -> RateAnswer
-    requires fact_1 { (0 < line) × (line * line_words ≤ length lines.now) }
-    requires fact_2 { GoodLine b lines.now (line - 1) }
-    requires fact_3 { Working heights.now b }
-    ensures { result ≡ line_rate heights.now lines.now line (line - 1) }
+fn line_rate(lines: &[i64], heights: &[i64], b: usize, line: usize) -> Result<LineRate, Refusal>
+    requires a_line { 0 < line }
+    requires within { line * line_words ≤ length lines.now }
+    requires good { GoodLine b lines.now (line - 1) }
+    requires heights { Working heights.now b }
+    ensures { answer_of result ≡ line_rate heights.now lines.now line (line - 1) }
 {
     let at = (line - 1) * Line::WORDS;
     let made = line_of(&lines[at..at + Line::WORDS], signed::signed_count(b));
     // A tested book has no line that is refused.
-    let MadeLine::Good(its) = made else {
-        return refuse(7, line);
+    let Ok(its) = made else {
+        return Err(Refusal::Line(line));
     };
-    let refusal = Refusal::none();
     if signed::same(its.standing, 0) {
-        return RateAnswer {
-            refusal,
+        return Ok(LineRate {
             line,
             correction: 0,
             rate: Rate::Withdrawn,
-        };
+        });
     }
     let correction = correction_of(its, heights, b);
     let rate = per_km(correction, its.length);
-    RateAnswer {
-        refusal,
+    Ok(LineRate {
         line,
         correction,
         rate: Rate::PerKm(rate),
-    }
+    })
 }
 
 // The answer for a book that has passed its test: 8, then 13.
-pub fn good_rate(lines: &[i64], heights: &[i64], book: Book, line: i64) -> RateAnswer
+pub fn good_rate(lines: &[i64], heights: &[i64], book: Book, line: i64) -> Result<LineRate, Refusal>
     requires fact_1 { Lines lines.now book.marks book.lines }
     requires fact_2 { length heights.now ≡ book.marks }
-    ensures { result ≡ good_rate heights.now lines.now book line }
+    ensures { answer_of result ≡ good_rate heights.now lines.now book line }
 {
     if signed::outside(line, 1, signed::signed_count(book.lines)) {
-        return refuse(8, 0);
+        return Err(Refusal::NotThere);
     }
-    if let Some(high) = first_high(heights) {
-        return refuse(13, high);
-    }
+    test_heights(heights)?;
     line_rate(lines, heights, book.marks, signed::index(line))
 }

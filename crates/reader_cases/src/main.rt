@@ -17,13 +17,19 @@ const LINE_SPACE: usize = 520 * Line::WORDS;
 fn run(to: &mut impl Write, file: &[u8], held: &mut [i64], lines: &mut [i64]) -> io::Result<()> {
     cases::clear(held);
     cases::clear(lines);
-    let a = file::read(file, held, lines);
-    let r = a.refusal;
-    write!(
+    let answer = file::read(file, held, lines);
+    to.write_all(b" |")?;
+    cases::put_answer(
         to,
-        " | {} {} {} {} {} {} {} | held",
-        r.number, r.place, a.version, a.b, a.t, a.h, a.n
+        answer.map(|book| [
+            book.version,
+            book.marks,
+            book.tolerance,
+            book.held,
+            book.lines,
+        ]),
     )?;
+    to.write_all(b" | held")?;
     cases::show_numbers(to, held)?;
     to.write_all(b" | lines")?;
     cases::show_numbers(to, lines)?;

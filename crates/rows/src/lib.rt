@@ -117,6 +117,7 @@ pub fn run_rise(lines: &[i64], run: &[u16]) -> i64
 
 // 0 where the misclosure is within what a loop's lines allow, 1 where it is over. A size of 2 to the 31st or more is over in any case;
 // below it the square fits.
+// A number, the fifth of a row: `verdict_of` says which.
 fn verdict(misclosure: i64, allowed: usize) -> i64
     requires { allowed ≤ most_lines * most_allowed }
     ensures { result ≡ verdict_of allowed misclosure }
@@ -132,6 +133,7 @@ fn verdict(misclosure: i64, allowed: usize) -> i64
 }
 
 // The numbers of a row.
+// Five stores, since each names its place.
 fn write_row(
     out: &mut [i64],
     number: usize,
@@ -173,6 +175,7 @@ pub fn row_of(lines: &[i64], run: &[u16], out: &mut [i64], t: usize)
 }
 
 // The rows of all loops, from place 0 of out on. The table holds the book's loops, so many.
+// A range and slices: of what chunks_exact_mut lends a proof knows nothing afterwards.
 pub fn write_rows(
     book: Book,
     lines: &[i64],

@@ -25,6 +25,7 @@ fn offer(best: &mut [u64], seg: &mut [u64], n: usize, o: usize, k: u64)
 }
 
 // Every half of the chain from first on offers the mark it leads to base and its own sum.
+// The walk stands twice, here and in least_sum: one that takes a closure would have to say how it leaves both tables.
 pub fn relax(
     next: &[u64],
     ends: &[u64],
@@ -75,6 +76,7 @@ fn begin(
 
 // The nearest open mark enters. Unless it is the mark to, it is open no more and its halves are offered.
 // The answer is that mark, or 0 where none is open.
+// 0 and no Option: `Turned` says so, and theorems of search and tree read its `nothing`.
 pub fn turn(
     head: &[u64],
     next: &[u64],
@@ -157,6 +159,7 @@ fn way(ends: &[u64], best: &[u64], out: &mut [u16], c: usize, m: usize) -> usize
 }
 
 // The least sum of the halves on the chain from first on, or FAR.
+// FAR and no Option: `LeastSum` has far of an empty chain, and an Option would be told apart at each half.
 fn least_sum(next: &[u64], ends: &[u64], n: usize, first: usize) -> u64
     requires bounded { Bounded n ends.now }
     requires chained { Chained next.now first }
@@ -199,6 +202,7 @@ fn direct_half(
 }
 
 // The shortest path from the mark to back to the mark r.
+// 0 and no Option: `Pathed` says so, the count of a path that is empty.
 pub fn path(
     head: &[u64],
     next: &[u64],

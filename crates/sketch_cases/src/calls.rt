@@ -2,8 +2,9 @@
 use crate::room::{ENTRIES, Output, Room};
 use book::Book;
 use book::line::Line;
+use book::refusal::Refusal;
 use cases::told::Told;
-use junctions::Sketched;
+use junctions::Sizes;
 use std::fmt::Display;
 use std::io;
 use std::io::Write;
@@ -11,12 +12,23 @@ use std::io::Write;
 // A class that is none in either version.
 const NO_CLASS: i64 = 5;
 
-fn put_answer(to: &mut impl Write, name: impl Display + Drop, a: Sketched) -> io::Result<()> {
-    let r = a.refusal;
-    write!(
+// What a call that is refused has sketched.
+const NO_SKETCH: Sizes = Sizes {
+    links: 0,
+    spurs: 0,
+    loops: 0,
+    run: 0,
+};
+
+fn put_answer(
+    to: &mut impl Write,
+    name: impl Display + Drop,
+    answer: Result<Sizes, Refusal>,
+) -> io::Result<()> {
+    write!(to, "{name}:")?;
+    cases::put_answer(
         to,
-        "{name}: {} {} {} {} {} {}",
-        r.number, r.place, a.links, a.spurs, a.loops, a.run
+        answer.map(|sizes| [sizes.links, sizes.spurs, sizes.loops, sizes.run]),
     )
 }
 
@@ -26,7 +38,7 @@ fn put_numbers(to: &mut impl Write, numbers: &[i64]) -> io::Result<()> {
     Ok(())
 }
 
-// Sketches the book into these outputs, and prints the answer and what each of the four then holds.
+// Sketches the book into these outputs, and prints the answer and what each of the four then holds. The answer is how much that is.
 fn show_in(
     to: &mut impl Write,
     name: impl Display + Drop,
@@ -37,12 +49,12 @@ fn show_in(
     spurs: &mut [i64],
     loops: &mut [i64],
     run: &mut [i64],
-) -> io::Result<Sketched> {
+) -> io::Result<Sizes> {
     cases::clear(links);
     cases::clear(spurs);
     cases::clear(loops);
     cases::clear(run);
-    let a = junctions::sketch(
+    let answer = junctions::sketch(
         told.version,
         told.b,
         told.t,
@@ -53,13 +65,13 @@ fn show_in(
         loops,
         run,
     );
-    put_answer(to, name, a)?;
+    put_answer(to, name, answer)?;
     put_numbers(to, links)?;
     put_numbers(to, spurs)?;
     put_numbers(to, loops)?;
     put_numbers(to, run)?;
     to.write_all(b"\n")?;
-    Ok(a)
+    Ok(answer.unwrap_or(NO_SKETCH))
 }
 
 fn show(
@@ -69,7 +81,7 @@ fn show(
     room: Room,
     held: &[i64],
     lines: &[i64],
-) -> io::Result<Sketched> {
+) -> io::Result<Sizes> {
     let mut links = [0i64; ENTRIES];
     let mut spurs = [0i64; ENTRIES];
     let mut loops = [0i64; ENTRIES];
@@ -93,7 +105,7 @@ fn show(
 
 // The sketch into much room, into room that just fits, and "10 where any of the four is too short".
 fn show_all(to: &mut impl Write, told: Told, held: &[i64], lines: &[i64]) -> io::Result<()> {
-    let a = show(to, "much room", told, Room::MUCH, held, lines)?;
+    let sizes = show(to, "much room", told, Room::MUCH, held, lines)?;
     for (name, short) in [
         ("just enough", None),
         ("fewer links", Some(Output::Links)),
@@ -101,7 +113,7 @@ fn show_all(to: &mut impl Write, told: Told, held: &[i64], lines: &[i64]) -> io:
         ("fewer loops", Some(Output::Loops)),
         ("a shorter run", Some(Output::Run)),
     ] {
-        show(to, name, told, Room::fitting(a, short), held, lines)?;
+        show(to, name, told, Room::fitting(sizes, short), held, lines)?;
     }
     Ok(())
 }

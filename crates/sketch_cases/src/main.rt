@@ -50,13 +50,13 @@ fn read_and_show(to: &mut impl Write, file: &[u8], every: usize) -> io::Result<(
 {
     let mut held = [0i64; Book::HELD_WORDS];
     let mut lines = [0i64; Book::LINE_WORDS];
-    let book = file::read(file, &mut held, &mut lines);
-    let h = told::words_of(book.h, Held::WORDS, Book::HELD_WORDS);
-    let n = told::words_of(book.n, Line::WORDS, Book::LINE_WORDS);
+    let book = file::read(file, &mut held, &mut lines).unwrap_or(told::NOTHING);
+    let h = told::words_of(book.held, Held::WORDS, Book::HELD_WORDS);
+    let n = told::words_of(book.lines, Line::WORDS, Book::LINE_WORDS);
     withdraw(&mut lines[..n], every);
     calls::run(
         to,
-        Told::read(book.version, book.b, book.t),
+        Told::read(book.version, book.marks, book.tolerance),
         &held[..h],
         &mut lines[..n],
     )

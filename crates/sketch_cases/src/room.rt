@@ -1,6 +1,6 @@
 // How much of the four outputs is lent to a call.
 use book::Book;
-use junctions::Sketched;
+use junctions::Sizes;
 
 pub(crate) const ENTRIES: usize = junctions::ENTRIES_WORDS;
 
@@ -37,13 +37,13 @@ impl Room {
         run: 1,
     };
 
-    // The room that just fits an answer, but for one place of the output that is to be short.
-    pub(crate) fn fitting(a: Sketched, short: Option<Output>) -> Room {
+    // The room that just fits a sketch, but for one place of the output that is to be short.
+    pub(crate) fn fitting(sizes: Sizes, short: Option<Output>) -> Room {
         Room {
-            links: places(words(a.links), short == Some(Output::Links)),
-            spurs: places(words(a.spurs), short == Some(Output::Spurs)),
-            loops: places(words(a.loops), short == Some(Output::Loops)),
-            run: places(a.run, short == Some(Output::Run)),
+            links: places(words(sizes.links), short == Some(Output::Links)),
+            spurs: places(words(sizes.spurs), short == Some(Output::Spurs)),
+            loops: places(words(sizes.loops), short == Some(Output::Loops)),
+            run: places(sizes.run, short == Some(Output::Run)),
         }
     }
 }

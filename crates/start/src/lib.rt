@@ -139,6 +139,7 @@ fn hold(held: &[i64], flags: &mut [bool], own: &mut [i64], b: usize, i: usize)
 }
 
 // Every held mark has its own height, by the entry that names it first.
+// Beside lift_all: a function that takes the leaf would have to lend it its tables, and is longer than the three lines.
 pub fn hold_all(held: &[i64], flags: &mut [bool], own: &mut [i64], b: usize, h: usize)
     requires fact_1 { HeldEntries held.now b h }
     requires fact_2 { Blank flags.old own.old b }

@@ -21,30 +21,33 @@ use Rattle.table.specs.Filled.{found_in}
 use Rattle.table.specs.declared.Found.{Found}
 use Rattle.kept.proofs.SameNumbers.{long_enough}
 use Rattle.book.specs.Test.{refusal}
-use Rattle.book.specs.declared.Refusal.{Refusal}
-use Rattle.survey.specs.Report.{refused_with, count_of, counted}
+use Rattle.book.specs.Refusals.{Told}
+use Rattle.std.specs.Prelude.{Err}
+use Rattle.book.specs.declared.refusal.Refusal.{Refusal}
+use Rattle.book.proofs.Refusals.{told_from_1}
+use Rattle.survey.specs.Report.{refused_with, count_of, counted, answer_of}
 use Rattle.survey.specs.Survey.{Surveyed, surveyed, survey_good}
 use Rattle.survey.specs.Correction.{no_line, other_report, updated, corrected, correct_good}
 use Rattle.survey.specs.Kept.{kept_of, OwnTable, Refresh, Refreshed}
-use Rattle.survey.specs.declared.Answer.{Answer}
-use Rattle.survey.specs.declared.correct.Kept.{Kept}
-use Rattle.survey.specs.declared.correct.Kept.TheVariants.{Own, Refused}
+use Rattle.survey.specs.Report.{Answer}
+use Rattle.survey.specs.Kept.{Kept}
+use Rattle.survey.specs.Kept.{Own, Refused}
 
 -- what was made of the two tests tells of them
-told_own : (s t : Bool) (p q : Refusal) (f h : Found) → cond s (Refused p) (cond t (Refused q) (Own f)) ≡ Own h
+told_own : (s t : Bool) (p q : Told) (f h : Found) → cond s (Refused p) (cond t (Refused q) (Own f)) ≡ Own h
     → (s ≡ false) × (t ≡ false) × (h ≡ f)
 told_own true t p q f h e = let z : ◌≡◌ {A = ℕ} 0 1 = cc in absurd (omega arith)
 told_own false true p q f h e = let z : ◌≡◌ {A = ℕ} 0 1 = cc in absurd (omega arith)
 told_own false false p q f h e = (refl, refl, cc)
 
 -- and of what is refused
-told_refused : {A : Type 0} (s t : Bool) (p q : Refusal) (f : Found) (r : Refusal) (give : Refusal → A) (go : A)
+told_refused : {A : Type 0} (s t : Bool) (p q : Told) (f : Found) (r : Told) (give : Told → A) (go : A)
     → cond s (Refused p) (cond t (Refused q) (Own f)) ≡ Refused r → give r ≡ cond s (give p) (cond t (give q) go)
 told_refused true t p q f r give go e = ap give (cc)
 told_refused false true p q f r give go e = ap give (cc)
 told_refused false false p q f r give go e = let z : ◌≡◌ {A = ℕ} 0 1 = cc in absurd (omega arith)
 
-pub no_table : {r : Refusal} {ls : List Loop} {starts runs : List ℕ} → OwnTable (Refused r) ls starts runs
+pub no_table : {r : Told} {ls : List Loop} {starts runs : List ℕ} → OwnTable (Refused r) ls starts runs
 no_table found e = let z : ◌≡◌ {A = ℕ} 0 1 = cc in absurd (omega arith)
 
 pub own_table : {ls : List Loop} {starts runs : List ℕ} {f : Found} → Table ls starts runs f.count → OwnTable (Own f) ls starts runs
@@ -101,6 +104,13 @@ module _ (k : Book) (ls : List ℤ) (g : GoodLines k ls) where
     unfolding counted
     answer_words = ap (λ (x : Answer). x.rows * row_words) answer_is ∙ sym (report_length k ls g)
 
+  -- and gives counts, no refusal
+  pub no_ten : (out out' : List ℤ) (r : Refusal) → length fresh ≤ length out
+      → surveyed (answer_of (Err r)) out' ≡ survey_good k ls out → ⊥
+  unfolding counted
+  no_ten out out' r room e =
+      told_from_1 r (ap (λ (a : Answer). a.refusal.number) (answer_is out out' (answer_of (Err r)) room e))
+
   -- ---- the comparison
 
   module _ (report : List ℤ) (number : ℤ) where
@@ -122,12 +132,12 @@ module _ (k : Book) (ls : List ℤ) (g : GoodLines k ls) where
     unfolding kept_of
     is_own {f = f} h = told_own (no_line ls number) (other_report report fresh) _ _ (found_in k.marks ls) f (sym e ∙ h)
 
-    pub is_refused : {r : Refusal} (new : List ℤ) → m ≡ Refused r
+    pub is_refused : {r : Told} (new : List ℤ) → m ≡ Refused r
         → corrected (refused_with r) ls report ≡ correct_good k ls report number new
     unfolding kept_of correct_good
     is_refused {r = r} new h =
         told_refused (no_line ls number) (other_report report fresh) _ _ (found_in k.marks ls) r
-        (λ (r : Refusal). corrected (refused_with r) ls report) _ (sym e ∙ h)
+        (λ (r : Told). corrected (refused_with r) ls report) _ (sym e ∙ h)
 
   -- the book's own report is as long as its rows
   pub own_places : (report : List ℤ) → other_report report fresh ≡ false → length fresh ≤ length report

@@ -6,11 +6,11 @@ use Rattle.book.specs.Line.{place, difference_field, standing_field, line_count,
 use Rattle.book.specs.Lent.{Lent}
 use Rattle.book.specs.Test.{refusal, test_of, test_beside, if_good}
 use Rattle.book.specs.declared.Book.{Book}
-use Rattle.book.specs.declared.Tested.{Tested}
+use Rattle.book.specs.Test.{Tested}
 unfoldable pub use Rattle.kept.specs.Other.{same_numbers, other_report}
 use Rattle.loops.specs.Report.{report_of}
 use Rattle.survey.specs.Report.{refused_with, counted}
-use Rattle.survey.specs.declared.Answer.{Answer}
+use Rattle.survey.specs.Report.{Answer}
 
 -- the answer, and lines and report after the call
 pub record Corrected : Type 0 where

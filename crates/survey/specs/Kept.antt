@@ -1,7 +1,9 @@
 -- The kept report: whether it is the book's own, and how it is brought up to date.
 -- Assumes nothing.
-use Rattle.std.specs.Prelude.{ℕ, ◌-◌, ◌*◌, ◌≤◌, ◌≡◌, cond, List, ◌++◌, ℤ, pos, length, drop, replicate}
+use Rattle.std.specs.Prelude.{ℕ, ◌-◌, ◌*◌, ◌≤◌, ◌≡◌, cond, List, ◌++◌, ℤ, pos, length, drop, replicate, Result, Ok, Err}
 use Rattle.book.specs.Test.{refusal}
+use Rattle.book.specs.Refusals.{Told, told_of}
+use Rattle.book.specs.declared.refusal.Refusal.{Refusal}
 use Rattle.book.specs.declared.Book.{Book}
 use Rattle.loops.specs.Row.{row_words}
 use Rattle.loops.specs.Loops.{Loop}
@@ -11,9 +13,16 @@ use Rattle.table.specs.Filled.{found_in}
 use Rattle.table.specs.declared.Found.{Found}
 use Rattle.survey.specs.Report.{counted}
 use Rattle.survey.specs.Correction.{no_line, other_report}
-use Rattle.survey.specs.declared.Answer.{Answer}
-use Rattle.survey.specs.declared.correct.Kept.{Kept}
-use Rattle.survey.specs.declared.correct.Kept.TheVariants.{Own, Refused}
+use Rattle.survey.specs.Report.{Answer}
+
+-- the line stands and the lent report is the book's own, with these counts; or refusal 8 or 9
+pub data Kept : Type 0 where
+  Own : Found → Kept
+  Refused : Told → Kept
+
+abbrev pub kept : Result Found Refusal → Kept
+kept (Ok found) = Own found
+kept (Err r) = Refused (told_of r)
 
 -- 8, 9, or what is found in the book
 unfoldable pub kept_of : Book → List ℤ → List ℤ → ℤ → Kept

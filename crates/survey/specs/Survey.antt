@@ -6,7 +6,7 @@ use Rattle.book.specs.Test.{refusal, test_of, if_good}
 use Rattle.book.specs.declared.Book.{Book}
 use Rattle.loops.specs.Report.{report_of}
 use Rattle.survey.specs.Report.{refused_with, counted}
-use Rattle.survey.specs.declared.Answer.{Answer}
+use Rattle.survey.specs.Report.{Answer}
 
 -- the answer, and the rows after the call
 pub record Surveyed : Type 0 where

@@ -6,20 +6,15 @@ ghost use Rattle.book.specs.Line.{line_words};
 ghost use Rattle.book.specs.Good.{GoodLines};
 ghost use Rattle.loops.specs.Report.{loops_of};
 ghost use Rattle.table.specs.Filled.{RoomTable};
-ghost use Rattle.survey.specs.Kept.{kept_of, OwnTable, Refresh, Refreshed};
+ghost use Rattle.survey.specs.Report.{answer_of};
+ghost use Rattle.survey.specs.Kept.{kept, kept_of, OwnTable, Refresh, Refreshed};
 ghost use Rattle.survey.specs.Correction.{no_line, place_of, rerun_lines, withdraw_lines, corrected, correct_good};
 
-use crate::{Answer, report};
+use crate::report;
+use book::Book;
 use book::line::Line;
-use book::{Book, Refusal};
+use book::refusal::Refusal;
 use table::Found;
-
-// The line stands and the lent report is the book's own, with these counts; or refusal 8 or 9.
-#[derive(Drop)]
-pub enum Kept {
-    Own(Found),
-    Refused(Refusal),
-}
 
 // Whether no line of this number stands.
 fn no_line(lines: &[i64], number: i64) -> bool
@@ -33,7 +28,7 @@ fn no_line(lines: &[i64], number: i64) -> bool
     signed::same(lines[at + Line::STANDING], 0)
 }
 
-// Refusal 8; or the loops are found, and the lent report is compared with their rows: refusal 9.
+// The loops are found, and the lent report is compared with their rows: refusal 9. Refusal 8 before it.
 fn kept_report(
     book: Book,
     lines: &[i64],
@@ -41,14 +36,14 @@ fn kept_report(
     number: i64,
     starts: &mut [u64],
     runs: &mut [u16],
-) -> Kept
-    requires fact_1 { GoodLines book lines.now }
-    requires fact_2 { RoomTable starts.old runs.old }
-    ensures fact_1 { result ≡ kept_of book lines.now report.now number }
-    ensures fact_2 { OwnTable result (loops_of book.marks lines.now) starts.new runs.new }
+) -> Result<Found, Refusal>
+    requires good { GoodLines book lines.now }
+    requires room { RoomTable starts.old runs.old }
+    ensures kept { kept result ≡ kept_of book lines.now report.now number }
+    ensures table { OwnTable (kept result) (loops_of book.marks lines.now) starts.new runs.new }
 {
     if no_line(lines, number) {
-        return Kept::Refused(Refusal::new(8, 0));
+        return Err(Refusal::NotThere);
     }
     let found = table::find_loops(book, lines, starts, runs);
     let count = found.count;
@@ -56,15 +51,15 @@ fn kept_report(
     rows::write_rows(book, lines, starts, runs, count, &mut rows[..]);
     let words = count * rows::ROW_WORDS;
     if kept::differs(report, &rows[..words]) {
-        return Kept::Refused(Refusal::new(9, 0));
+        return Err(Refusal::OtherReport);
     }
-    Kept::Own(found)
+    Ok(found)
 }
 
 // Where number k of the line of this number stands in the book.
 fn place_of(number: i64, k: usize) -> usize
-    requires fact_1 { Between 1 most_lines number }
-    requires fact_2 { k < line_words }
+    requires number { Between 1 most_lines number }
+    requires field { k < line_words }
     ensures { result ≡ place_of number k }
 {
     (signed::magnitude(number) - 1) * Line::WORDS + k
@@ -78,36 +73,35 @@ pub(crate) fn rerun_good(
     report: &mut [i64],
     number: i64,
     difference: i64,
-) -> Answer
-    requires fact_1 { GoodLines book lines.old }
-    requires fact_2 { nat_abs difference ≤ most_difference }
-    ensures { corrected result lines.new report.new
+) -> Result<Found, Refusal>
+    requires good { GoodLines book lines.old }
+    requires difference { nat_abs difference ≤ most_difference }
+    ensures { corrected (answer_of result) lines.new report.new
         ≡ correct_good book lines.old report.old number (rerun_lines lines.old number difference) }
 {
     let mut starts = [0u64; table::STARTS];
     let mut runs = [0u16; table::RUNS];
-    match kept_report(book, lines, report, number, &mut starts[..], &mut runs[..]) {
-        Kept::Refused(r) => crate::refused(r),
-        Kept::Own(found) => {
-            let at = place_of(number, Line::DIFFERENCE);
-            lines[at] = difference;
-            let count = found.count;
-            rows::write_rows(book, lines, &starts[..], &runs[..], count, report);
-            crate::count_of(found)
-        }
-    }
+    let found = kept_report(book, lines, report, number, &mut starts[..], &mut runs[..])?;
+    let at = place_of(number, Line::DIFFERENCE);
+    lines[at] = difference;
+    let count = found.count;
+    rows::write_rows(book, lines, &starts[..], &runs[..], count, report);
+    Ok(found)
 }
 
 // The report becomes that of the book as it now stands; it kept so many rows before.
-fn refresh(book: Book, lines: &[i64], report: &mut [i64], before: usize) -> Answer
-    requires fact_1 { GoodLines book lines.now }
-    requires fact_2 { Refresh book lines.now report.old before }
-    ensures { Refreshed book lines.now report.old report.new before result }
+fn refresh(book: Book, lines: &[i64], report: &mut [i64], before: usize) -> Result<Found, Refusal>
+    requires good { GoodLines book lines.now }
+    requires refresh { Refresh book lines.now report.old before }
+    ensures { Refreshed book lines.now report.old report.new before (answer_of result) }
 {
-    let answer = report::survey_good(book, lines, report);
-    let rows = answer.rows;
-    kept::vacate(report, rows * rows::ROW_WORDS, before * rows::ROW_WORDS);
-    answer
+    let found = report::survey_good(book, lines, report)?;
+    kept::vacate(
+        report,
+        found.count * rows::ROW_WORDS,
+        before * rows::ROW_WORDS,
+    );
+    Ok(found)
 }
 
 // Refusals 8 and 9, or the line's standing becomes 0 and the report is brought up to date.
@@ -116,19 +110,15 @@ pub(crate) fn withdraw_good(
     lines: &mut [i64],
     report: &mut [i64],
     number: i64,
-) -> Answer
+) -> Result<Found, Refusal>
     requires { GoodLines book lines.old }
-    ensures { corrected result lines.new report.new
+    ensures { corrected (answer_of result) lines.new report.new
         ≡ correct_good book lines.old report.old number (withdraw_lines lines.old number) }
 {
     let mut starts = [0u64; table::STARTS];
     let mut runs = [0u16; table::RUNS];
-    match kept_report(book, lines, report, number, &mut starts[..], &mut runs[..]) {
-        Kept::Refused(r) => crate::refused(r),
-        Kept::Own(found) => {
-            let at = place_of(number, Line::STANDING);
-            lines[at] = 0;
-            refresh(book, lines, report, found.count)
-        }
-    }
+    let found = kept_report(book, lines, report, number, &mut starts[..], &mut runs[..])?;
+    let at = place_of(number, Line::STANDING);
+    lines[at] = 0;
+    refresh(book, lines, report, found.count)
 }

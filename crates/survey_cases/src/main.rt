@@ -7,11 +7,13 @@
 use book::Book;
 use book::held::Held;
 use book::line::Line;
+use book::refusal::Refusal;
 use cases::told::Told;
 use cases::{case, told};
 use std::fmt::Display;
 use std::io;
 use std::io::Write;
+use table::Found;
 
 const NUMBERS: usize = 1;
 
@@ -32,16 +34,13 @@ const OUTSIDE: i64 = 100_000_001;
 fn put(
     to: &mut impl Write,
     name: impl Display + Drop,
-    a: survey::Answer,
+    answer: Result<Found, Refusal>,
     lines: &[i64],
     report: &[i64],
 ) -> io::Result<()> {
-    let r = a.refusal;
-    write!(
-        to,
-        "{name} {} {} {} {} |",
-        r.number, r.place, a.rows, a.pieces
-    )?;
+    write!(to, "{name}")?;
+    cases::put_answer(to, answer.map(|found| [found.count, found.pieces]))?;
+    to.write_all(b" |")?;
     cases::show_numbers(to, report)?;
     writeln!(to, " lines #{}", cases::digest(lines))
 }
@@ -54,8 +53,8 @@ fn survey(
     lines: &[i64],
     report: &mut [i64],
 ) -> io::Result<()> {
-    let a = survey::survey(told.version, told.b, told.t, held, lines, report);
-    put(to, name, a, lines, report)
+    let answer = survey::survey(told.version, told.b, told.t, held, lines, report);
+    put(to, name, answer, lines, report)
 }
 
 fn rerun(
@@ -68,7 +67,7 @@ fn rerun(
     lines: &mut [i64],
     report: &mut [i64],
 ) -> io::Result<()> {
-    let a = survey::rerun(
+    let answer = survey::rerun(
         told.version,
         told.b,
         told.t,
@@ -78,7 +77,7 @@ fn rerun(
         line,
         difference,
     );
-    put(to, name, a, lines, report)
+    put(to, name, answer, lines, report)
 }
 
 fn withdraw(
@@ -90,8 +89,8 @@ fn withdraw(
     lines: &mut [i64],
     report: &mut [i64],
 ) -> io::Result<()> {
-    let a = survey::withdraw(told.version, told.b, told.t, held, lines, report, line);
-    put(to, name, a, lines, report)
+    let answer = survey::withdraw(told.version, told.b, told.t, held, lines, report, line);
+    put(to, name, answer, lines, report)
 }
 
 // The line is re-run to a difference of its number in centimetres, and withdrawn.
@@ -217,14 +216,15 @@ fn one_case(to: &mut impl Write, case: &[u8]) -> io::Result<()> {
     let mut lines = [0i64; Book::LINE_WORDS];
     let mut report = [0i64; REPORT_SPACE];
     cases::clear(&mut report);
-    let book = file::read(case::file(case, NUMBERS), &mut held, &mut lines);
-    let told = Told::read(book.version, book.b, book.t);
-    let h = told::words_of(book.h, Held::WORDS, Book::HELD_WORDS);
-    let n = told::words_of(book.n, Line::WORDS, Book::LINE_WORDS);
+    let answer = file::read(case::file(case, NUMBERS), &mut held, &mut lines);
+    let book = answer.unwrap_or(told::NOTHING);
+    let told = Told::read(book.version, book.marks, book.tolerance);
+    let h = told::words_of(book.held, Held::WORDS, Book::HELD_WORDS);
+    let n = told::words_of(book.lines, Line::WORDS, Book::LINE_WORDS);
     run(
         to,
         told,
-        book.n % 600,
+        book.lines % 600,
         &held[..h],
         &mut lines[..n],
         &mut report,

@@ -3,6 +3,8 @@
 use Rattle.std.specs.Prelude.{ℕ, ◌-◌, Bool, true, false, List, Result, Ok, Err, get_or, ℤ, pos, ◌+ℤ◌, ◌-ℤ◌, ◌*ℤ◌}
 use Rattle.sights.specs.Table.{Columns}
 use Rattle.sweeps.specs.Sweeps.{Swept, still, moved, Settled, settled, unsettled}
+use Rattle.book.specs.declared.refusal.Refusal.{Refusal}
+use Rattle.book.specs.declared.refusal.Refusal.TheVariants as refusal
 use Rattle.sweeps.specs.declared.Outside.{Outside}
 use Rattle.sweeps.specs.declared.Unsettled.{Unsettled}
 use Rattle.sweeps.specs.declared.Unsettled.TheVariants as why
@@ -25,3 +27,8 @@ abbrev pub ended_at : Result ℕ Unsettled → List ℤ → Settled
 ended_at (Ok n) hs = settled n hs
 ended_at (Err (why.Outside m)) hs = Settled.outside m
 ended_at (Err why.StillMoving) hs = unsettled
+
+-- 13 with the mark, or 12
+abbrev pub refusal_of : Unsettled → Refusal
+refusal_of (why.Outside m) = refusal.Height m
+refusal_of why.StillMoving = refusal.Unsettled

@@ -14,7 +14,8 @@ ghost use Rattle.sweeps.specs.MarkTurns.{term_at, flags, swept, ended_at};
 ghost use Rattle.sweeps.specs.Sweeps.{move_of, visited, visit, sweep, settle};
 
 use book::Book;
-use book::height::{Height, MadeHeight};
+use book::height::Height;
+use book::refusal::Refusal;
 
 // A place for each mark, and for each end of a line, of any book.
 const MARKS: usize = Book::MAX_MARKS as usize;
@@ -48,8 +49,19 @@ impl From<Outside> for Unsettled {
     }
 }
 
-// How the sweeps end: settled after so many, or why not.
-pub type End = Result<usize, Unsettled>;
+impl From<Unsettled> for Refusal {
+    ghost use Rattle.std.specs.Prelude.{◌≡◌};
+    ghost use Rattle.sweeps.specs.MarkTurns.{refusal_of};
+
+    ghost from_gives = { λ why r. r ≡ refusal_of why };
+
+    fn from(why: Unsettled) -> Refusal {
+        match why {
+            Unsettled::Outside(mark) => Refusal::Height(mark),
+            Unsettled::StillMoving => Refusal::Unsettled,
+        }
+    }
+}
 
 // What the line at place j adds to the g of a mark that stands at z.
 fn term(
@@ -136,8 +148,8 @@ fn visit(
         h.old (suc v)) × Working h.new b }
 {
     let d = move_of(first, other, rise, weight, total, h, b, v);
-    let made = Height::in_work(signed::add(h[v], d));
-    let MadeHeight::Good(height) = made else {
+    let made = Height::in_work(signed::add(h[v], d), v + 1);
+    let Ok(height) = made else {
         return Err(Outside { mark: v + 1 });
     };
     let z = height.micrometres;
@@ -208,7 +220,7 @@ fn settle(
     held: &[bool],
     h: &mut [i64],
     b: usize,
-) -> End
+) -> Result<usize, Unsettled>
     requires table { Table first.now (columns other.now rise.now weight.now) total.now b }
     requires working { Working h.old b }
     requires flagged { b ≤ length held.now }
@@ -234,7 +246,7 @@ pub fn settle_lines(
     h: &mut [i64],
     b: usize,
     n: usize,
-) -> End
+) -> Result<usize, Unsettled>
     requires fact_1 { Lines lines.now b n }
     requires fact_2 { InOrder (standing lines.now) (b + 1) head.now next.now }
     requires fact_3 { (0 < b) × (b ≤ most_marks) }

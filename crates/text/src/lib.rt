@@ -11,6 +11,7 @@ ghost use Rattle.text.specs.Report.{head_text, listed_text, verdict_text, loop_t
 pub mod sketch;
 
 // `LEVEL BOOK 1` and `MARKS 5 LINES 7 PIECES 1 LOOPS 3`
+// Beside sketch::head_text: each is public, with its own clause.
 pub fn head_text(
     out: &mut [u8],
     at: usize,

@@ -42,6 +42,7 @@ pub fn link_text(
 }
 
 // `SPUR 16 LENGTH 100 DIFFERENCE 0: -20`
+// Beside loop_text: each is public, with its own clause; what they share is put_measured.
 pub fn spur_text(
     out: &mut [u8],
     at: usize,

@@ -20,7 +20,7 @@ use Rattle.survey.specs.Correction.{Corrected, rerun_of, withdraw_of, withdraw_l
 use Rattle.rates.specs.Rates.{quotient, rate_answer}
 use Rattle.rates.specs.declared.Rate.{Rate}
 use Rattle.rates.specs.declared.Rate.TheVariants.{PerKm, Withdrawn}
-use Rattle.rates.specs.declared.RateAnswer.{RateAnswer}
+use Rattle.rates.specs.Rates.{RateAnswer}
 use Rattle.book.specs.Lent.{Lent, lent, with_lines}
 use Rattle.book.specs.Version.{no_class}
 use Rattle.book.specs.Height.{work_height_out}

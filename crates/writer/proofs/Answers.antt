@@ -9,7 +9,7 @@ use lib.IntN.{ℤ}
 use borrow.Author.Tests.{lt-ltb, le-ltb}
 use Rattle.book.specs.Test.{refusal, no_refusal}
 use Rattle.book.specs.declared.Book.{Book}
-use Rattle.book.specs.declared.Refusal.{Refusal}
+use Rattle.book.specs.Refusals.{Told}
 use Rattle.file.specs.Read.{length_of}
 use Rattle.writer.specs.Write.{file_of, cannot_say, refused_with, done, writing, write_good}
 
@@ -29,7 +29,7 @@ module _ (k : Book) (held lines : List ℤ) (file : List ℕ) where
   all_written e l = rw (e, le-ltb (length file) (length_of k) l)
 
   -- as the code has it: by what was answered and what the file holds
-  pub is_written : (r : Refusal) (bytes : ℕ) (out : List ℕ) → cannot_say k lines ≡ false → r ≡ no_refusal → bytes ≡ length_of k
+  pub is_written : (r : Told) (bytes : ℕ) (out : List ℕ) → cannot_say k lines ≡ false → r ≡ no_refusal → bytes ≡ length_of k
       → bytes ≤ length file → out ≡ file_of k held lines ++ drop bytes file
       → writing (record { refusal = r; bytes = bytes }) out ≡ write_good k held lines file
   is_written r bytes out e none size room o = rw (o, none, size) (sym (all_written e (rw size at room)))

@@ -28,7 +28,7 @@ use Rattle.book.proofs.Versions.{version_passes, known_version, small_tolerance}
 use Rattle.file.specs.Wire.{be}
 use Rattle.file.specs.Entry.{entry_bytes, line_kind}
 use Rattle.file.specs.Read.{length_of, head_of, held_of, lines_of, book_in, Outcome, done, room_of, body_of, after_head, read_of}
-use Rattle.file.specs.declared.Head.TheVariants.{States}
+use Rattle.file.specs.Read.{States}
 use Rattle.file.specs.declared.entry.Kind.TheVariants.{Held}
 use Rattle.file.proofs.Heads.{line_bytes}
 use Rattle.file.proofs.Entries.{room_for, line_words_lem}

@@ -47,7 +47,8 @@ module _ {S F : Type 0} {steps : S → Option (Bor (List ℤ)) → S → Type 0}
   -- an item that the closure was given is the line of its place
   abbrev Given : ℕ → Bool → Bor (List ℤ) → Type 0
   Given k r e = Called g f (e, tt) r f
-      × ((length e.now ≡ line_words) × (k * line_words + line_words ≤ length entries) × IsSubsliceAt line_words entries (k * line_words) e.now)
+      × ((length e.now ≡ line_words) × (k * line_words + line_words ≤ length entries)
+      × IsSubsliceAt line_words entries (k * line_words) e.now)
 
   given : (k : ℕ) (r : Bool) (e : Bor (List ℤ)) → Given k r e → (k < n) × (r ≡ withdrawn k)
   given k r e w =
@@ -60,7 +61,8 @@ module _ {S F : Type 0} {steps : S → Option (Bor (List ℤ)) → S → Type 0}
   all_given : p.whole ≡ true → p.len ≡ n
   all_given e = chunks.1 e ∙ omega (arith, length-take (n * line_words) lines)
 
-  pub any_answer : (r : Bool) → MatchBool r (AnyItemGives p g f true) (IsTrue p.whole × AllItemsGive p g f false) → r ≡ any_withdrawn lines n
+  pub any_answer : (r : Bool) → MatchBool r (AnyItemGives p g f true) (IsTrue p.whole × AllItemsGive p g f false)
+      → r ≡ any_withdrawn lines n
   unfolding any_withdrawn
   any_answer true found =
       let at = found keeps in

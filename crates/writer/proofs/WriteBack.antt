@@ -19,7 +19,7 @@ use Rattle.book.proofs.Places.{entry_field}
 use Rattle.file.specs.Wire.{Bytes, be}
 use Rattle.file.specs.Entry.{entry_bytes, held_numbers, line_numbers, numbers, line_kind, entries}
 use Rattle.file.specs.Read.{length_of, head_of, held_of, lines_of}
-use Rattle.file.specs.declared.Head.TheVariants.{States}
+use Rattle.file.specs.Read.{States}
 use Rattle.file.specs.declared.entry.Kind.{Kind}
 use Rattle.file.specs.declared.entry.Kind.TheVariants.{Held, Line, ClassedLine}
 use Rattle.file.proofs.Heads.{Says, head_says, head_states}

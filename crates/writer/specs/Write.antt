@@ -2,6 +2,7 @@
 -- 3, 4, 6 and 7, then 16, then 10.
 -- Assumes nothing.
 use Rattle.std.specs.Prelude.{Bool, false, cond, List, ◌++◌, ℕ, ltb, length, drop, ℤ, pos}
+use Rattle.std.specs.Prelude.{Result, Ok, Err}
 use Rattle.laws.specs.Tests.{eq_z}
 use Rattle.laws.specs.Scan.{any_below}
 use Rattle.book.specs.Version.{has_classes}
@@ -9,13 +10,13 @@ use Rattle.book.specs.Line.{standing_at}
 use Rattle.book.specs.Lent.{Lent}
 use Rattle.book.specs.Test.{refusal, no_refusal, test_of, if_good}
 use Rattle.book.specs.declared.Book.{Book}
-use Rattle.book.specs.declared.Refusal.{Refusal}
+use Rattle.book.specs.Refusals.{Told, told_of}
+use Rattle.book.specs.declared.refusal.Refusal.{Refusal}
 use Rattle.file.specs.Entry.{line_kind}
 use Rattle.file.specs.Read.{length_of}
 use Rattle.file.specs.declared.entry.Kind.TheVariants.{Held}
 use Rattle.writer.specs.Bytes.{bytes_of}
 use Rattle.writer.specs.Entry.{written}
-use Rattle.writer.specs.declared.Written.{Written}
 
 -- "total length in 4 bytes, counting themselves"; the version in a byte; "t, b, h and n in 2 bytes each"
 unfoldable pub head_bytes : Book → List ℕ
@@ -39,12 +40,21 @@ unfoldable pub cannot_say : Book → List ℤ → Bool
 unfolding any_withdrawn
 cannot_say k lines = cond (has_classes (pos k.version)) false (any_withdrawn lines k.lines)
 
--- "After a refusal the counts are 0"; or how many bytes the file has
-abbrev pub refused_with : Refusal → Written
+-- "An answer is a number .., a place .. and the counts its call fills": how many bytes the file has
+pub record Written : Type 0 where
+  pub refusal : Told
+  pub bytes : ℕ
+
+-- "After a refusal the counts are 0"
+abbrev pub refused_with : Told → Written
 refused_with r = record { refusal = r; bytes = 0 }
 
 abbrev pub done : Book → Written
 done k = record { refusal = no_refusal; bytes = length_of k }
+
+abbrev pub answer_of : Result ℕ Refusal → Written
+answer_of (Ok bytes) = record { refusal = no_refusal; bytes = bytes }
+answer_of (Err r) = refused_with (told_of r)
 
 -- the answer, and the lent file after the call
 pub record Writing : Type 0 where

@@ -6,36 +6,17 @@ ghost use Rattle.std.specs.Prelude.{◌≡◌, ◌++◌, ◌*◌, ◌≤◌, len
 ghost use Rattle.book.specs.Lent.{lent};
 ghost use Rattle.book.specs.Line.{line_words};
 ghost use Rattle.book.specs.Good.{GoodLines, HeldEntries};
-ghost use Rattle.book.specs.Test.{refusal};
 ghost use Rattle.file.specs.Read.{length_of};
 ghost use Rattle.writer.specs.Write.{head_bytes, file_of, any_withdrawn, cannot_say};
-ghost use Rattle.writer.specs.Write.{refused_with, writing, write_good, write_of};
+ghost use Rattle.writer.specs.Write.{answer_of, writing, write_good, write_of};
 
 mod entry;
 mod wire;
 
+use book::Book;
 use book::line::Line;
-use book::{Book, Refusal, Tested};
+use book::refusal::Refusal;
 use file::entry::Kind;
-
-// What the writer answers: a refusal, or none and how many bytes the file has.
-#[derive(Clone, Copy)]
-pub struct Written {
-    pub refusal: Refusal,
-    pub bytes: usize,
-}
-
-fn refuse(number: usize, place: usize) -> Written
-    ensures { result ≡ refused_with (refusal number place) }
-{
-    refused(Refusal::new(number, place))
-}
-
-fn refused(refusal: Refusal) -> Written
-    ensures { result ≡ refused_with refusal }
-{
-    Written { refusal, bytes: 0 }
-}
 
 // Whether one of the first n lines is withdrawn.
 fn any_withdrawn(lines: &[i64], n: usize) -> bool
@@ -96,31 +77,35 @@ fn fill(book: Book, bytes: usize, held: &[i64], lines: &[i64], file: &mut [u8])
     );
 }
 
-// Refusals 16 and 10 of a tested book, or its file: room is tested before the first byte is written.
-fn write_good(book: Book, held: &[i64], lines: &[i64], file: &mut [u8]) -> Written
-    requires fact_1 { GoodLines book lines.now }
-    requires fact_2 { HeldEntries held.now book.marks book.held }
-    ensures { writing result file.new ≡ write_good book held.now lines.now file.old }
+// The file of a tested book, and how many bytes it has; or refusals 16 and 10: room is tested before the first byte is written.
+fn write_good(book: Book, held: &[i64], lines: &[i64], file: &mut [u8]) -> Result<usize, Refusal>
+    requires lines { GoodLines book lines.now }
+    requires held { HeldEntries held.now book.marks book.held }
+    ensures { writing (answer_of result) file.new ≡ write_good book held.now lines.now file.old }
 {
     if cannot_say(book, lines) {
-        return refuse(16, 0);
+        return Err(Refusal::Withdrawn);
     }
     let bytes = file::length_of(book);
     if file.len() < bytes {
-        return refuse(10, 0);
+        return Err(Refusal::NoRoom);
     }
     fill(book, bytes, held, lines, file);
-    let refusal = Refusal::none();
-    Written { refusal, bytes }
+    Ok(bytes)
 }
 
-// Writes a lent book as a file, into the file that is lent. A refusal leaves it as it was.
-pub fn write(version: i64, b: i64, t: i64, held: &[i64], lines: &[i64], file: &mut [u8]) -> Written
-    ensures { writing result file.new
+// Writes a lent book as a file, into the file that is lent, and gives how many bytes it has. A refusal leaves it as it was.
+pub fn write(
+    version: i64,
+    b: i64,
+    t: i64,
+    held: &[i64],
+    lines: &[i64],
+    file: &mut [u8],
+) -> Result<usize, Refusal>
+    ensures { writing (answer_of result) file.new
         ≡ write_of (lent version b t held.now lines.now) file.old }
 {
-    match book::test(version, b, t, held, lines) {
-        Tested::Refused(r) => refused(r),
-        Tested::Good(book) => write_good(book, held, lines, file),
-    }
+    let book = book::test(version, b, t, held, lines)?;
+    write_good(book, held, lines, file)
 }

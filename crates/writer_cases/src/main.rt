@@ -23,19 +23,18 @@ fn one_case(to: &mut impl Write, case: &[u8]) -> io::Result<()> {
     let file = case::file(case, NUMBERS);
     let mut held = [0i64; Book::HELD_WORDS];
     let mut lines = [0i64; Book::LINE_WORDS];
-    let book = file::read(file, &mut held, &mut lines);
+    let answer = file::read(file, &mut held, &mut lines);
     to.write_all(b"\n  read")?;
-    written::put_read(to, book)?;
+    written::put_read(to, answer)?;
     to.write_all(b"\n")?;
-    let r = book.refusal;
-    if r.number != 0 {
+    let Ok(book) = answer else {
         return Ok(());
-    }
-    let h = told::words_of(book.h, Held::WORDS, Book::HELD_WORDS);
-    let n = told::words_of(book.n, Line::WORDS, Book::LINE_WORDS);
+    };
+    let h = told::words_of(book.held, Held::WORDS, Book::HELD_WORDS);
+    let n = told::words_of(book.lines, Line::WORDS, Book::LINE_WORDS);
     calls::run(
         to,
-        Told::read(book.version, book.b, book.t),
+        Told::read(book.version, book.marks, book.tolerance),
         &mut held[..h],
         &mut lines[..n],
         file,

@@ -2,6 +2,7 @@
 use book::Book;
 use book::held::Held;
 use book::line::Line;
+use book::refusal::Refusal;
 use cases::told;
 use std::io;
 use std::io::Write;
@@ -23,9 +24,13 @@ pub(crate) fn put_bytes(to: &mut impl Write, bytes: &[u8]) -> io::Result<()> {
     Ok(())
 }
 
-pub(crate) fn put_answer(to: &mut impl Write, lent: usize, a: writer::Written) -> io::Result<()> {
-    let r = a.refusal;
-    write!(to, " lent {lent}: {} {} {}", r.number, r.place, a.bytes)
+pub(crate) fn put_written(
+    to: &mut impl Write,
+    lent: usize,
+    answer: Result<usize, Refusal>,
+) -> io::Result<()> {
+    write!(to, " lent {lent}:")?;
+    cases::put_answer(to, answer.map(|bytes| [bytes]))
 }
 
 // The first place, counted from 0, at which they are not the same, or only one of them has a byte.
@@ -42,12 +47,16 @@ pub(crate) fn put_compared(to: &mut impl Write, file: &[u8], written: &[u8]) -> 
     }
 }
 
-pub(crate) fn put_read(to: &mut impl Write, a: file::ReadAnswer) -> io::Result<()> {
-    let r = a.refusal;
-    write!(
+pub(crate) fn put_read(to: &mut impl Write, answer: Result<Book, Refusal>) -> io::Result<()> {
+    cases::put_answer(
         to,
-        " {} {} {} {} {} {} {}",
-        r.number, r.place, a.version, a.b, a.t, a.h, a.n
+        answer.map(|book| [
+            book.version,
+            book.marks,
+            book.tolerance,
+            book.held,
+            book.lines,
+        ]),
     )
 }
 
@@ -60,11 +69,12 @@ pub(crate) fn read_again(
 ) -> io::Result<()> {
     let mut held_read = [0i64; Book::HELD_WORDS];
     let mut lines_read = [0i64; Book::LINE_WORDS];
-    let a = file::read(written, &mut held_read[..], &mut lines_read[..]);
+    let answer = file::read(written, &mut held_read[..], &mut lines_read[..]);
     to.write_all(b"\n    read again")?;
-    put_read(to, a)?;
-    let h = told::words_of(a.h, Held::WORDS, Book::HELD_WORDS);
-    let n = told::words_of(a.n, Line::WORDS, Book::LINE_WORDS);
+    put_read(to, answer)?;
+    let book = answer.unwrap_or(told::NOTHING);
+    let h = told::words_of(book.held, Held::WORDS, Book::HELD_WORDS);
+    let n = told::words_of(book.lines, Line::WORDS, Book::LINE_WORDS);
     write!(
         to,
         " | held #{}, lent #{}",

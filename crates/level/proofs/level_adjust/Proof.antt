@@ -3,13 +3,14 @@ use Rattle.book.specs.Lent.{lent}
 use Rattle.adjust.specs.Call.{Given, adjust_of}
 use Rattle.level.specs.Heights.{SmallAdjusted, of_adjust}
 use Rattle.level.proofs.Settled.{adjust_small}
+use Rattle.adjust.specs.Answers.{answer_by}
 use borrow.Author.Rules.{rules}
 use Rattle.level.proofs.level_adjust.Statement.{statement}
 use Rattle.level.proofs.level_adjust.Tie as tie
 
 -- what the call below answered, at the numbers that were lent
 called : (c : tie.After-adjust)
-    → (let a = c.args in c.adjust.result
+    → (let a = c.args in answer_by c.adjust.result
     ≡ (adjust_of (lent a.version a.b a.t a.held.now a.lines.now) a.heights.now).answer)
 called c = ap (λ (o : Given). o.answer) c.adjust.ensures ∙ search rules
 

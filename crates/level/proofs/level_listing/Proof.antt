@@ -1,7 +1,7 @@
 use mathlib.Core.Path.{◌≡◌, sym, ◌∙◌, ap, subst}
 use native.Mathlib.Omega.{arith}
 use Rattle.book.specs.Lent.{lent}
-use Rattle.lists.specs.Listing.{Listing, listing_of}
+use Rattle.lists.specs.Listing.{answer_of, Listing, listing_of}
 use Rattle.level.specs.Listings.{SmallListed, of_listing}
 use Rattle.level.proofs.Small.{listing_small}
 use borrow.Author.Rules.{rules}
@@ -10,7 +10,7 @@ use Rattle.level.proofs.level_listing.Tie as tie
 
 -- what the call below answered, at the numbers that were lent
 called : (c : tie.After-listing)
-    → (let a = c.args in c.listing.result
+    → (let a = c.args in answer_of c.listing.result
     ≡ (listing_of (lent a.version a.b a.t a.held.now a.lines.now) a.number a.out.now).answer)
 called c = ap (λ (o : Listing). o.answer) c.listing.ensures ∙ search rules
 

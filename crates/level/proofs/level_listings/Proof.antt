@@ -1,7 +1,7 @@
 use mathlib.Core.Path.{◌≡◌, sym, ◌∙◌, ap, subst}
 use native.Mathlib.Omega.{arith}
 use Rattle.book.specs.Lent.{lent}
-use Rattle.lists.specs.Listing.{Listing, listings_of}
+use Rattle.lists.specs.Listing.{answer_of, Listing, listings_of}
 use Rattle.level.specs.Listings.{SmallListed, of_listing}
 use Rattle.level.proofs.Small.{listings_small}
 use borrow.Author.Rules.{rules}
@@ -10,7 +10,7 @@ use Rattle.level.proofs.level_listings.Tie as tie
 
 -- what the call below answered, at the numbers that were lent
 called : (c : tie.After-listings)
-    → (let a = c.args in c.listings.result
+    → (let a = c.args in answer_of c.listings.result
     ≡ (listings_of (lent a.version a.b a.t a.held.now a.lines.now) a.out.now).answer)
 called c = ap (λ (o : Listing). o.answer) c.listings.ensures ∙ search rules
 

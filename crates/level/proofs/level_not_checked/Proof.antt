@@ -1,7 +1,7 @@
 use mathlib.Core.Path.{◌≡◌, sym, ◌∙◌, ap, subst}
 use native.Mathlib.Omega.{arith}
 use Rattle.book.specs.Lent.{lent}
-use Rattle.lists.specs.Listing.{Listing}
+use Rattle.lists.specs.Listing.{answer_of, Listing}
 use Rattle.lists.specs.NotChecked.{not_checked_of}
 use Rattle.level.specs.Listings.{SmallListed, of_listing}
 use Rattle.level.proofs.Small.{not_checked_small}
@@ -11,7 +11,7 @@ use Rattle.level.proofs.level_not_checked.Tie as tie
 
 -- what the call below answered, at the numbers that were lent
 called : (c : tie.After-not_checked)
-    → (let a = c.args in c.not_checked.result
+    → (let a = c.args in answer_of c.not_checked.result
     ≡ (not_checked_of (lent a.version a.b a.t a.held.now a.lines.now) a.out.now).answer)
 called c = ap (λ (o : Listing). o.answer) c.not_checked.ensures ∙ search rules
 

@@ -1,6 +1,6 @@
 use mathlib.Core.Path.{◌≡◌, sym, ◌∙◌, ap, subst}
 use Rattle.book.specs.Lent.{lent}
-use Rattle.rates.specs.Rates.{rate_answer}
+use Rattle.rates.specs.Rates.{answer_of, rate_answer}
 use Rattle.level.specs.Rating.{SmallRate, signed_rate}
 use Rattle.level.proofs.Small.{rate_small}
 use borrow.Author.Rules.{rules}
@@ -10,7 +10,7 @@ use Rattle.level.proofs.level_rate.Tie as tie
 -- what the call below answered, at the numbers that were lent
 called : (c : tie.After-rate)
     → (let a = c.args in
-    c.rate.result ≡ rate_answer (lent a.version a.b a.t a.held.now a.lines.now) a.heights.now
+    answer_of c.rate.result ≡ rate_answer (lent a.version a.b a.t a.held.now a.lines.now) a.heights.now
     a.line)
 called c = c.rate.ensures ∙ search rules
 

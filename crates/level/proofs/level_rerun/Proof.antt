@@ -3,13 +3,14 @@ use Rattle.book.specs.Lent.{lent}
 use Rattle.survey.specs.Correction.{Corrected, rerun_of}
 use Rattle.level.specs.Answers.{SmallAnswer, of_correction}
 use Rattle.level.proofs.Small.{rerun_small}
+use Rattle.survey.specs.Report.{answer_of}
 use borrow.Author.Rules.{rules}
 use Rattle.level.proofs.level_rerun.Statement.{statement}
 use Rattle.level.proofs.level_rerun.Tie as tie
 
 -- what the call below answered, at the numbers that were lent
 called : (c : tie.After-rerun)
-    → (let a = c.args in c.rerun.result
+    → (let a = c.args in answer_of c.rerun.result
     ≡ (rerun_of (lent a.version a.b a.t a.held.now a.lines.now) a.report.now a.line a.difference).answer)
 called c = ap (λ (o : Corrected). o.answer) c.rerun.ensures ∙ search rules
 

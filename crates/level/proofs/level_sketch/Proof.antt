@@ -1,7 +1,7 @@
 use mathlib.Core.Path.{◌≡◌, sym, ◌∙◌, ap, subst}
 use borrow.Author.Rules.{rules}
 use Rattle.book.specs.Lent.{lent}
-use Rattle.junctions.specs.Call.{lists, Drawing, sketch_call}
+use Rattle.junctions.specs.Call.{answer_of, lists, Drawing, sketch_call}
 use Rattle.level.specs.Sketches.{SmallSketched, of_sketch}
 use Rattle.level.proofs.Small.{sketch_small}
 use Rattle.level.proofs.level_sketch.Statement.{statement}
@@ -9,7 +9,7 @@ use Rattle.level.proofs.level_sketch.Tie as tie
 
 -- what the call below answered, at the numbers that were lent
 called : (c : tie.After-sketch) → (let s : tie.Start = search in let a = s.args in
-    c.sketch.result ≡ (sketch_call (lent a.version a.b a.t a.held.now a.lines.now)
+    answer_of c.sketch.result ≡ (sketch_call (lent a.version a.b a.t a.held.now a.lines.now)
     (lists a.links.now a.spurs.now a.loops.now a.run.now)).answer)
 called c = ap (λ (o : Drawing). o.answer) c.sketch.ensures ∙ search rules
 

@@ -3,13 +3,14 @@ use Rattle.book.specs.Lent.{lent}
 use Rattle.survey.specs.Correction.{Corrected, withdraw_of}
 use Rattle.level.specs.Answers.{SmallAnswer, of_correction}
 use Rattle.level.proofs.Small.{withdraw_small}
+use Rattle.survey.specs.Report.{answer_of}
 use borrow.Author.Rules.{rules}
 use Rattle.level.proofs.level_withdraw.Statement.{statement}
 use Rattle.level.proofs.level_withdraw.Tie as tie
 
 -- what the call below answered, at the numbers that were lent
 called : (c : tie.After-withdraw)
-    → (let a = c.args in c.withdraw.result
+    → (let a = c.args in answer_of c.withdraw.result
     ≡ (withdraw_of (lent a.version a.b a.t a.held.now a.lines.now) a.report.now a.line).answer)
 called c = ap (λ (o : Corrected). o.answer) c.withdraw.ensures ∙ search rules
 

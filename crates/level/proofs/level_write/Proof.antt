@@ -1,7 +1,7 @@
 use mathlib.Core.Path.{◌≡◌, sym, ◌∙◌, ap, subst}
 use native.Mathlib.Omega.{arith}
 use Rattle.book.specs.Lent.{lent}
-use Rattle.writer.specs.Write.{Writing, write_of}
+use Rattle.writer.specs.Write.{answer_of, Writing, write_of}
 use Rattle.level.specs.Writings.{SmallWritten, of_writing}
 use Rattle.level.proofs.Small.{write_small}
 use borrow.Author.Rules.{rules}
@@ -10,7 +10,7 @@ use Rattle.level.proofs.level_write.Tie as tie
 
 -- what the call below answered, at the numbers that were lent
 called : (c : tie.After-write)
-    → (let entry : tie.Start = search in let a = entry.args in c.write.result
+    → (let entry : tie.Start = search in let a = entry.args in answer_of c.write.result
     ≡ (write_of (lent a.version a.b a.t a.held.now a.lines.now) a.file.now).answer)
 called c = ap (λ (w : Writing). w.answer) c.write.ensures ∙ search rules
 

@@ -1,69 +1,80 @@
-use Rattle.std.proofs.Common.{arith, ◌≡◌, ◌-◌, pos, nat_abs, sym, ◌∙◌}
+use Rattle.std.proofs.Common.{rules, ◌≡◌, ◌∙◌, ◌-◌, ◌<◌, sym, refl, ap, pos, nat_abs, arith}
+use Rattle.std.proofs.lemmas.Result.{err_from_is_err_and}
 use mir.Facts.{to_z-of_z}
 use borrow.Author.Tests.{lt-ltb}
 use Rattle.laws.specs.Tests.{out_z}
 use Rattle.laws.specs.Range.{Between}
 use Rattle.laws.proofs.Signed.{stored}
 use Rattle.laws.proofs.Size.{between, not_negative}
-use Rattle.fields.proofs.Named.{is_none, is_some_mark}
-use Rattle.rates.specs.Rates.{first_high, good_rate}
+use Rattle.book.specs.Refusals.{Told}
+use Rattle.rates.specs.Rates.{answer_of, first_high, good_rate}
 use Rattle.rates.proofs.Rating.{working_lent}
 use Rattle.rates.proofs.good_rate.Goals as goal
-use Rattle.rates.proofs.good_rate.Goals.{After-outside, In_default, After-index}
-
-out_read : (c : After-outside) → out_z (pos 1) (pos c.args.book.lines) c.args.line ≡ c.outside.result
-out_read c =
-    let k = c.signed_count in
-    sym (c.outside.ensures ∙ rw (stored k.result k.type_inv k.ensures, to_z-of_z c.ranges.line))
 
 pub returns-then-outside : goal.returns-then-outside
-unfolding good_rate
-returns-then-outside c = rw (out_read (goal.at.returns-then-outside c).After-outside ∙ c.if-outside.true) c.refuse.ensures
+unfolding good_rate answer_of
+returns-then-outside c =
+    let a = c.args in
+    let out : out_z (pos 1) (pos a.book.lines) a.line ≡ c.outside.result
+    = sym (c.outside.ensures ∙ rw (stored c.signed_count.result c.signed_count.type_inv c.signed_count.ensures, to_z-of_z c.ranges.line)) in
+    rw (out ∙ c.if-outside.true)
 
--- the lowest height outside is that of mark `high`
-pub returns-in-Some : goal.returns-in-Some
-unfolding good_rate
-returns-in-Some c =
-    let h = is_some_mark c.in-Some.high (first_high c.args.heights.now) c.in-Some.ensures in
-    rw (out_read (goal.at.returns-in-Some c).After-outside ∙ c.if-outside.false, h.0, lt-ltb 0 c.in-Some.high h.1) c.refuse-in-Some.ensures
-
--- there is such a line, and no height is outside
-line_in : (c : In_default) → Between 1 c.args.book.lines c.args.line
-line_in c = between 1 c.args.book.lines c.args.line (out_read (goal.at.index-requires c).After-outside ∙ c.if-outside.false)
-
-none_high : (c : In_default) → first_high c.args.heights.now ≡ 0
-none_high c = is_none _ c.in_default.ensures
-
-line_read : (c : After-index) → c.index.result ≡ nat_abs c.args.line
-line_read c = c.index.ensures ∙ rw (to_z-of_z c.ranges.line)
+pub returns-in_err-test_heights : goal.returns-in_err-test_heights
+unfolding good_rate answer_of
+returns-in_err-test_heights c =
+    let a = c.args in
+    let out : out_z (pos 1) (pos a.book.lines) a.line ≡ c.outside.result
+    = sym (c.outside.ensures ∙ rw (stored c.signed_count.result c.signed_count.type_inv c.signed_count.ensures, to_z-of_z c.ranges.line)) in
+    let told = err_from_is_err_and c.from_residual.result c.from_residual.ensures.1 in
+    let e = c.in_err-test_heights.ensures.outside in
+    let here : 0 < first_high a.heights.now = omega (arith, ap (λ (t : Told). t.place) e, c.in_err-test_heights.ensures.at) in
+    rw (told.1, told.2, e, out ∙ c.if-outside.false, lt-ltb 0 (first_high a.heights.now) here)
 
 pub index-requires : goal.index-requires
-index-requires c = rw (to_z-of_z c.ranges.line) (not_negative (line_in c))
+index-requires c =
+    let a = c.args in
+    let out : out_z (pos 1) (pos a.book.lines) a.line ≡ c.outside.result
+    = sym (c.outside.ensures ∙ rw (stored c.signed_count.result c.signed_count.type_inv c.signed_count.ensures, to_z-of_z c.ranges.line)) in
+    let k : Between 1 a.book.lines a.line = between 1 a.book.lines a.line (out ∙ c.if-outside.false) in
+    rw (to_z-of_z c.ranges.line) (not_negative k)
 
-pub line_rate-requires-clause-fact_1 : goal.line_rate-requires-clause-fact_1
-line_rate-requires-clause-fact_1 c =
-    let e = line_read c in
-    let k = line_in (goal.at.line_rate-requires-clause-fact_1 c).In_default in
-    (omega (arith, e, k.low), omega (arith, e, k.high, c.requires.fact_1.whole))
+pub line_rate-requires-clause-a_line : goal.line_rate-requires-clause-a_line
+line_rate-requires-clause-a_line c =
+    let a = c.args in
+    let out : out_z (pos 1) (pos a.book.lines) a.line ≡ c.outside.result
+    = sym (c.outside.ensures ∙ rw (stored c.signed_count.result c.signed_count.type_inv c.signed_count.ensures, to_z-of_z c.ranges.line)) in
+    let k : Between 1 a.book.lines a.line = between 1 a.book.lines a.line (out ∙ c.if-outside.false) in
+    let e : c.index.result ≡ nat_abs a.line = c.index.ensures ∙ rw (to_z-of_z c.ranges.line) in
+    omega (arith, e, k.low)
 
-pub line_rate-requires-clause-fact_2 : goal.line_rate-requires-clause-fact_2
-line_rate-requires-clause-fact_2 c =
-    let e = line_read c in
-    let k = line_in (goal.at.line_rate-requires-clause-fact_2 c).In_default in
+pub line_rate-requires-clause-within : goal.line_rate-requires-clause-within
+line_rate-requires-clause-within c =
+    let a = c.args in
+    let out : out_z (pos 1) (pos a.book.lines) a.line ≡ c.outside.result
+    = sym (c.outside.ensures ∙ rw (stored c.signed_count.result c.signed_count.type_inv c.signed_count.ensures, to_z-of_z c.ranges.line)) in
+    let k : Between 1 a.book.lines a.line = between 1 a.book.lines a.line (out ∙ c.if-outside.false) in
+    let e : c.index.result ≡ nat_abs a.line = c.index.ensures ∙ rw (to_z-of_z c.ranges.line) in
+    omega (arith, e, k.high, c.requires.fact_1.whole)
+
+pub line_rate-requires-clause-good : goal.line_rate-requires-clause-good
+line_rate-requires-clause-good c =
+    let a = c.args in
+    let out : out_z (pos 1) (pos a.book.lines) a.line ≡ c.outside.result
+    = sym (c.outside.ensures ∙ rw (stored c.signed_count.result c.signed_count.type_inv c.signed_count.ensures, to_z-of_z c.ranges.line)) in
+    let k : Between 1 a.book.lines a.line = between 1 a.book.lines a.line (out ∙ c.if-outside.false) in
+    let e : c.index.result ≡ nat_abs a.line = c.index.ensures ∙ rw (to_z-of_z c.ranges.line) in
     c.requires.fact_1.each (c.index.result - 1) (omega (arith, e, k.low, k.high))
 
-pub line_rate-requires-clause-fact_3 : goal.line_rate-requires-clause-fact_3
-line_rate-requires-clause-fact_3 c =
-    working_lent c.args.heights.now c.args.book.marks c.requires.fact_2
-    (none_high (goal.at.line_rate-requires-clause-fact_3 c).In_default)
+pub line_rate-requires-clause-heights : goal.line_rate-requires-clause-heights
+line_rate-requires-clause-heights c =
+    working_lent c.args.heights.now c.args.book.marks c.requires.fact_2 c.in_ok-test_heights.ensures.inside
 
 pub returns : goal.returns
 unfolding good_rate
 returns c =
-    let d : In_default = (goal.at.returns c).In_default in
-    let a : After-index = (goal.at.returns c).After-index in
-    rw (
-      out_read (goal.at.returns c).After-outside ∙ c.if-outside.false,
-      none_high d,
-      ← line_read a,
-    ) c.line_rate.ensures
+    let a = c.args in
+    let out : out_z (pos 1) (pos a.book.lines) a.line ≡ c.outside.result
+    = sym (c.outside.ensures ∙ rw (stored c.signed_count.result c.signed_count.type_inv c.signed_count.ensures, to_z-of_z c.ranges.line)) in
+    let k : Between 1 a.book.lines a.line = between 1 a.book.lines a.line (out ∙ c.if-outside.false) in
+    let e : c.index.result ≡ nat_abs a.line = c.index.ensures ∙ rw (to_z-of_z c.ranges.line) in
+    rw (out ∙ c.if-outside.false, c.in_ok-test_heights.ensures.inside, ← e) c.line_rate.ensures

@@ -17,4 +17,5 @@ returns c =
     read r.result.over ((c.args.k + 1) * most_difference) r.ensures.size (omega (arith, place, c.requires.few)) in
     let s = rw c.line_into.ensures at r.ensures in
     rw e (entered c.args.lines.now c.args.order.now c.args.best.now c.args.b c.args.n c.args.k g place c.args.root.now c.args.over.now
-    r.result.root r.result.over c.requires.placing (ends_of c.args.lines.now c.args.b c.args.n c.requires.good line (g.lines c.args.k place)) s)
+    r.result.root r.result.over c.requires.placing
+    (ends_of c.args.lines.now c.args.b c.args.n c.requires.good line (g.lines c.args.k place)) s)

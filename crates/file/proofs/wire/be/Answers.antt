@@ -13,7 +13,8 @@ overflow_mul-number g c =
 
 -- the number with its next byte
 next : (g : _) → (c : goal.After-from g) → (let l = c.loop-byte in
-    Longer g.row.W c.args.s.now c.args.a c.requires.few l.number l.byte-index c.loop-byte-test.true l.invariant.0 l.invariant.1 c.from.result)
+    Longer g.row.W c.args.s.now c.args.a c.requires.few
+    l.number l.byte-index c.loop-byte-test.true l.invariant.0 l.invariant.1 c.from.result)
 next g c = longer _ _ _ _ _ _ _ _ _ _ c.type_inv.s c.from.ensures
 
 pub overflow_add-number : goal.overflow_add-number

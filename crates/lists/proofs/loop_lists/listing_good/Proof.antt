@@ -45,8 +45,8 @@ returns : tie.Need-returns-then-outside
 returns c =
     let after-find-loops : tie.After-find_loops-found = search in
     let s : tie.Start = search in
-    rw c.refuse.ensures (eight_is _ _ s.requires after-find-loops.find_loops-found.ensures.1 s.args.number s.args.out.now
-    (sym (flag c.before.before) ∙ c.if-outside.true))
+    eight_is _ _ s.requires after-find-loops.find_loops-found.ensures.1 s.args.number s.args.out.now
+    (sym (flag c.before) ∙ c.if-outside.true)
 
 few : (c : tie.After-magnitude-i) → c.magnitude-i.result ≤ most_lines
 few c = let s : tie.Start = search in omega (arith, there c, few_loops _ _ s.requires, s.requires.good.few)
@@ -94,7 +94,6 @@ listing_good_spec =
     (λ c κs. search rules)  -- find_loops-found-requires
     (λ c κs. search rules)  -- signed_count-requires
     (λ c κs. search rules)  -- outside-requires
-    (λ c κs. search rules)  -- refuse-requires
     returns
     (λ c κs. search rules)  -- magnitude-i-requires
     (λ c. (there c).0)  -- overflow_sub-i

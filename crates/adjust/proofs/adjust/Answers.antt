@@ -1,0 +1,30 @@
+use Rattle.std.proofs.Common.{rules, ◌≡◌, ◌∙◌, sym}
+use Rattle.std.proofs.lemmas.Result.{err_from_is_err_and}
+use Rattle.book.specs.Lent.{lent}
+use Rattle.book.specs.Test.{test_of, Good, Refused}
+use Rattle.book.specs.Refusals.{told_of}
+use Rattle.book.proofs.Goods.{tested_good}
+use Rattle.adjust.proofs.Calling.{good_entries, by_refusal, by_good_book}
+use Rattle.adjust.proofs.adjust.Goals as goal
+
+pub returns-in_err-book : goal.returns-in_err-book
+returns-in_err-book c =
+    let a = c.args in
+    let book = lent a.version a.b a.t a.held.now a.lines.now in
+    let told = err_from_is_err_and c.from_residual.result c.from_residual.ensures.1 in
+    let refused : Refused (told_of c.in_err-book.field-0.0) ≡ test_of book = c.in_err-book.ensures ∙ search rules in
+    rw (told.1, told.2) (sym (by_refusal book a.heights.now _ (sym refused)))
+
+pub adjust_good-requires : goal.adjust_good-requires
+adjust_good-requires c =
+    let a = c.args in
+    let book = lent a.version a.b a.t a.held.now a.lines.now in
+    let passed : Good c.in_ok-book.book ≡ test_of book = c.in_ok-book.ensures ∙ search rules in
+    good_entries _ _ (tested_good book _ (sym passed))
+
+pub returns : goal.returns
+returns c =
+    let a = c.args in
+    let book = lent a.version a.b a.t a.held.now a.lines.now in
+    let passed : Good c.in_ok-book.book ≡ test_of book = c.in_ok-book.ensures ∙ search rules in
+    c.adjust_good.ensures ∙ sym (by_good_book book a.heights.now c.in_ok-book.book (sym passed))

@@ -1,0 +1,15 @@
+use Rattle.std.proofs.Common.{rules, ◌≡◌, ◌∙◌}
+use Rattle.book.specs.Height.{held_height_of, held_height_out}
+use Rattle.book.proofs.height.Height.held.Goals as goal
+
+pub returns-then-outside-clause-made : goal.returns-then-outside-clause-made
+unfolding held_height_of held_height_out
+returns-then-outside-clause-made c =
+    let out : c.outside.result ≡ held_height_out c.args.x = c.outside.ensures ∙ search rules in
+    rw (← out, c.if-outside.true)
+
+pub returns-clause-made : goal.returns-clause-made
+unfolding held_height_of held_height_out
+returns-clause-made c =
+    let out : c.outside.result ≡ held_height_out c.args.x = c.outside.ensures ∙ search rules in
+    rw (← out, c.if-outside.false) (search rules)
