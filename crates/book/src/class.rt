@@ -21,8 +21,8 @@ pub(crate) fn outside(version: i64, class: i64) -> bool
 
 // The tolerance of a line of this class: the table's, or the book's single t where the line has none.
 pub fn tolerance(class: i64, t: usize) -> usize
-    requires fact_1 { Classed class }
-    requires fact_2 { t ≤ most_tolerance }
+    requires classed { Classed class }
+    requires small { t ≤ most_tolerance }
     ensures { (result ≡ tolerance_of t class) × (result ≤ most_tolerance) }
 {
     if signed::same(class, Line::NO_CLASS) {

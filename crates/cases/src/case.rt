@@ -17,8 +17,8 @@ pub fn two(s: &[u8], at: usize) -> usize
 // The place again and no Option: it is public, and `after_case` says so.
 #[tactic(auto, unfolding(crate::specs::Case::after_case))]
 pub fn after(input: &[u8], at: usize, numbers: usize) -> usize
-    requires fact_1 { at ≤ length input.now }
-    requires fact_2 { numbers ≤ 3 }
+    requires place { at ≤ length input.now }
+    requires few { numbers ≤ 3 }
     ensures { (result ≡ after_case input.now at numbers) × (result ≤ length input.now) }
 {
     let head = NAME_BYTES + 2 * numbers;

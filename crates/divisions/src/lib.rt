@@ -22,9 +22,9 @@ pub fn weight(length: usize) -> usize
 
 // g / d to the nearest whole number, halves toward zero.
 pub fn move_by(g: i64, d: usize) -> i64
-    requires fact_1 { (d ≡ 0 → nat_abs g ≡ 0) }
-    requires fact_2 { d < 2 ^ 62 }
-    requires fact_3 { nat_abs g < 2 ^ 63 }
+    requires still { (d ≡ 0 → nat_abs g ≡ 0) }
+    requires divisor { d < 2 ^ 62 }
+    requires size { nat_abs g < 2 ^ 63 }
     ensures { result ≡ nearest g d }
 {
     if d == 0 {

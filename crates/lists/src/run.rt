@@ -17,8 +17,8 @@ fn listed_by(code: u16) -> i64
 // The lines of a run, from place 0 of out on.
 // Beside watch::list_numbers: it is public, and one over both by a closure would be a third.
 pub fn list_run(run: &[u16], out: &mut [i64])
-    requires fact_1 { Coded run.now }
-    requires fact_2 { length run.now ≤ length out.old }
+    requires coded { Coded run.now }
+    requires room { length run.now ≤ length out.old }
     ensures { out.new ≡ map listed_by run.now ++ drop (length run.now) out.old }
 {
     for (i, &code) in run.iter().enumerate() {

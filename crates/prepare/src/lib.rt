@@ -64,8 +64,8 @@ pub fn plant_book(
     seg: &mut [u64],
     order: &mut [u64],
 )
-    requires fact_1 { GoodLines book lines.now }
-    requires fact_2 { RoomBook ends.old head.old next.old best.old seg.old order.old }
+    requires good { GoodLines book lines.now }
+    requires room { RoomBook ends.old head.old next.old best.old seg.old order.old }
     ensures { BookPlanted (book.marks + 1) lines.now ends.new head.new next.new
         best.new
         order.new }

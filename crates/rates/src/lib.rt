@@ -41,8 +41,8 @@ pub struct LineRate {
 
 // Both numbers are below 2 to the 53rd, so that the casts are exact; the quotient is rounded once.
 fn per_km(correction: i64, length: i64) -> f64
-    requires fact_1 { nat_abs correction < 2 ^ 53 }
-    requires fact_2 { nat_abs length < 2 ^ 53 }
+    requires correction { nat_abs correction < 2 ^ 53 }
+    requires length { nat_abs length < 2 ^ 53 }
     ensures { result ≡ quotient correction length }
 {
     correction as f64 / length as f64
@@ -80,8 +80,8 @@ fn test_heights(heights: &[i64]) -> Result<(), Refusal>
 
 // Adjusted minus observed difference of a line.
 fn correction_of(line: Line, heights: &[i64], b: usize) -> i64
-    requires fact_1 { OfBook b line }
-    requires fact_2 { Working heights.now b }
+    requires of_book { OfBook b line }
+    requires working { Working heights.now b }
     ensures { (result ≡ correction_of heights.now line) × (nat_abs result < 2 ^ 53) }
 {
     let to = signed::index(line.to);
@@ -122,8 +122,8 @@ fn line_rate(lines: &[i64], heights: &[i64], b: usize, line: usize) -> Result<Li
 
 // The answer for a book that has passed its test: 8, then 13.
 pub fn good_rate(lines: &[i64], heights: &[i64], book: Book, line: i64) -> Result<LineRate, Refusal>
-    requires fact_1 { Lines lines.now book.marks book.lines }
-    requires fact_2 { length heights.now ≡ book.marks }
+    requires lines { Lines lines.now book.marks book.lines }
+    requires heights { length heights.now ≡ book.marks }
     ensures { answer_of result ≡ good_rate heights.now lines.now book line }
 {
     if signed::outside(line, 1, signed::signed_count(book.lines)) {

@@ -81,8 +81,8 @@ fn rise_by(lines: &[i64], code: usize) -> i64
 
 // The length of a run.
 pub fn run_length(lines: &[i64], run: &[u16]) -> usize
-    requires fact_1 { Measured lines.now }
-    requires fact_2 { LinesIn lines.now run.now }
+    requires measured { Measured lines.now }
+    requires run { LinesIn lines.now run.now }
     ensures { (result ≡ length_of lines.now run.now) × (result ≤ most_lines * most_length) }
 {
     run.iter()
@@ -104,8 +104,8 @@ fn run_allows(lines: &[i64], run: &[u16], t: usize) -> usize
 
 // The rise of a run.
 pub fn run_rise(lines: &[i64], run: &[u16]) -> i64
-    requires fact_1 { Measured lines.now }
-    requires fact_2 { LinesIn lines.now run.now }
+    requires measured { Measured lines.now }
+    requires run { LinesIn lines.now run.now }
     ensures { (result ≡ rise_of lines.now run.now) × (nat_abs result ≤ most_lines * most_difference) }
 {
     let mut sum = 0;
@@ -155,10 +155,10 @@ fn write_row(
 
 // The row of the loop with this run, in a book of tolerance t.
 pub fn row_of(lines: &[i64], run: &[u16], out: &mut [i64], t: usize)
-    requires fact_1 { Measured lines.now }
-    requires fact_2 { RunIn lines.now run.now }
-    requires fact_3 { t ≤ most_tolerance }
-    requires fact_4 { length out.old ≡ row_words }
+    requires measured { Measured lines.now }
+    requires run { RunIn lines.now run.now }
+    requires tolerance { t ≤ most_tolerance }
+    requires row { length out.old ≡ row_words }
     ensures { out.new ≡ row_of t lines.now run.now }
 {
     let metres = run_length(lines, run);
@@ -184,9 +184,9 @@ pub fn write_rows(
     count: usize,
     out: &mut [i64],
 )
-    requires fact_1 { GoodLines book lines.now }
-    requires fact_2 { Table (loops_of book.marks lines.now) starts.now runs.now count }
-    requires fact_3 { count * row_words ≤ length out.old }
+    requires good { GoodLines book lines.now }
+    requires table { Table (loops_of book.marks lines.now) starts.now runs.now count }
+    requires room { count * row_words ≤ length out.old }
     ensures { out.new
         ≡ report_of book.marks book.tolerance lines.now ++ drop (count * row_words) out.old }
 {

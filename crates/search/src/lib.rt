@@ -35,10 +35,10 @@ pub fn relax(
     first: usize,
     base: u64,
 )
-    requires fact_1 { Bounded n ends.now }
-    requires fact_2 { Chained next.now first }
-    requires fact_3 { Stage n best.old seg.old }
-    requires fact_4 { base ≤ limit }
+    requires bounded { Bounded n ends.now }
+    requires chained { Chained next.now first }
+    requires stage { Stage n best.old seg.old }
+    requires base { base ≤ limit }
     ensures { Relaxed n next.now ends.now (keys best.old seg.old)
         (keys best.new seg.new) first base }
 {
@@ -86,9 +86,9 @@ pub fn turn(
     n: usize,
     to: usize,
 ) -> usize
-    requires fact_1 { Bounded n ends.now }
-    requires fact_2 { Heads n head.now next.now }
-    requires fact_3 { Stage n best.old seg.old }
+    requires bounded { Bounded n ends.now }
+    requires heads { Heads n head.now next.now }
+    requires stage { Stage n best.old seg.old }
     ensures { Turned n head.now next.now ends.now
         (keys best.old seg.old) (keys best.new seg.new) to result }
 {
@@ -214,9 +214,9 @@ pub fn path(
     r: usize,
     to: usize,
 ) -> usize
-    requires fact_1 { Held n head.now next.now ends.now }
-    requires fact_2 { RoomPath n best.old seg.old out.old }
-    requires fact_3 { Two n r to }
+    requires held { Held n head.now next.now ends.now }
+    requires room { RoomPath n best.old seg.old out.old }
+    requires two { Two n r to }
     ensures { Pathed n head.now next.now ends.now out.old out.new r to result }
 {
     if let Some(h) = direct_half(head, next, ends, n, r, to) {

@@ -140,13 +140,13 @@ pub fn write_rows(
     b: usize,
     n: usize,
 )
-    requires fact_1 { Lines lines.now b n }
-    requires fact_2 { InOrder (standing lines.now) (b + 1) head.now next.now }
-    requires fact_3 { InRange (columns other.old rise.old weight.old) b }
-    requires fact_4 { RoomRows (sights_of (standing lines.now)) first.old (columns other.old rise.old weight.old) total.old b }
-    ensures fact_1 { Table first.new (columns other.new rise.new weight.new)
+    requires lines { Lines lines.now b n }
+    requires in_order { InOrder (standing lines.now) (b + 1) head.now next.now }
+    requires in_range { InRange (columns other.old rise.old weight.old) b }
+    requires room { RoomRows (sights_of (standing lines.now)) first.old (columns other.old rise.old weight.old) total.old b }
+    ensures table { Table first.new (columns other.new rise.new weight.new)
         total.new b }
-    ensures fact_2 { Sighted (rows first.new (columns other.new rise.new weight.new))
+    ensures sighted { Sighted (rows first.new (columns other.new rise.new weight.new))
         (sights_of (standing lines.now)) b }
 {
     let mut weights = [0; Book::MAX_LINES];

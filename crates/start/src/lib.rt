@@ -141,8 +141,8 @@ fn hold(held: &[i64], flags: &mut [bool], own: &mut [i64], b: usize, i: usize)
 // Every held mark has its own height, by the entry that names it first.
 // Beside lift_all: a function that takes the leaf would have to lend it its tables, and is longer than the three lines.
 pub fn hold_all(held: &[i64], flags: &mut [bool], own: &mut [i64], b: usize, h: usize)
-    requires fact_1 { HeldEntries held.now b h }
-    requires fact_2 { Blank flags.old own.old b }
+    requires held { HeldEntries held.now b h }
+    requires blank { Blank flags.old own.old b }
     ensures { Given (held_height held.now) flags.new own.new b most_held_height }
 {
     for i in (0..h).rev() {
@@ -343,10 +343,10 @@ pub fn start_heights(
     b: usize,
     n: usize,
 ) -> Option<usize>
-    requires fact_1 { Lines lines.now b n }
-    requires fact_2 { Growth order.now best.now b n }
-    requires fact_3 { HeldIn flags.now own.now b }
-    requires fact_4 { length z.old ≡ b }
+    requires lines { Lines lines.now b n }
+    requires growth { Growth order.now best.now b n }
+    requires held { HeldIn flags.now own.now b }
+    requires heights { length z.old ≡ b }
     ensures { (m : ℕ) × (result ≡ some_mark m)
         × Started (rooting lines.now order.now best.now b) flags.now own.now z.new b m }
 {

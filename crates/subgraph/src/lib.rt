@@ -29,8 +29,8 @@ pub fn lay_tree(
     next: &mut [u64],
     n: usize,
 ) -> usize
-    requires fact_1 { Bounded n ends.now }
-    requires fact_2 { RoomLay n best.now order.now head.old next.old }
+    requires bounded { Bounded n ends.now }
+    requires room { RoomLay n best.now order.now head.old next.old }
     ensures { TreeLaid n ends.now best.now order.now head.new next.new result }
 {
     chains::zero(head, n);

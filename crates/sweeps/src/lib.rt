@@ -247,11 +247,11 @@ pub fn settle_lines(
     b: usize,
     n: usize,
 ) -> Result<usize, Unsettled>
-    requires fact_1 { Lines lines.now b n }
-    requires fact_2 { InOrder (standing lines.now) (b + 1) head.now next.now }
-    requires fact_3 { (0 < b) × (b ≤ most_marks) }
-    requires fact_4 { Working h.old b }
-    requires fact_5 { b ≤ length held.now }
+    requires lines { Lines lines.now b n }
+    requires in_order { InOrder (standing lines.now) (b + 1) head.now next.now }
+    requires marks { (0 < b) × (b ≤ most_marks) }
+    requires working { Working h.old b }
+    requires flagged { b ≤ length held.now }
     ensures { ended_at result h.new ≡ settle (sights_of (standing lines.now)) (flags held.now) b
         h.old }
 {

@@ -84,10 +84,10 @@ fn find_in(
 
 // The loops of a tested book are found, in work tables on the stack.
 pub fn find_loops(book: Book, lines: &[i64], starts: &mut [u64], runs: &mut [u16]) -> Found
-    requires fact_1 { GoodLines book lines.now }
-    requires fact_2 { RoomTable starts.old runs.old }
-    ensures fact_1 { result ≡ found_in book.marks lines.now }
-    ensures fact_2 { Table (loops_of book.marks lines.now) starts.new runs.new result.count }
+    requires good { GoodLines book lines.now }
+    requires room { RoomTable starts.old runs.old }
+    ensures found { result ≡ found_in book.marks lines.now }
+    ensures table { Table (loops_of book.marks lines.now) starts.new runs.new result.count }
 {
     let mut ends = [0u64; prepare::HALVES];
     let mut head = [0u64; prepare::MARKS];

@@ -62,11 +62,11 @@ pub fn plant(
     order: &mut [u64],
     n: usize,
 )
-    requires fact_1 { Bounded n ends.now }
-    requires fact_2 { Heads n head.now next.now }
-    requires fact_3 { RoomTree n best.old seg.old order.old }
-    ensures fact_1 { Planted n head.now next.now ends.now best.new order.new }
-    ensures fact_2 { Below n order.new }
+    requires bounded { Bounded n ends.now }
+    requires heads { Heads n head.now next.now }
+    requires room { RoomTree n best.old seg.old order.old }
+    ensures planted { Planted n head.now next.now ends.now best.new order.new }
+    ensures below { Below n order.new }
 {
     chains::zero(order, n);
     nearest::clear(best, n);

@@ -178,9 +178,9 @@ pub fn list_book(
     marked: &mut [u64; NUMBERS],
     out: &mut [u64],
 ) -> usize
-    requires fact_1 { GoodLines book lines.now }
-    requires fact_2 { RoomBook ends.old head.old next.old best.old seg.old order.old }
-    requires fact_3 { RoomList marked.old out.old }
+    requires good { GoodLines book lines.now }
+    requires tables { RoomBook ends.old head.old next.old best.old seg.old order.old }
+    requires room { RoomList marked.old out.old }
     ensures { BookListed book.marks lines.now out.old out.new result }
 {
     prepare::plant_book(book, lines, ends, head, next, best, seg, order);

@@ -25,9 +25,9 @@ returns-in_err-book c =
     = rw (← outside) (c.in_err-book.ensures ∙ search rules) in
     rw (told.1, told.2, ← refused)
 
-pub good_rate-requires-clause-fact_1 : goal.good_rate-requires-clause-fact_1
+pub good_rate-requires-clause-lines : goal.good_rate-requires-clause-lines
 unfolding heights_out
-good_rate-requires-clause-fact_1 c =
+good_rate-requires-clause-lines c =
     let a = c.args in
     let book = lent a.version a.b a.t a.held.now a.lines.now in
     let same : c.same-outside.result ≡ eq_z (pos (length a.heights.now)) a.b
@@ -37,9 +37,9 @@ good_rate-requires-clause-fact_1 c =
     = rw (← outside) (c.in_ok-book.ensures ∙ search rules) in
     lines_of book _ (beside_passes book _ _ (sym passed)).1
 
-pub good_rate-requires-clause-fact_2 : goal.good_rate-requires-clause-fact_2
+pub good_rate-requires-clause-heights : goal.good_rate-requires-clause-heights
 unfolding heights_out
-good_rate-requires-clause-fact_2 c =
+good_rate-requires-clause-heights c =
     let a = c.args in
     let book = lent a.version a.b a.t a.held.now a.lines.now in
     let same : c.same-outside.result ≡ eq_z (pos (length a.heights.now)) a.b

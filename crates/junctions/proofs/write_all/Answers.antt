@@ -38,8 +38,8 @@ write-requires-clause-some_links c = loops_asked c.requires.some_sketch _ _ _ c.
 pub slice_bounds-list_run-end : goal.slice_bounds-list_run-end
 slice_bounds-list_run-end c = run_there c.requires.some_sketch _ c.requires.so_many
 
-pub list_run-requires-clause-fact_1 : goal.list_run-requires-clause-fact_1
-list_run-requires-clause-fact_1 c = run_coded c.requires.some_sketch.held _ c.requires.so_many
+pub list_run-requires-clause-coded : goal.list_run-requires-clause-coded
+list_run-requires-clause-coded c = run_coded c.requires.some_sketch.held _ c.requires.so_many
 
 pub returns : goal.returns
 returns c = λ s o.

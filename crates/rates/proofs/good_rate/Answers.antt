@@ -54,7 +54,7 @@ line_rate-requires-clause-within c =
     = sym (c.outside.ensures ∙ rw (stored c.signed_count.result c.signed_count.type_inv c.signed_count.ensures, to_z-of_z c.ranges.line)) in
     let k : Between 1 a.book.lines a.line = between 1 a.book.lines a.line (out ∙ c.if-outside.false) in
     let e : c.index.result ≡ nat_abs a.line = c.index.ensures ∙ rw (to_z-of_z c.ranges.line) in
-    omega (arith, e, k.high, c.requires.fact_1.whole)
+    omega (arith, e, k.high, c.requires.lines.whole)
 
 pub line_rate-requires-clause-good : goal.line_rate-requires-clause-good
 line_rate-requires-clause-good c =
@@ -63,11 +63,11 @@ line_rate-requires-clause-good c =
     = sym (c.outside.ensures ∙ rw (stored c.signed_count.result c.signed_count.type_inv c.signed_count.ensures, to_z-of_z c.ranges.line)) in
     let k : Between 1 a.book.lines a.line = between 1 a.book.lines a.line (out ∙ c.if-outside.false) in
     let e : c.index.result ≡ nat_abs a.line = c.index.ensures ∙ rw (to_z-of_z c.ranges.line) in
-    c.requires.fact_1.each (c.index.result - 1) (omega (arith, e, k.low, k.high))
+    c.requires.lines.each (c.index.result - 1) (omega (arith, e, k.low, k.high))
 
 pub line_rate-requires-clause-heights : goal.line_rate-requires-clause-heights
 line_rate-requires-clause-heights c =
-    working_lent c.args.heights.now c.args.book.marks c.requires.fact_2 c.in_ok-test_heights.ensures.inside
+    working_lent c.args.heights.now c.args.book.marks c.requires.heights c.in_ok-test_heights.ensures.inside
 
 pub returns : goal.returns
 unfolding good_rate

@@ -37,8 +37,8 @@ returns-then-same c =
     let gone : c.same.result ≡ eq_z (standing_at c.args.lines.now i) (pos 0) = rw read at c.same.ensures in
     rw (sym gone ∙ c.if-same.true)
 
-pub correction_of-correction-requires-clause-fact_1 : goal.correction_of-correction-requires-clause-fact_1
-correction_of-correction-requires-clause-fact_1 c =
+pub correction_of-correction-requires-clause-of_book : goal.correction_of-correction-requires-clause-of_book
+correction_of-correction-requires-clause-of_book c =
     let i = c.args.line - 1 in
     let b : to_z w64 (of_z w64 c.signed_count.result) ≡ pos c.args.b
     = stored c.signed_count.result c.signed_count.type_inv c.signed_count.ensures in
@@ -49,8 +49,8 @@ correction_of-correction-requires-clause-fact_1 c =
     let g = c.requires.good in
     subst (OfBook c.args.b) (sym its) (record { from = g.from; to = g.to; difference = g.difference })
 
-pub per_km-rate-requires-clause-fact_2 : goal.per_km-rate-requires-clause-fact_2
-per_km-rate-requires-clause-fact_2 c =
+pub per_km-rate-requires-clause-length : goal.per_km-rate-requires-clause-length
+per_km-rate-requires-clause-length c =
     let i = c.args.line - 1 in
     let b : to_z w64 (of_z w64 c.signed_count.result) ≡ pos c.args.b
     = stored c.signed_count.result c.signed_count.type_inv c.signed_count.ensures in

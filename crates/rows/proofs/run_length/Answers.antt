@@ -10,17 +10,17 @@ pub sum-requires-clause-can : goal.sum-requires-clause-can
 sum-requires-clause-can c = (
   tt,
   serves_from_places (YieldsList-from_slice c.args.run.now cc) (λ x q e. search rules)
-      (λ x k lt is. let runs = run_there c.requires.fact_2 k x.now lt is in search rules),
+      (λ x k lt is. let runs = run_there c.requires.run k x.now lt is in search rules),
 )
 
 pub sum-requires-clause-fits : goal.sum-requires-clause-fits
 sum-requires-clause-fits c =
     let small : sum_by (length_by c.args.lines.now) c.args.run.now < 2 ^ 64 =
-    omega (arith, lengths_size _ _ c.requires.fact_1 c.requires.fact_2) in
+    omega (arith, lengths_size _ _ c.requires.measured c.requires.run) in
     search rules
 
 pub returns : goal.returns
 unfolding length_of
 returns c =
     let is : c.sum.result ≡ sum_by (length_by c.args.lines.now) c.args.run.now = search rules in
-    (is ∙ sym (sum_same _ _), omega (arith, is, lengths_size _ _ c.requires.fact_1 c.requires.fact_2))
+    (is ∙ sym (sum_same _ _), omega (arith, is, lengths_size _ _ c.requires.measured c.requires.run))

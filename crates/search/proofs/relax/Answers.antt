@@ -10,7 +10,7 @@ pub loop-h-preserved : goal.loop-h-preserved
 loop-h-preserved c =
     let v = c.loop-h.invariant in (
       chain_rest v.0.1 (omega arith),
-      relax_turn _ _ _ _ _ _ _ _ _ _ _ _ v.1 (omega arith) (c.requires.fact_1.mark_ok c.loop-h.h (chain_low v.0.1)) c.offer.ensures,
+      relax_turn _ _ _ _ _ _ _ _ _ _ _ _ v.1 (omega arith) (c.requires.bounded.mark_ok c.loop-h.h (chain_low v.0.1)) c.offer.ensures,
     )
 
 pub returns : goal.returns

@@ -8,7 +8,7 @@ use Rattle.sights.proofs.write_rows.Goals as goal
 use Rattle.sights.proofs.write_rows.Goals.{After-write_chain-e, After-loop-v}
 
 pub loop-v-init : goal.loop-v-init
-loop-v-init c = record { long = refl; room = c.requires.fact_4; rowed = rowed_none _ _ _ _ _ c.requires.fact_3 }
+loop-v-init c = record { long = refl; room = c.requires.room; rowed = rowed_none _ _ _ _ _ c.requires.in_range }
 
 -- place v is that of mark v + 1
 here : (lines : List ℤ) (v : ℕ) → sights_of (standing lines) (v + 1) ≡ sights_of (standing lines) (suc v)
@@ -72,12 +72,12 @@ module _ (c : After-loop-v) where
   room : RoomRows seen_at (set c.loop-v.first c.args.b c.loop-v.c) cols c.loop-v.total c.args.b
   room = room_kept _ _ _ _ _ _ _ _ c.loop-v.invariant.room (length-set c.loop-v.first _ _) refl refl refl refl
 
-pub returns-clause-fact_1 : goal.returns-clause-fact_1
-returns-clause-fact_1 c =
-    let l : After-loop-v = (goal.at.returns-clause-fact_1 c).After-loop-v in
+pub returns-clause-table : goal.returns-clause-table
+returns-clause-table c =
+    let l : After-loop-v = (goal.at.returns-clause-table c).After-loop-v in
     table_is _ _ _ _ _ _ _ (room l) (full l) c.loop-v.invariant.room.firsts refl
 
-pub returns-clause-fact_2 : goal.returns-clause-fact_2
-returns-clause-fact_2 c =
-    let l : After-loop-v = (goal.at.returns-clause-fact_2 c).After-loop-v in
+pub returns-clause-sighted : goal.returns-clause-sighted
+returns-clause-sighted c =
+    let l : After-loop-v = (goal.at.returns-clause-sighted c).After-loop-v in
     rows_are _ _ _ _ _ _ _ (room l) (full l) c.loop-v.invariant.room.firsts refl

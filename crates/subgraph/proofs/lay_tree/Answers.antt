@@ -6,7 +6,7 @@ use Rattle.subgraph.proofs.lay_tree.Goals as goal
 
 pub loop-mark-init : goal.loop-mark-init
 loop-mark-init c =
-    let room : RoomChains c.args.n c.zero.new.a c.args.next.now = record { heads = omega arith; nexts = c.requires.fact_2.chains.nexts } in
+    let room : RoomChains c.args.n c.zero.new.a c.args.next.now = record { heads = omega arith; nexts = c.requires.room.chains.nexts } in
     (omega arith, λ q lines li ho. lay_start _ _ _ lines li _ _ ho _ _ room c.zero.ensures)
 
 pub loop-mark-preserved : goal.loop-mark-preserved

@@ -15,16 +15,16 @@ pulled c =
     let h = read (get_or c.args.h.now c.args.v (pos 0)) most_height (c.requires.working.inside c.args.v) (omega arith) in
     stored c.pull_of-g.result c.pull_of-g.type_inv (c.pull_of-g.ensures ∙ rw h)
 
-pub move_by-requires-clause-fact_1 : goal.move_by-requires-clause-fact_1
-move_by-requires-clause-fact_1 c =
-    rw (pulled (goal.at.move_by-requires-clause-fact_1 c).After-pull_of-g) (total_zero c.requires.table c.requires.working c.requires.place)
+pub move_by-requires-clause-still : goal.move_by-requires-clause-still
+move_by-requires-clause-still c =
+    rw (pulled (goal.at.move_by-requires-clause-still c).After-pull_of-g) (total_zero c.requires.table c.requires.working c.requires.place)
 
-pub move_by-requires-clause-fact_2 : goal.move_by-requires-clause-fact_2
-move_by-requires-clause-fact_2 c = total_fits c.requires.table c.requires.working c.requires.place
+pub move_by-requires-clause-divisor : goal.move_by-requires-clause-divisor
+move_by-requires-clause-divisor c = total_fits c.requires.table c.requires.working c.requires.place
 
-pub move_by-requires-clause-fact_3 : goal.move_by-requires-clause-fact_3
-move_by-requires-clause-fact_3 c =
-    rw (pulled (goal.at.move_by-requires-clause-fact_3 c).After-pull_of-g)
+pub move_by-requires-clause-size : goal.move_by-requires-clause-size
+move_by-requires-clause-size c =
+    rw (pulled (goal.at.move_by-requires-clause-size c).After-pull_of-g)
     (omega (arith, pull_fits c.requires.table c.requires.working c.requires.place))
 
 pub returns : goal.returns

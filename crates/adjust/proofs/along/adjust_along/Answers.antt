@@ -4,8 +4,8 @@ use Rattle.adjust.proofs.Whole.{held_in, unheld_answer, working, settled_answer,
 use Rattle.fields.proofs.Named.{is_none, is_some_mark}
 use Rattle.adjust.proofs.along.adjust_along.Goals as goal
 
-pub start_heights-requires-clause-fact_3 : goal.start_heights-requires-clause-fact_3
-start_heights-requires-clause-fact_3 c =
+pub start_heights-requires-clause-held : goal.start_heights-requires-clause-held
+start_heights-requires-clause-held c =
     let g = c.requires.good.lines_good in
     held_in _ _ _ _ _ _ _ g.few_marks g.good c.requires.good.held_good c.requires.planted.entered _ _ c.hold_all.ensures
 
@@ -18,8 +18,8 @@ returns-in-Some c =
     let its = is_some_mark c.in-Some.mark s.0 (sym c.in-Some.is ∙ s.1) in
     unheld_answer _ _ _ _ _ _ _ g.few_marks g.good helds p.entered _ _ c.hold_all.ensures _ _ s.2 _ _ (omega (arith, its)) (rw its.0)
 
-pub settle_lines-requires-clause-fact_4 : goal.settle_lines-requires-clause-fact_4
-settle_lines-requires-clause-fact_4 c =
+pub settle_lines-requires-clause-working : goal.settle_lines-requires-clause-working
+settle_lines-requires-clause-working c =
     let g = c.requires.good.lines_good in
     let helds = c.requires.good.held_good in
     let p = c.requires.planted in

@@ -13,22 +13,22 @@ use Rattle.book.proofs.class.tolerance.Goals as goal
 pub returns-then-same : goal.returns-then-same
 returns-then-same c =
     let flag : c.same.result ≡ eq_z c.args.class no_class = c.same.ensures ∙ search rules in
-    (sym (no_class_tolerance _ _ (eq_z_true _ no_class (sym flag ∙ c.if-same.true))), c.requires.fact_2)
+    (sym (no_class_tolerance _ _ (eq_z_true _ no_class (sym flag ∙ c.if-same.true))), c.requires.small)
 
 pub index-requires : goal.index-requires
 index-requires c =
     let flag : c.same.result ≡ eq_z c.args.class no_class = c.same.ensures ∙ search rules in
-    let looked_up : Between least_class most_class c.args.class = in_table _ c.requires.fact_1 (sym flag ∙ c.if-same.false) in
+    let looked_up : Between least_class most_class c.args.class = in_table _ c.requires.classed (sym flag ∙ c.if-same.false) in
     search (not_negative looked_up, rules)
 
 pub returns : goal.returns
 returns c =
     let flag : c.same.result ≡ eq_z c.args.class no_class = c.same.ensures ∙ search rules in
-    let looked_up : Between least_class most_class c.args.class = in_table _ c.requires.fact_1 (sym flag ∙ c.if-same.false) in
+    let looked_up : Between least_class most_class c.args.class = in_table _ c.requires.classed (sym flag ∙ c.if-same.false) in
     let place : c.index.result ≡ nat_abs c.args.class = c.index.ensures ∙ search rules in
     let found : get_or tolerances c.index.result 0 ≡ tolerance_of c.args.t c.args.class
     = rw place (sym (class_tolerance c.args.t c.args.class looked_up)) in (
       found,
       subst (λ (n : ℕ). n ≤ most_tolerance) (sym found)
-          (tolerance_at_most c.args.t c.args.class c.requires.fact_2 c.requires.fact_1),
+          (tolerance_at_most c.args.t c.args.class c.requires.small c.requires.classed),
     )

@@ -9,5 +9,5 @@ pub loop-i-preserved : goal.loop-i-preserved
 loop-i-preserved c =
     let run = c.args.run.now in
     let n = length-map run listed_by in
-    laid_next _ _ _ c.loop-i.i _ (listed_by 0) (omega (arith, n, c.requires.fact_2)) (omega (arith, n))
+    laid_next _ _ _ c.loop-i.i _ (listed_by 0) (omega (arith, n, c.requires.room)) (omega (arith, n))
     (stored _ c.listed_by.type_inv c.listed_by.ensures ∙ sym (get_or-map listed_by run c.loop-i.i 0)) c.loop-i.invariant

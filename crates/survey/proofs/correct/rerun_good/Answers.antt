@@ -51,9 +51,9 @@ bounds-lines-at c =
     let at : c.place_of-at.result ≡ place_of a.number difference_field = c.place_of-at.ensures ∙ search rules in
     rw at (place_inside its (omega arith))
 
-pub write_rows-requires-clause-fact_1 : goal.write_rows-requires-clause-fact_1
+pub write_rows-requires-clause-good : goal.write_rows-requires-clause-good
 unfolding rerun_lines
-write_rows-requires-clause-fact_1 c =
+write_rows-requires-clause-good c =
     let a = c.args in
     let s = c.requires.good in
     let kept : Own c.in_ok-found.found ≡ kept_of a.book a.lines.now a.report.now a.number = c.in_ok-found.ensures.kept ∙ search rules in
@@ -66,9 +66,9 @@ write_rows-requires-clause-fact_1 c =
     = rerun_lines_good a.book a.lines.now s a.number _ its a.difference c.requires.difference in
     rw new still
 
-pub write_rows-requires-clause-fact_2 : goal.write_rows-requires-clause-fact_2
+pub write_rows-requires-clause-table : goal.write_rows-requires-clause-table
 unfolding rerun_lines
-write_rows-requires-clause-fact_2 c =
+write_rows-requires-clause-table c =
     let a = c.args in
     let s = c.requires.good in
     let kept : Own c.in_ok-found.found ≡ kept_of a.book a.lines.now a.report.now a.number = c.in_ok-found.ensures.kept ∙ search rules in
@@ -81,9 +81,9 @@ write_rows-requires-clause-fact_2 c =
     = rerun_lines_good a.book a.lines.now s a.number _ its a.difference c.requires.difference in
     rw new (table_of_again _ _ _ _ _ its (c.in_ok-found.ensures.table _ refl))
 
-pub write_rows-requires-clause-fact_3 : goal.write_rows-requires-clause-fact_3
+pub write_rows-requires-clause-room : goal.write_rows-requires-clause-room
 unfolding rerun_lines
-write_rows-requires-clause-fact_3 c =
+write_rows-requires-clause-room c =
     let a = c.args in
     let s = c.requires.good in
     let kept : Own c.in_ok-found.found ≡ kept_of a.book a.lines.now a.report.now a.number = c.in_ok-found.ensures.kept ∙ search rules in
