@@ -3,13 +3,22 @@
 -- Assumes nothing.
 use mathlib.Core.Path.{◌≡◌, refl, sym, ◌∙◌, ap}
 use mathlib.Core.Bool.{Bool}
-use mathlib.Core.List.{List}
+use mathlib.Core.List.{List, [], ◌∷◌}
 use Prim.Native.Nat.{ℕ}
 use lib.IntN.{ℤ}
-use Rattle.std.specs.Prelude.{Result, Ok, Err}
+use Rattle.std.specs.Prelude.{Result, Ok, Err, IfErr}
 use Rattle.book.specs.declared.Book.{Book}
 use Rattle.book.specs.declared.refusal.Refusal.{Refusal}
-use Rattle.book.specs.Refusals.{Told, told_of}
+use Rattle.book.specs.Refusals.{Told, number_of, place_of, told_of}
+use Rattle.book.specs.declared.height.Height.{Height}
+use Rattle.book.specs.declared.held.Held.{Held}
+use Rattle.book.specs.declared.line.Line.{Line}
+use Rattle.book.specs.declared.line.Fault.{Fault}
+use Rattle.book.specs.declared.line.Fault.TheVariants.{End, EqualEnds, Difference, Length, Standing, Class}
+use Rattle.book.specs.Test as tests
+use Rattle.book.specs.Line as lines
+use native.Mathlib.Omega.{arith}
+use lib.ListN.{get_or}
 use Rattle.book.proofs.Refusals.{told_from_1, told_apart}
 use Rattle.table.specs.declared.Found.{Found}
 use Rattle.junctions.specs.declared.Sizes.{Sizes}
@@ -22,10 +31,10 @@ use Rattle.junctions.specs.Call as sketch
 use Rattle.adjust.specs.Answers as adjust
 use Rattle.rates.specs.Rates as rates
 use Rattle.book.specs.Lent.{Lent}
-use Rattle.book.specs.Height.{held_height_of, work_height_of}
-use Rattle.book.specs.Held.{held_entry_of}
-use Rattle.book.specs.Line.{line_of}
-use Rattle.book.specs.Test.{book_of, test_of, test_beside}
+use Rattle.book.specs.Height.{made_height, held_height_of, work_height_of}
+use Rattle.book.specs.Held.{made_held, held_entry_of}
+use Rattle.book.specs.Line.{fault_number, made_line, line_of}
+use Rattle.book.specs.Test.{book_of, tested, test_of, test_beside}
 use Rattle.book.specs.Test.{Tested}
 use Rattle.book.specs.Height.{MadeHeight}
 use Rattle.book.specs.Held.{MadeHeld}
@@ -252,3 +261,54 @@ unfolding rates.answer_of rates.refused_with
 rate_told_whole =
     told_whole rates.answer_of (λ a. a.refusal) (λ r. refl) (λ t. refl)
     (λ t u e. ap (λ (a : RateAnswer). record { line = a.line; correction = a.correction; rate = a.rate }) e)
+
+-- the test of a book
+pub test_told_whole : (x y : Result Book Refusal) → tested x ≡ tested y → x ≡ y
+test_told_whole (Ok k) (Ok j) e = ap Ok (cc)
+test_told_whole (Ok k) (Err r) e = let z : ◌≡◌ {A = ℕ} 0 1 = cc in absurd (omega arith)
+test_told_whole (Err r) (Ok k) e = let z : ◌≡◌ {A = ℕ} 0 1 = cc in absurd (omega arith)
+test_told_whole (Err r) (Err s) e = ap Err (told_apart r s (refusals_one e))
+  where
+    refusals_one : {r s : Told} → tests.Refused r ≡ tests.Refused s → r ≡ s
+    refusals_one e = cc
+
+-- the constructors: a height or a held entry by its number and its place, a line by its fault
+module _ (at : ℕ) where
+  by_number_and_place : (r s : Refusal) → number_of r ≡ number_of s → place_of r ≡ at → place_of s ≡ at → r ≡ s
+  by_number_and_place r s n p q =
+      told_apart r s (ap (λ (x : ℕ). record { number = x; place = place_of r }) n
+      ∙ ap (λ (x : ℕ). record { number = number_of s; place = x }) (p ∙ sym q))
+
+  pub height_told_whole : (x y : Result Height Refusal) → made_height x ≡ made_height y
+      → IfErr x (λ r. place_of r ≡ at) → IfErr y (λ r. place_of r ≡ at) → x ≡ y
+  height_told_whole (Ok h) (Ok j) e p q = ap Ok (cc)
+  height_told_whole (Ok h) (Err r) e p q = let z : ◌≡◌ {A = ℕ} 0 1 = cc in absurd (omega arith)
+  height_told_whole (Err r) (Ok h) e p q = let z : ◌≡◌ {A = ℕ} 0 1 = cc in absurd (omega arith)
+  height_told_whole (Err r) (Err s) e p q = ap Err (by_number_and_place r s (cc) p q)
+
+  pub held_entry_told_whole : (x y : Result Held Refusal) → made_held x ≡ made_held y
+      → IfErr x (λ r. place_of r ≡ at) → IfErr y (λ r. place_of r ≡ at) → x ≡ y
+  held_entry_told_whole (Ok h) (Ok j) e p q = ap Ok (cc)
+  held_entry_told_whole (Ok h) (Err r) e p q = let z : ◌≡◌ {A = ℕ} 0 1 = cc in absurd (omega arith)
+  held_entry_told_whole (Err r) (Ok h) e p q = let z : ◌≡◌ {A = ℕ} 0 1 = cc in absurd (omega arith)
+  held_entry_told_whole (Err r) (Err s) e p q = ap Err (by_number_and_place r s (cc) p q)
+
+abbrev fault_at_number : ℕ → Fault
+fault_at_number n = get_or (End ∷ End ∷ EqualEnds ∷ Difference ∷ Length ∷ Standing ∷ Class ∷ []) n End
+
+fault_again : (f : Fault) → fault_at_number (fault_number f) ≡ f
+fault_again End = refl
+fault_again EqualEnds = refl
+fault_again Difference = refl
+fault_again Length = refl
+fault_again Standing = refl
+fault_again Class = refl
+
+pub line_told_whole : (x y : Result Line Fault) → made_line x ≡ made_line y → x ≡ y
+line_told_whole (Ok l) (Ok m) e = ap Ok (cc)
+line_told_whole (Ok l) (Err f) e = let z : ◌≡◌ {A = ℕ} 0 1 = cc in absurd (omega arith)
+line_told_whole (Err f) (Ok l) e = let z : ◌≡◌ {A = ℕ} 0 1 = cc in absurd (omega arith)
+line_told_whole (Err f) (Err g) e = ap Err (sym (fault_again f) ∙ ap fault_at_number (numbers_one e) ∙ fault_again g)
+  where
+    numbers_one : {a b : ℕ} → lines.Refused 7 a ≡ lines.Refused 7 b → a ≡ b
+    numbers_one e = cc
