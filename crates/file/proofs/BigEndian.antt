@@ -2,8 +2,8 @@
 -- Assumes nothing.
 use mathlib.Core.Path.{◌≡◌, ◌∙◌}
 use mathlib.Core.List.{List}
-use Prim.Native.Nat.{ℕ, ◌+◌, ◌*◌, ◌-◌, ◌^◌, ◌<◌, ◌≤◌}
-use native.Mathlib.Nat.{pow-suc, pow-le-pow_right, add-sub_cancel_left}
+use Prim.Native.Nat.{ℕ, zero, suc, ◌+◌, ◌*◌, ◌-◌, ◌^◌, ◌<◌, ◌≤◌}
+use native.Mathlib.Nat.{pow-suc, pow-le-pow_right, add-sub_cancel_left, add-suc, add-zero, add_assoc}
 use native.Mathlib.Numerals.{add-one}
 use native.Mathlib.Omega.{arith}
 use lib.ListN.{length, get_or, take, drop, length-take, length-drop}
@@ -11,6 +11,15 @@ use lib.Seq.{get_or-take, get_or-drop}
 use mir.Syntax.{w8, w64}
 use mir.Val.{Fits}
 use Rattle.file.specs.Wire.{be}
+
+-- j bytes and the k bytes after them
+pub be_join : (j k : ℕ) (s : List ℕ) (a : ℕ) → be (j + k) s a ≡ be j s a * 256 ^ k + be k s (a + j)
+unfolding be
+be_join j zero s a = rw (add-zero j) (omega arith)
+be_join j (suc k) s a =
+    let h = be_join j k s a in
+    let e : get_or s (a + (j + k)) 0 ≡ get_or s (a + j + k) 0 = rw (add_assoc a j k) in
+    rw (add-suc j k, pow-suc 256 k) (omega arith)
 
 -- of the first w bytes of s from place a on, eight at most
 module _ (w : ℕ) (s : List ℕ) (a : ℕ) (most : w ≤ 8) where

@@ -3,7 +3,7 @@ use Prim.Native.Nat.{ℕ, suc, ◌+◌, ◌*◌, ◌%◌, ◌≤◌, ◌<◌}
 use native.Mathlib.Omega.{arith}
 use native.Mathlib.Numerals.{add-one}
 use native.Mathlib.Nat.{mul-le-mul}
-use mathlib.Core.Path.{◌≡◌, refl, sym, ◌∙◌, ap}
+use mathlib.Core.Path.{◌≡◌, refl, sym, ◌∙◌, ap, subst}
 use Rattle.std.specs.List.{sum_by}
 use Rattle.std.proofs.lemmas.List.Sums.{sum_by-cons}
 use Rattle.std.proofs.lemmas.List.{get_or_read}
@@ -41,6 +41,29 @@ sum_at_most by most (code ∷ run) h =
 -- the run from place j on begins with what stands at j
 rest_of : (run : List ℕ) (j : ℕ) → j < length run → drop j run ≡ get_or run j 0 ∷ drop (j + 1) run
 rest_of run j lt = rw (add-one j) (drop-cons run j 0 lt)
+
+-- the same from the run's first line on, each at most so much
+pub record Summed (by : ℕ → ℕ) (most : ℕ) (run : List ℕ) (j sum : ℕ) : Type 0 where
+  pub inside : j ≤ length run
+  -- what is summed and what is left make up the whole
+  pub whole : sum + sum_of by (drop j run) ≡ sum_of by run
+  pub small : sum ≤ j * most
+
+module _ {by : ℕ → ℕ} {most : ℕ} {run : List ℕ} where
+  pub none_summed : Summed by most run 0 0
+  none_summed = record { inside = omega arith; whole = omega arith; small = omega arith }
+
+  pub one_summed : {j sum : ℕ} → j < length run → by (get_or run j 0) ≤ most → Summed by most run j sum
+      → Summed by most run (j + 1) (sum + by (get_or run j 0))
+  unfolding sum_of
+  one_summed {j} {sum} lt size s =
+      record { inside = omega arith; whole = omega (arith, s.whole, ap (sum_of by) (rest_of run j lt)); small = omega (arith, s.small) }
+
+  pub all_summed : {j sum : ℕ} → length run ≤ j → Summed by most run j sum → (sum ≡ sum_of by run) × (sum ≤ length run * most)
+  unfolding sum_of
+  all_summed {j} {sum} ge s =
+      let e : j ≡ length run = omega (arith, s.inside) in
+      (omega (arith, s.whole, ap (sum_of by) (drop_of_length-le run ge)), subst (λ (n : ℕ). sum ≤ n * most) e s.small)
 
 -- ---- the rise of a run
 

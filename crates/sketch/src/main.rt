@@ -2,10 +2,13 @@
 // done here.
 #![tactic(auto)]
 
+ghost use Rattle.std.specs.Prelude.{take, OnOk};
+ghost use Rattle.std.specs.Io.KnownBytes.{Appends};
 ghost use Rattle.page.specs.Sketch.{sketch_page_of};
 
 use cases::Text;
 use std::io;
+use std::io::Write;
 
 // Room for the longest sketch.
 const ROOM: usize = 32_768;
@@ -21,7 +24,13 @@ impl Text for Sketch {
 }
 
 // A write that fails ends the program with its error.
+fn print_sketch<W: Write>(to: &mut W, file: &[u8]) -> io::Result<()>
+    ensures { OnOk result (Appends (W.contents to.old) (W.contents to.new) (take 32768 (sketch_page_of file.now))) }
+{
+    cases::print_text::<Sketch, W, ROOM>(to, file)
+}
+
 fn main(rt: HostRuntime) -> io::Result<()> {
     let file = cases::read_file(rt.alloc(), rt.stdin())?;
-    cases::print_text::<Sketch, _, ROOM>(&mut rt.stdout(), file.as_slice())
+    print_sketch(&mut rt.stdout(), file.as_slice())
 }

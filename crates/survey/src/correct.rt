@@ -90,6 +90,8 @@ pub(crate) fn rerun_good(
 }
 
 // The report becomes that of the book as it now stands; it kept so many rows before.
+// Never inlined: a withdrawal would have this survey's tables on the stack while it compares the lent report.
+#[inline(never)]
 fn refresh(book: Book, lines: &[i64], report: &mut [i64], before: usize) -> Result<Found, Refusal>
     requires good { GoodLines book lines.now }
     requires refresh { Refresh book lines.now report.old before }

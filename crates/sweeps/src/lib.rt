@@ -26,13 +26,13 @@ const ENDS: usize = Book::MAX_LINES * 2;
 const MAX_SWEEPS: usize = 10_000;
 
 // The height of this mark went outside its limit.
-#[derive(Drop)]
+#[derive(Clone, Copy)]
 struct Outside {
     mark: usize,
 }
 
 // Why the sweeps end before one of them moves nothing: the height of this mark is outside its limit, or the last sweep still moved a mark.
-#[derive(Drop)]
+#[derive(Clone, Copy)]
 pub enum Unsettled {
     Outside(usize),
     StillMoving,
